@@ -1,0 +1,14 @@
+-- Whether all agents are asleep or done (document 01, "Sources and what is kept").
+use Prim.Native.Nat.{ℕ}
+use mathlib.Core.Bool.{Bool, true, false, not, _&&_, _||_, cond}
+use lib.Dec.{leb}
+use Rattle.table.specs.Base.{allBelow}
+use Rattle.table.specs.Cell.{State}
+
+-- "7: asleep. 8: done."
+abbrev pub restsAt : ℕ → Bool
+restsAt stage = leb 7 stage
+
+-- every agent given is asleep or done; with no agents that is so
+unfoldable pub idle : State → Bool
+idle c = allBelow (λ x. cond (c .given x) (restsAt (c .agent x .stage)) true) 64

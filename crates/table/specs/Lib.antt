@@ -1,0 +1,4 @@
+pub mod Base
+pub mod Cell
+pub mod Sound
+pub mod Idle
