@@ -1,0 +1,94 @@
+-- The ambient calculus on a tree of places (document 01, "The plain tree"): what it permits and what a move makes.
+-- Red Enter and Red Exit of source 002 section 2.3 and Red Open of source 004, by themselves: no lock, stage or wish plays a part.
+use Prim.Native.Nat.{ℕ, zero, suc, _+_}
+use mathlib.Core.Path.{_≡_}
+use mathlib.Core.Bool.{Bool, true, false, not, _&&_, _||_, cond}
+use mathlib.Core.List.{List, [], _∷_}
+use lib.Dec.{eqb}
+use Rattle.table.specs.Base.{upd}
+use Rattle.table.specs.Cell.{noAction}
+use Rattle.table.specs.declared.Action.{Action}
+
+-- the places in use with their names and where each stands, the agents' homes and unused actions in order
+pub record Tree : Type 0 where
+  pub used : ℕ → Bool
+  pub name : ℕ → ℕ
+  pub parent : ℕ → ℕ
+  pub home : ℕ → ℕ
+  pub unused : ℕ → List Action
+
+-- "only an agent's next action counts"
+abbrev pub firstOf : List Action → Action
+firstOf [] = noAction
+firstOf (x ∷ rest) = x
+
+-- "the action is used up"
+abbrev pub restOf : List Action → List Action
+restOf [] = []
+restOf (x ∷ rest) = rest
+
+-- the next action of agent a
+abbrev pub nextOf : Tree → ℕ → Action
+nextOf t a = firstOf (t .unused a)
+
+-- place q stands in p; the floor stands in none
+unfoldable pub standsAt : Tree → ℕ → ℕ → Bool
+standsAt t q p = t .used q && (not (eqb q 0) && eqb (t .parent q) p)
+
+-- ---- what is permitted
+
+-- "enter n if another place named n stands beside the agent's own": n[enter m.P | Q] | m[R]
+unfoldable pub mayEnter : Tree → ℕ → ℕ → Bool
+unfolding standsAt
+mayEnter t a m =
+  not (eqb (t .home a) 0)
+  && (standsAt t m (t .parent (t .home a)) && (not (eqb m (t .home a)) && eqb (t .name m) (nextOf t a .name)))
+
+-- "exit n if its own stands in a place named n": m[n[exit m.P | Q] | R]
+unfoldable pub mayExit : Tree → ℕ → ℕ → Bool
+mayExit t a m = not (eqb (t .home a) 0) && (eqb m (t .parent (t .home a)) && eqb (t .name m) (nextOf t a .name))
+
+-- "open n if a place named n stands in its own": open n.P | n[Q]
+unfoldable pub mayOpen : Tree → ℕ → ℕ → Bool
+unfolding standsAt
+mayOpen t a m = standsAt t m (t .home a) && eqb (t .name m) (nextOf t a .name)
+
+-- the calculus permits agent a its next action on place m: the one entered, left or opened
+unfoldable pub permits : Tree → ℕ → ℕ → Bool
+unfolding mayEnter mayExit mayOpen
+permits t a m =
+  cond (eqb (nextOf t a .kind) 1) (mayEnter t a m)
+  (cond (eqb (nextOf t a .kind) 2) (mayExit t a m)
+  (cond (eqb (nextOf t a .kind) 3) (mayOpen t a m) false))
+
+-- ---- what a move makes
+
+-- the agent's own place stands in d, the action is used up
+unfoldable pub putInto : Tree → ℕ → ℕ → Tree
+putInto t a d = record
+  { used = t .used; name = t .name
+  ; parent = upd (t .parent) (t .home a) d
+  ; home = t .home
+  ; unused = upd (t .unused) a (restOf (t .unused a)) }
+
+-- places and agents in m go to the agent's own place, m's number becomes unused, the action is used up
+unfoldable pub openUp : Tree → ℕ → ℕ → Tree
+openUp t a m = record
+  { used = upd (t .used) m false; name = upd (t .name) m 0
+  ; parent = λ q. cond (eqb q m) 0 (cond (eqb (t .parent q) m) (t .home a) (t .parent q))
+  ; home = λ x. cond (eqb (t .home x) m) (t .home a) (t .home x)
+  ; unused = upd (t .unused) a (restOf (t .unused a)) }
+
+-- the tree after agent a's next action on m: enter m, exit to where the place around its own stands, or open m
+unfoldable pub move : Tree → ℕ → ℕ → Tree
+unfolding putInto openUp
+move t a m =
+  cond (eqb (nextOf t a .kind) 1) (putInto t a m)
+  (cond (eqb (nextOf t a .kind) 2) (putInto t a (t .parent (t .parent (t .home a))))
+  (openUp t a m))
+
+-- one move of agent a that the calculus permits, from t to u
+pub record Move (t : Tree) (a : ℕ) (u : Tree) : Type 0 where
+  pub place : ℕ
+  pub permitted : permits t a place ≡ true
+  pub result : u ≡ move t a place

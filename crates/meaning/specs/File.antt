@@ -1,0 +1,145 @@
+-- The cell file (document 01, "The cell file" and "Turned-away calls"): records, the order of checks, and the load of a whole file.
+use Prim.Native.Nat.{ℕ, zero, suc, _+_, _*_, _-_}
+use mathlib.Core.Bool.{Bool, true, false, not, _&&_, _||_, cond}
+use mathlib.Core.List.{List, []}
+use lib.Dec.{ltb, leb, eqb}
+use lib.ListN.{length, getD, set}
+use Rattle.table.specs.Base.{upd}
+use Rattle.table.specs.Cell.{Land, State, cellOf, tableOf, bareTable}
+use Rattle.table.specs.declared.Place.{Place}
+use Rattle.table.specs.declared.Action.{Action}
+use Rattle.table.specs.declared.Agent.{Agent}
+use Rattle.table.specs.declared.Cell.{Cell}
+use Rattle.meaning.specs.declared.Record.{Record}
+use Rattle.meaning.specs.declared.Record.the-variants.{PlaceRecord, AgentRecord, ActionRecord, EndRecord, Faulty}
+use Rattle.meaning.specs.declared.Verdict.{Verdict}
+use Rattle.meaning.specs.declared.Verdict.the-variants.{Accepted, Rejected}
+use Rattle.meaning.specs.declared.Loaded.{Loaded}
+use Rattle.meaning.specs.Update.{linkedPlace, withHome, withStage, withCount, withActions, withPlaces, withUsed, withLand, withGiven, withAgent}
+
+-- "Two-byte numbers have the low byte first"
+abbrev pub twoBytes : ℕ → ℕ → ℕ
+twoBytes low high = low + 256 * high
+
+abbrev pub byteAt : List ℕ → ℕ → ℕ
+byteAt s i = getD s i 0
+
+-- ---- one record: "Within a record the order is 2, 1, 3, 4, 5, 7, 6, 8"
+
+-- "Place numbers in records are 1 to 63; parents and homes 0 to 63. A parent, home or agent must have been given earlier":
+-- 3 number too large, or place number 0; 4 number given twice; 5 not yet given; 6 name 0
+unfoldable pub placeRecord : Bool → Bool → ℕ → ℕ → ℕ → Record
+placeRecord taken known number parent name =
+  cond (ltb number 1) (Faulty 3)
+  (cond (leb 64 number) (Faulty 3)
+  (cond (leb 64 parent) (Faulty 3)
+  (cond taken (Faulty 4)
+  (cond known
+    (cond (ltb name 1) (Faulty 6) (PlaceRecord number parent name))
+  (Faulty 5)))))
+
+-- an agent: 3 its number or home too large, 4 number given twice, 5 home not yet given
+unfoldable pub agentRecord : Bool → Bool → ℕ → ℕ → Record
+agentRecord taken known number home =
+  cond (leb 64 number) (Faulty 3)
+  (cond (leb 64 home) (Faulty 3)
+  (cond taken (Faulty 4)
+  (cond known (AgentRecord number home)
+  (Faulty 5))))
+
+-- an action: 3 its agent's number too large, 5 agent not yet given, 7 kind not 1 to 3, 6 name 0, 8 seventeenth action
+unfoldable pub actionRecord : Bool → Bool → ℕ → ℕ → ℕ → Record
+actionRecord known full agent kind name =
+  cond (leb 64 agent) (Faulty 3)
+  (cond known
+    (cond (ltb kind 1) (Faulty 7)
+    (cond (leb 4 kind) (Faulty 7)
+    (cond (ltb name 1) (Faulty 6)
+    (cond full (Faulty 8) (ActionRecord agent kind name)))))
+  (Faulty 5))
+
+-- "One byte of kind, then a body whose length the kind fixes": 2 unknown kind, 1 a body incomplete.
+-- used, given: the places and agents so far; full: the agents with sixteen actions
+unfoldable pub recordAt : (ℕ → Bool) → (ℕ → Bool) → (ℕ → Bool) → List ℕ → ℕ → Record
+recordAt used given full s at =
+  cond (eqb (byteAt s at) 1)
+    (cond (ltb (length s - at) 5) (Faulty 1)
+    (placeRecord (used (byteAt s (at + 1))) (used (byteAt s (at + 2)))
+      (byteAt s (at + 1)) (byteAt s (at + 2)) (twoBytes (byteAt s (at + 3)) (byteAt s (at + 4)))))
+  (cond (eqb (byteAt s at) 2)
+    (cond (ltb (length s - at) 3) (Faulty 1)
+    (agentRecord (given (byteAt s (at + 1))) (used (byteAt s (at + 2))) (byteAt s (at + 1)) (byteAt s (at + 2))))
+  (cond (eqb (byteAt s at) 3)
+    (cond (ltb (length s - at) 5) (Faulty 1)
+    (actionRecord (given (byteAt s (at + 1))) (full (byteAt s (at + 1)))
+      (byteAt s (at + 1)) (byteAt s (at + 2)) (twoBytes (byteAt s (at + 3)) (byteAt s (at + 4)))))
+  (cond (eqb (byteAt s at) 4) EndRecord
+  (Faulty 2))))
+
+-- ---- what a record adds
+
+-- a new place, linked to its parent
+unfoldable pub addPlace : State → ℕ → ℕ → ℕ → State
+addPlace c number parent name = withLand c (withUsed
+  (withPlaces (c .land) (upd (c .land .place) number (linkedPlace name parent)))
+  (λ j. eqb j number || c .land .used j))
+
+-- a new agent: "an agent loaded without actions is at 8"
+unfoldable pub addAgent : State → ℕ → ℕ → State
+addAgent c number home = withGiven (withAgent c number (withHome (c .agent number) home)) (λ j. eqb j number || c .given j)
+
+-- "put after that agent's earlier ones"; "one loaded with some at 0"
+unfoldable pub withAction : Agent → ℕ → ℕ → Agent
+withAction a kind name =
+  withStage (withCount (withActions a (set (a .actions) (a .count) (record { kind = kind; name = name }))) (a .count + 1)) 0
+
+unfoldable pub addAction : State → ℕ → ℕ → ℕ → State
+unfolding withAction
+addAction c agent kind name = withAgent c agent (withAction (c .agent agent) kind name)
+
+-- "a row of sixteen actions at most": the row of agent x is full
+abbrev pub isFull : State → ℕ → Bool
+isFull c x = leb 16 (c .agent x .count)
+
+-- ---- the whole file
+
+-- a file is accepted as a cell, or refused with a number and an offset
+pub data Load : Type 0 where
+  accepted : State → Load
+  refused : ℕ → ℕ → Load
+
+-- one record and then the rest of the file: a refusal has "the byte offset of the record", 9 that of "the first byte after the end"
+unfoldable pub loadRecord : (State → ℕ → Load) → State → List ℕ → ℕ → Record → Load
+unfolding addPlace addAgent addAction
+loadRecord rest c s at (PlaceRecord number parent name) = rest (addPlace c number parent name) (at + 5)
+loadRecord rest c s at (AgentRecord number home) = rest (addAgent c number home) (at + 3)
+loadRecord rest c s at (ActionRecord agent kind name) = rest (addAction c agent kind name) (at + 5)
+loadRecord rest c s at EndRecord = cond (ltb (at + 1) (length s)) (refused 9 (at + 1)) (accepted c)
+loadRecord rest c s at (Faulty n) = refused n at
+
+-- from an offset on, with the cell so far: "for a missing end, the file's length".
+-- A record has a byte at least, so as many turns as the file has bytes, and one, are enough
+unfoldable pub loadFrom : ℕ → State → List ℕ → ℕ → Load
+unfolding loadRecord recordAt
+loadFrom zero c s at = refused 1 (length s)
+loadFrom (suc turns) c s at =
+  cond (ltb at (length s))
+    (loadRecord (λ d next. loadFrom turns d s next) c s at (recordAt (c .land .used) (c .given) (isFull c) s at))
+    (refused 1 (length s))
+
+-- "A load starts from a bare floor"
+unfoldable pub load : List ℕ → Load
+unfolding loadFrom bareTable cellOf
+load s = loadFrom (suc (length s)) (cellOf bareTable) s 0
+
+-- ---- the call
+
+-- "A refused one leaves the cell that was there and answers the number and the byte offset"
+unfoldable pub loaded : Cell → Load → Loaded
+loaded t (accepted c) = record { cell = tableOf c; verdict = Accepted }
+loaded t (refused number offset) = record { cell = t; verdict = Rejected number offset }
+
+-- the load call: the cell t that was there, and the bytes of the file
+unfoldable pub loadOf : Cell → List ℕ → Loaded
+unfolding load loaded
+loadOf t s = loaded t (load s)

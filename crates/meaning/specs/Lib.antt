@@ -1,0 +1,10 @@
+pub mod Update
+pub mod File
+pub mod Step
+pub mod Run
+pub mod Calculus
+pub mod Plain
+pub mod Text
+pub mod Listing
+pub mod Report
+pub mod Bench

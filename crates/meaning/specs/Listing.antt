@@ -1,0 +1,96 @@
+-- The listing (document 01, "The listing"): "A term, in ASCII: a place writes its contents and contents write places."
+use Prim.Native.Nat.{ℕ, zero, suc, _+_}
+use mathlib.Core.Bool.{Bool, true, false, not, _&&_, _||_, cond}
+use mathlib.Core.List.{List, [], _∷_, _++_}
+use lib.Dec.{ltb, leb, eqb}
+use lib.ListN.{length, getD}
+use Rattle.table.specs.Base.{tab, foldUp}
+use Rattle.table.specs.Cell.{State, cellOf, noAction}
+use Rattle.table.specs.Sound.{sound}
+use Rattle.table.specs.declared.Action.{Action}
+use Rattle.table.specs.declared.Agent.{Agent}
+use Rattle.table.specs.declared.Cell.{Cell}
+use Rattle.meaning.specs.declared.Listed.{Listed}
+use Rattle.meaning.specs.declared.Listed.the-variants.{Length, Unlisted}
+use Rattle.meaning.specs.Text.{ascii, decimal, gap, joined, overlay}
+
+-- ---- agents
+
+unfoldable pub kindText : ℕ → List ℕ
+unfolding tab
+kindText kind = cond (eqb kind 1) (ascii "enter ") (cond (eqb kind 2) (ascii "exit ") (ascii "open "))
+
+-- an action, such as `enter 9`
+unfoldable pub actionText : Action → List ℕ
+unfolding kindText
+actionText x = kindText (x .kind) ++ decimal (x .name)
+
+-- the action at j is one of the unused ones
+abbrev pub isUnused : Agent → ℕ → Bool
+isUnused a j = leb (a .next) j && ltb j (a .count)
+
+-- one action more, after a full stop
+abbrev pub actionTurn : Agent → ℕ → List ℕ → List ℕ
+actionTurn a j s = cond (isUnused a j) (joined (ascii ".") s (actionText (getD (a .actions) j noAction))) s
+
+-- "An agent is its unused actions, such as `enter 9.exit 9`"
+unfoldable pub agentText : Agent → List ℕ
+unfolding actionText gap tab
+agentText a = foldUp (actionTurn a) 16 []
+
+-- an agent with unused actions that lives in p
+unfoldable pub listsIn : Bool → Agent → ℕ → Bool
+listsIn given a p = given && (ltb (a .next) (a .count) && eqb (a .home) p)
+
+-- one agent more, after a bar
+abbrev pub agentTurn : State → ℕ → ℕ → List ℕ → List ℕ
+agentTurn c p x s = cond (listsIn (c .given x) (c .agent x) p) (joined (ascii " | ") s (agentText (c .agent x))) s
+
+-- "the agents with unused actions by number"
+unfoldable pub agentsText : State → ℕ → List ℕ
+unfolding listsIn agentText gap tab
+agentsText c p = foldUp (agentTurn c p) 64 []
+
+-- ---- places
+
+-- place q stands in p; the floor stands in none, and "a place on its way stands in its destination"
+unfoldable pub standsUnder : Bool → ℕ → ℕ → ℕ → Bool
+standsUnder used q parent p = used && (not (eqb q 0) && eqb parent p)
+
+-- "A place is its decimal name, `[`, contents, `]`"
+unfoldable pub bracketed : ℕ → List ℕ → List ℕ
+unfolding tab
+bracketed name contents = ((decimal name ++ ascii "[") ++ contents) ++ ascii "]"
+
+-- "Contents are the agents with unused actions by number, then places by number, joined by ` | `", so many levels deep
+unfoldable pub contentsText : ℕ → State → ℕ → List ℕ
+unfolding agentsText standsUnder bracketed gap tab
+contentsText zero c p = []
+contentsText (suc depth) c p =
+  foldUp (λ q s. cond (standsUnder (c .land .used q) q (c .land .place q .parent) p)
+      (joined (ascii " | ") s (bracketed (c .land .place q .name) (contentsText depth c q))) s)
+    64 (agentsText c p)
+
+-- "a place writes its contents"
+unfoldable pub placeText : ℕ → State → ℕ → List ℕ
+unfolding bracketed contentsText
+placeText depth c q = bracketed (c .land .place q .name) (contentsText depth c q)
+
+-- "An empty floor is `0`"; no place of a sound table is more than 63 levels deep
+unfoldable pub listing : State → List ℕ
+unfolding contentsText tab
+listing c = cond (eqb (length (contentsText 65 c 0)) 0) (ascii "0") (contentsText 65 c 0)
+
+-- ---- the call
+
+-- "Calls on a table test 10 first, then 12": "the call answers the length"
+unfoldable pub listAnswer : State → List ℕ → Listed
+unfolding listing sound
+listAnswer c buffer =
+  cond (sound c) (cond (leb (length (listing c)) (length buffer)) (Length (length (listing c))) (Unlisted 12)) (Unlisted 10)
+
+-- "bytes past the listing stay untouched", and a refusal leaves the whole buffer
+unfoldable pub listBuffer : State → List ℕ → List ℕ
+unfolding listing overlay sound
+listBuffer c buffer =
+  cond (sound c) (cond (leb (length (listing c)) (length buffer)) (overlay (listing c) buffer) buffer) buffer

@@ -1,0 +1,116 @@
+-- The plain tree (document 01, "The plain tree"): "It is kept beside the cell from each step call's agent, wish and answered word, and
+-- from nothing else."
+use Prim.Native.Nat.{ℕ, zero, suc, _+_}
+use mathlib.Core.Path.{_≡_}
+use mathlib.Core.Bool.{Bool, true, false, not, _&&_, _||_, cond}
+use mathlib.Core.List.{List, [], _∷_}
+use lib.Dec.{eqb}
+use Rattle.table.specs.Base.{upd}
+use Rattle.table.specs.Cell.{Land, State, none, unused}
+use Rattle.table.specs.declared.Place.{Place}
+use Rattle.table.specs.declared.Action.{Action}
+use Rattle.meaning.specs.declared.Word.{Word}
+use Rattle.meaning.specs.declared.Word.the-variants.{Looked, Took, Held, Back, Slept, Left, Came, Opened, Asleep, Done}
+use Rattle.meaning.specs.declared.Answer.{Answer}
+use Rattle.meaning.specs.declared.Answer.the-variants.{Did, Refused}
+use Rattle.meaning.specs.Step.{choose}
+use Rattle.meaning.specs.Calculus.{Tree, nextOf, move, Move}
+use Rattle.meaning.specs.Run.{Call}
+
+-- "It knows each place's name and where it stands, each agent's home and unused actions, which places travel, and a pick for each agent";
+-- 64 is no pick
+pub record Plain : Type 0 where
+  pub tree : Tree
+  pub travels : ℕ → Bool
+  pub pick : ℕ → ℕ
+
+-- the tree of a cell: "the same place numbers are in use, with the same names and parents (the destination for a place on its way), and
+-- each agent has the same home and the same unused actions in order"; what is not in use reads as 0 and without actions
+unfoldable pub treeOf : State → Tree
+treeOf c = record
+  { used = c .land .used
+  ; name = λ q. cond (c .land .used q) (c .land .place q .name) 0
+  ; parent = λ q. cond (c .land .used q) (c .land .place q .parent) 0
+  ; home = λ x. cond (c .given x) (c .agent x .home) 0
+  ; unused = λ x. cond (c .given x) (unused (c .agent x)) [] }
+
+-- "It starts as the file says, with nothing travelling and no picks": c is the cell that the file gives
+unfoldable pub plainOf : State → Plain
+unfolding treeOf
+plainOf c = record { tree = treeOf c; travels = λ q. false; pick = λ x. none }
+
+-- ---- took: the pick
+
+-- the plain tree as stage 2 reads places: "a travelling place is on its way to where it stands, any other is linked there"
+unfoldable pub landIn : Plain → Land
+landIn t = record
+  { place = λ q. record { name = t .tree .name q; parent = t .tree .parent q; way = cond (eqb q 0 || t .travels q) 1 0 }
+  ; used = t .tree .used }
+
+-- "There p is where its own place stands (open: its own place)"
+abbrev pub heldIn : Tree → ℕ → ℕ
+heldIn t a = cond (eqb (nextOf t a .kind) 3) (t .home a) (t .parent (t .home a))
+
+-- "the place that stage 2 would choose here with this wish, if any"
+unfoldable pub pickOf : Plain → ℕ → ℕ → ℕ
+unfolding landIn
+pickOf t a wish = choose (landIn t) (nextOf (t .tree) a .kind) (nextOf (t .tree) a .name) (t .tree .home a) (heldIn (t .tree) a) wish
+
+-- ---- one call
+
+-- "took: the agent's pick becomes the place that stage 2 would choose here. left: its own place now stands in the pick (enter), or where the
+-- place around it stands (exit), and travels; the action is used up. opened: places and agents in the pick go to its own place, the
+-- pick's number becomes unused; the action is used up. came: its own place travels no more."
+unfoldable pub plainWord : Plain → ℕ → ℕ → Word → Plain
+unfolding pickOf
+plainWord t a wish Took = record { tree = t .tree; travels = t .travels; pick = upd (t .pick) a (pickOf t a wish) }
+plainWord t a wish Left = record { tree = move (t .tree) a (t .pick a); travels = upd (t .travels) (t .tree .home a) true; pick = t .pick }
+plainWord t a wish Opened = record { tree = move (t .tree) a (t .pick a); travels = t .travels; pick = t .pick }
+plainWord t a wish Came = record { tree = t .tree; travels = upd (t .travels) (t .tree .home a) false; pick = t .pick }
+plainWord t a wish Looked = t
+plainWord t a wish Held = t
+plainWord t a wish Back = t
+plainWord t a wish Slept = t
+plainWord t a wish Asleep = t
+plainWord t a wish Done = t
+
+-- "Any other word, or a refusal: nothing."
+unfoldable pub plainStep : Plain → Call → Answer → Plain
+unfolding plainWord
+plainStep t k (Did word woken) = plainWord t (k .agent) (k .wish) word
+plainStep t k (Refused number) = t
+
+-- the plain tree after a list of calls and their answers
+unfoldable pub plainRun : Plain → List Call → List Answer → Plain
+unfolding plainStep
+plainRun t [] answers = t
+plainRun t (k ∷ calls) [] = t
+plainRun t (k ∷ calls) (a ∷ answers) = plainRun (plainStep t k a) calls answers
+
+-- ---- the history of a tree
+
+-- "one calculus move for each call answered left or opened"
+abbrev pub isMove : Word → Bool
+isMove Left = true
+isMove Opened = true
+isMove Looked = false
+isMove Took = false
+isMove Held = false
+isMove Back = false
+isMove Slept = false
+isMove Came = false
+isMove Asleep = false
+isMove Done = false
+
+abbrev pub saysMove : Answer → Bool
+saysMove (Did word woken) = isMove word
+saysMove (Refused number) = false
+
+-- "the loaded tree after one calculus move for each call answered left or opened, in the order of the calls, each a move that the calculus
+-- permits in the tree before it", and no change of the tree for any other answer
+pub data History : Tree → List Call → List Answer → Tree → Type 0 where
+  start : {t : Tree} → History t [] [] t
+  moved : {t u v : Tree} {k : Call} {calls : List Call} {a : Answer} {answers : List Answer}
+    → saysMove a ≡ true → Move t (k .agent) u → History u calls answers v → History t (k ∷ calls) (a ∷ answers) v
+  stayed : {t v : Tree} {k : Call} {calls : List Call} {a : Answer} {answers : List Answer}
+    → saysMove a ≡ false → History t calls answers v → History t (k ∷ calls) (a ∷ answers) v

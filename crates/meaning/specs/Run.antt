@@ -1,0 +1,78 @@
+-- Step calls (document 01, "Turned-away calls" and "One step"): a call on a table with its refusals, and a run of calls one after the other.
+use Prim.Native.Nat.{ℕ}
+use mathlib.Core.Bool.{Bool, true, false, not, _&&_, _||_, cond}
+use mathlib.Core.List.{List, [], _∷_}
+use lib.Dec.{eqb}
+use Rattle.table.specs.Cell.{State, none, linked, travels, cellOf, tableOf}
+use Rattle.table.specs.Sound.{sound}
+use Rattle.table.specs.Base.{allBelow}
+use Rattle.table.specs.declared.Cell.{Cell}
+use Rattle.meaning.specs.declared.Word.{Word}
+use Rattle.meaning.specs.declared.Word.the-variants.{Looked, Took, Held, Back, Slept, Left, Came, Opened, Asleep, Done}
+use Rattle.meaning.specs.declared.Answer.{Answer}
+use Rattle.meaning.specs.declared.Answer.the-variants.{Did, Refused}
+use Rattle.meaning.specs.declared.Stepped.{Stepped}
+use Rattle.meaning.specs.Step.{Outcome, step}
+
+-- ---- one call
+
+-- "A call names an agent and a wish, a byte"
+pub record Call : Type 0 where
+  pub agent : ℕ
+  pub wish : ℕ
+
+-- a step that was made, as the call answers it
+unfoldable pub made : Outcome → Stepped
+made o = record { cell = tableOf (o .cell); answer = Did (o .word) (o .woken) }
+
+-- a refusal changes nothing
+unfoldable pub turnedAway : Cell → ℕ → Stepped
+turnedAway t number = record { cell = t; answer = Refused number }
+
+-- the step call on a table: "Calls on a table test 10 first, then 11"
+unfoldable pub stepOf : Cell → ℕ → ℕ → Stepped
+stepOf t agent wish =
+  cond (sound (cellOf t))
+    (cond (cellOf t .given agent) (made (step (cellOf t) agent wish)) (turnedAway t 11))
+    (turnedAway t 10)
+
+-- ---- a run
+
+-- "each call gets the cell as the one before left it": the table after a list of calls
+unfoldable pub run : Cell → List Call → Cell
+run t [] = t
+run t (k ∷ calls) = run (stepOf t (k .agent) (k .wish) .cell) calls
+
+-- the answer of each of the calls
+unfoldable pub answers : Cell → List Call → List Answer
+answers t [] = []
+answers t (k ∷ calls) = stepOf t (k .agent) (k .wish) .answer ∷ answers (stepOf t (k .agent) (k .wish) .cell) calls
+
+-- ---- what can be said of a cell
+
+-- "A cell is settled when no lock is held and nothing is on its way"
+unfoldable pub settled : State → Bool
+settled c = allBelow (λ q. cond (c .land .used q) (eqb (c .lock q) none && not (travels (c .land) q)) true) 64
+
+-- the words of an agent at rest
+abbrev pub isRest : Word → Bool
+isRest Looked = false
+isRest Took = false
+isRest Held = false
+isRest Back = false
+isRest Slept = false
+isRest Left = false
+isRest Came = false
+isRest Opened = false
+isRest Asleep = true
+isRest Done = true
+
+-- the answer says that the agent is asleep or done
+abbrev pub saysRest : Answer → Bool
+saysRest (Did word woken) = isRest word
+saysRest (Refused number) = false
+
+-- "An agent is asleep, or done, when a step call for it would answer that word"
+unfoldable pub rests : Cell → ℕ → Bool
+unfolding stepOf
+rests t x = saysRest (stepOf t x 0 .answer)

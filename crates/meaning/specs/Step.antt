@@ -1,0 +1,248 @@
+-- One lock step (document 01, "One step"), over total functions: the agent's stage decides the step.
+use Prim.Native.Nat.{ℕ, zero, suc, _+_}
+use mathlib.Core.Bool.{Bool, true, false, not, _&&_, _||_, cond}
+use lib.Dec.{ltb, leb, eqb}
+use Rattle.sets.specs.Word.{countOf, upto, chosenOf}
+use Rattle.table.specs.Base.{upd, anyBelow}
+use Rattle.table.specs.Cell.{Land, State, none, noPlace, linked, linkedTo, travels, hasAction, kindOf, nameOf}
+use Rattle.table.specs.Sound.{secondPlace}
+use Rattle.table.specs.declared.Place.{Place}
+use Rattle.table.specs.declared.Agent.{Agent}
+use Rattle.meaning.specs.declared.Word.{Word}
+use Rattle.meaning.specs.declared.Word.the-variants.{Looked, Took, Held, Back, Slept, Left, Came, Opened, Asleep, Done}
+use Rattle.meaning.specs.Update.{withParent, withWay, withHome, atStage, useUp, withPlaces, withUsed, withLand, withLocks, withAgents, withAgent, released}
+
+-- "The answer is a word and how many agents the step woke", with the cell after the step
+pub record Outcome : Type 0 where
+  pub cell : State
+  pub word : Word
+  pub woken : ℕ
+
+-- ---- what fires
+
+-- r is on its way to q
+unfoldable pub onWayTo : Land → ℕ → ℕ → Bool
+onWayTo l q r = travels l r && eqb (l .place r .parent) q
+
+-- something is on its way to q
+unfoldable pub awaited : Land → ℕ → Bool
+awaited l q = anyBelow (onWayTo l q) 64
+
+-- place q is named n
+abbrev pub named : Land → ℕ → ℕ → Bool
+named l q n = eqb (l .place q .name) n
+
+-- "Enter n fires if another place linked to p is named n": q is such a place
+unfoldable pub entersAt : Land → ℕ → ℕ → ℕ → ℕ → Bool
+entersAt l n home p q = linkedTo l q p && (named l q n && not (eqb q home))
+
+-- "Exit n fires if p is named n and p is linked"
+unfoldable pub exitsFrom : Land → ℕ → ℕ → Bool
+exitsFrom l n p = linked l p && named l p n
+
+-- "Open n fires if a place linked to p is named n and nothing is on its way to it": q is such a place
+unfoldable pub opensAt : Land → ℕ → ℕ → ℕ → Bool
+opensAt l n p q = linkedTo l q p && (named l q n && not (awaited l q))
+
+-- the action (kind, n) of an agent that lives in home and holds p fires on q; exit fires on p itself
+unfoldable pub qualifies : Land → ℕ → ℕ → ℕ → ℕ → ℕ → Bool
+qualifies l kind n home p q =
+  cond (eqb kind 1) (entersAt l n home p q)
+  (cond (eqb kind 2) (eqb q p && exitsFrom l n p)
+  (opensAt l n p q))
+
+-- "Enter and open choose the wished place if it qualifies, else the lowest qualifying number. Other wishes are passed over";
+-- 64 where the action can't fire
+unfoldable pub choose : Land → ℕ → ℕ → ℕ → ℕ → ℕ → ℕ
+choose l kind n home p wish = chosenOf (upto 64 (qualifies l kind n home p)) wish
+
+-- the place that an agent at stage 2 chooses
+abbrev pub choice : Land → Agent → ℕ → ℕ
+choice l a wish = choose l (kindOf a) (nameOf a) (a .home) (a .remembered) wish
+
+-- stage 3: the place that the action is to fire on, the chosen one, for exit p
+abbrev pub targetOf : Agent → ℕ
+targetOf a = cond (eqb (kindOf a) 2) (a .remembered) (a .chosen)
+
+-- the action of an agent at stage 3 (on the chosen place) still fires
+unfoldable pub fires : Land → Agent → Bool
+fires l a = qualifies l (kindOf a) (nameOf a) (a .home) (a .remembered) (targetOf a)
+
+-- its place is still linked to p; an opener does not ask
+unfoldable pub stays : Land → Agent → Bool
+stays l a = eqb (kindOf a) 3 || linkedTo l (a .home) (a .remembered)
+
+-- ---- locks
+
+-- nothing changes but the word
+unfoldable pub still : State → Word → Outcome
+still c w = record { cell = c; word = w; woken = 0 }
+
+-- agent x becomes a
+unfoldable pub turn : State → ℕ → Agent → Word → Outcome
+unfolding still
+turn c x a w = still (withAgent c x a) w
+
+-- "Lock the place q: took", and x becomes a; "'Held' means the lock it needs belongs to another agent; nothing changes"
+unfoldable pub take : State → ℕ → ℕ → Agent → Outcome
+unfolding still
+take c x q a = cond (eqb (c .lock q) none) (still (withLocks (withAgent c x a) (upd (c .lock) q x)) Took) (still c Held)
+
+-- the locks of p and q are released, and x becomes a
+unfoldable pub release : State → ℕ → ℕ → ℕ → Agent → Word → Outcome
+unfolding still
+release c x p q a w = still (withLocks (withAgent c x a) (released (c .lock) p q)) w
+
+-- ---- waking
+
+-- an agent asleep on p, q or r
+unfoldable pub asleepOn : ℕ → ℕ → ℕ → Agent → Bool
+asleepOn p q r a = eqb (a .stage) 7 && (eqb (a .remembered) p || (eqb (a .remembered) q || eqb (a .remembered) r))
+
+-- agent y is given and asleep on p, q or r
+abbrev pub sleeper : State → ℕ → ℕ → ℕ → ℕ → Bool
+sleeper c p q r y = c .given y && asleepOn p q r (c .agent y)
+
+-- "Waking sets an agent to stage 0": the agents once all asleep on p, q or r are woken
+unfoldable pub wake : State → ℕ → ℕ → ℕ → ℕ → Agent
+wake c p q r y = cond (sleeper c p q r y) (atStage (c .agent y) 0 0 0) (c .agent y)
+
+-- "how many agents the step woke, counted from the set of sleepers"
+abbrev pub wokenOn : State → ℕ → ℕ → ℕ → ℕ
+wokenOn c p q r = countOf 64 (sleeper c p q r)
+
+-- ---- stage 0, looking
+
+-- "Open: remember its own place; looked, stage 1. Enter or exit: remember the parent; looked, stage 1. With no linked parent:
+-- slept, stage 7 on its own place."
+unfoldable pub look : State → ℕ → Agent → Outcome
+look c x a =
+  cond (eqb (kindOf a) 3) (turn c x (atStage a 1 (a .home) 0) Looked)
+  (cond (linked (c .land) (a .home)) (turn c x (atStage a 1 (c .land .place (a .home) .parent) 0) Looked)
+  (turn c x (atStage a 7 (a .home) 0) Slept))
+
+-- ---- stage 1, found
+
+-- "Lock the remembered place p: took, stage 2, or held."
+unfoldable pub lockFirst : State → ℕ → Agent → Outcome
+lockFirst c x a = take c x (a .remembered) (atStage a 2 (a .remembered) 0)
+
+-- ---- stage 2, holding p
+
+-- "If the action can't fire: release, slept, stage 7 on p. Otherwise lock the second place: took, stage 3, or held"; q is the choice
+unfoldable pub lockSecond : State → ℕ → Agent → ℕ → Outcome
+lockSecond c x a q =
+  cond (ltb q 64)
+    (take c x (secondPlace (kindOf a) (a .home) q) (atStage a 3 (a .remembered) (cond (eqb (kindOf a) 2) 0 q)))
+    (release c x (a .remembered) (a .remembered) (atStage a 7 (a .remembered) 0) Slept)
+
+-- "Enter or exit, and its place is no longer linked to p: release, back, stage 0."
+unfoldable pub hold : State → ℕ → Agent → ℕ → Outcome
+hold c x a wish =
+  cond (stays (c .land) a)
+    (lockSecond c x a (choice (c .land) a wish))
+    (release c x (a .remembered) (a .remembered) (atStage a 0 0 0) Back)
+
+-- ---- stage 3, holding both
+
+-- "After opened or came the agent is at stage 0, or 8 if no action is left"
+abbrev pub restStage : Agent → ℕ
+restStage a = cond (hasAction a) 0 8
+
+-- place h is on its way to d
+abbrev pub sendTo : Land → ℕ → ℕ → Land
+sendTo l h d = withPlaces l (upd (l .place) h (withWay (withParent (l .place h) d) 1))
+
+-- "Enter or exit: unlink its place; the destination is the chosen place, or p's parent as it is now; the action is used up;
+-- release both; wake all asleep on p or its own place; left, stage 4."
+unfoldable pub leave : State → ℕ → Agent → ℕ → Outcome
+leave c x a d = record
+  { cell = withLand (withLocks (withAgents c (upd (wake c (a .remembered) (a .home) (a .home)) x (atStage (useUp a) 4 0 0)))
+      (released (c .lock) (a .remembered) (a .home))) (sendTo (c .land) (a .home) d)
+  ; word = Left
+  ; woken = wokenOn c (a .remembered) (a .home) (a .home) }
+
+-- "children of the chosen place go to p, its number becomes unused": place t is dissolved into p
+abbrev pub dissolveLand : Land → ℕ → ℕ → Land
+dissolveLand l p t = withUsed
+  (withPlaces l (λ q. cond (eqb q t) noPlace (cond (eqb (l .place q .parent) t) (withParent (l .place q) p) (l .place q))))
+  (λ q. not (eqb q t) && l .used q)
+
+-- "agents of the chosen place go to p, the moved agents that aren't done go to stage 0"; "wake all asleep on p or on it, and set to
+-- stage 0 all that remembered it at stage 1"
+unfoldable pub dissolveAgent : ℕ → ℕ → Agent → Agent
+dissolveAgent p t a =
+  cond (eqb (a .home) t) (withHome (atStage a (cond (eqb (a .stage) 8) 8 0) 0 0) p)
+  (cond (eqb (a .stage) 1 && eqb (a .remembered) t) (atStage a 0 0 0)
+  (cond (asleepOn p t t a) (atStage a 0 0 0) a))
+
+-- "The count of woken agents is of those that were at stage 7": a moved agent that slept is woken too
+unfoldable pub wokenBy : ℕ → ℕ → Agent → Bool
+wokenBy p t a = eqb (a .stage) 7 && (eqb (a .home) t || (eqb (a .remembered) p || eqb (a .remembered) t))
+
+-- "a lock that one of them held at stage 2 being released"
+unfoldable pub dissolveLock : State → ℕ → ℕ → ℕ
+dissolveLock c t q =
+  cond (ltb (c .lock q) 64 && (eqb (c .agent (c .lock q) .home) t && eqb (c .agent (c .lock q) .stage) 2)) none (c .lock q)
+
+-- "Open: children and agents of the chosen place go to p, .. the action is used up; release both; opened."
+unfoldable pub dissolve : State → ℕ → Agent → ℕ → ℕ → Outcome
+dissolve c x a p t = record
+  { cell = withLand (withLocks (withAgents c
+      (upd (λ y. cond (c .given y) (dissolveAgent p t (c .agent y)) (c .agent y)) x (atStage (useUp a) (restStage (useUp a)) 0 0)))
+      (released (dissolveLock c t) p t)) (dissolveLand (c .land) p t)
+  ; word = Opened
+  ; woken = countOf 64 (λ y. c .given y && wokenBy p t (c .agent y)) }
+
+-- enter goes to the chosen place, exit to "p's parent as it is now"
+abbrev pub destinationOf : Land → Agent → ℕ
+destinationOf l a = cond (eqb (kindOf a) 1) (a .chosen) (l .place (a .remembered) .parent)
+
+-- "If the action (on the chosen place) no longer fires: release both, back, stage 0."
+unfoldable pub act : State → ℕ → Agent → Outcome
+act c x a =
+  cond (fires (c .land) a)
+    (cond (eqb (kindOf a) 3) (dissolve c x a (a .remembered) (a .chosen)) (leave c x a (destinationOf (c .land) a)))
+    (release c x (a .remembered) (secondPlace (kindOf a) (a .home) (a .chosen)) (atStage a 0 0 0) Back)
+
+-- ---- stages 4 to 6, on its way
+
+-- place h is linked to where it was on its way to
+abbrev pub linkUp : Land → ℕ → Land
+linkUp l h = withPlaces l (upd (l .place) h (withWay (l .place h) 0))
+
+-- "the place that the destination is linked to, if any", else the destination
+abbrev pub beyond : Land → ℕ → ℕ
+beyond l d = cond (linked l d) (l .place d .parent) d
+
+-- "6. Link; release both; wake all asleep on its own place, the destination, or the place that the destination is linked to, if any; came."
+unfoldable pub arrive : State → ℕ → Agent → ℕ → Outcome
+arrive c x a d = record
+  { cell = withLand (withLocks (withAgents c (upd (wake c (a .home) d (beyond (c .land) d)) x (atStage a (restStage a) 0 0)))
+      (released (c .lock) (a .home) d)) (linkUp (c .land) (a .home))
+  ; word = Came
+  ; woken = wokenOn c (a .home) d (beyond (c .land) d) }
+
+-- "4 on its way. Lock its own place: took, stage 5, or held. 5. Lock the destination: took, stage 6, or held."
+unfoldable pub travel : State → ℕ → Agent → Outcome
+travel c x a =
+  cond (eqb (a .stage) 4) (take c x (a .home) (atStage a 5 0 0))
+  (cond (eqb (a .stage) 5) (take c x (c .land .place (a .home) .parent) (atStage a 6 0 0))
+  (arrive c x a (c .land .place (a .home) .parent)))
+
+-- ---- the step
+
+-- "The agent's stage, a number from 0 to 8, decides the step": agent x, which is a, with its stage and wish
+unfoldable pub stepAt : ℕ → State → ℕ → Agent → ℕ → Outcome
+stepAt stage c x a wish =
+  cond (eqb stage 0) (look c x a)
+  (cond (eqb stage 1) (lockFirst c x a)
+  (cond (eqb stage 2) (hold c x a wish)
+  (cond (eqb stage 3) (act c x a)
+  (cond (leb stage 6) (travel c x a)
+  (cond (eqb stage 7) (still c Asleep)
+  (still c Done))))))
+
+-- one step of agent x
+unfoldable pub step : State → ℕ → ℕ → Outcome
+step c x wish = stepAt (c .agent x .stage) c x (c .agent x) wish

@@ -1,0 +1,58 @@
+// The answers of the keeper's calls and the records of a cell file, as values that code and written meaning share.
+use table::Cell;
+
+// "One byte of kind, then a body": a record taken apart, or the number of its refusal.
+pub enum Record {
+    // Number, parent, name.
+    PlaceRecord(u8, u8, u16),
+    // Number, home.
+    AgentRecord(u8, u8),
+    // Agent, kind, name.
+    ActionRecord(u8, u8, u16),
+    EndRecord,
+    Faulty(u8),
+}
+
+// What a load answers: accepted, or a refusal's number and offset.
+pub enum Verdict {
+    Accepted,
+    Rejected(u8, usize),
+}
+
+// A load's answer, and the cell after it.
+pub struct Loaded {
+    pub cell: Cell,
+    pub verdict: Verdict,
+}
+
+// The word that a lock step answers.
+pub enum Word {
+    Looked,
+    Took,
+    Held,
+    Back,
+    Slept,
+    Left,
+    Came,
+    Opened,
+    Asleep,
+    Done,
+}
+
+// What a step call answers: a word and how many agents the step woke, or a refusal's number.
+pub enum Answer {
+    Did(Word, u8),
+    Refused(u8),
+}
+
+// A step call's answer, and the cell after it.
+pub struct Stepped {
+    pub cell: Cell,
+    pub answer: Answer,
+}
+
+// What a listing call answers: the length, or a refusal's number.
+pub enum Listed {
+    Length(usize),
+    Unlisted(u8),
+}
