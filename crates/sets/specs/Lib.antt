@@ -1,2 +1,4 @@
 pub mod Word
+pub mod WordLaws
 pub mod Set
+pub mod SetLaws

@@ -1,0 +1,13 @@
+-- The ones of a word are as many as its members.
+use borrow.Author.Needs.{needs}
+use Rattle.sets.specs.WordLaws.{ones-has}
+use Rattle.sets.proofs.Set.count.Statement.{statement}
+use Rattle.sets.proofs.Set.count.Tie as tie
+use Rattle.sets.proofs.Set.count.Reads as reads
+use Rattle.sets.proofs.Set.count.Lts as lts
+
+returns : tie.Need-returns
+returns c = ones-has 64 (c .before .args .self .bits) (search needs)
+
+pub count-spec : {M : Type 1} → statement M
+count-spec = tie.close (tie.spec returns)

@@ -1,0 +1,31 @@
+-- The exclusive or takes a member's bit out; what is no member is not in the set to begin with.
+use Rattle.sets.specs.WordLaws.{has-past}
+use Rattle.sets.specs.SetLaws.{set-eq, xor-removed, removed-none}
+use mathlib.Core.Path.{_∙_, sym}
+use borrow.Author.Needs.{needs}
+use Rattle.sets.proofs.Set.remove.Statement.{statement}
+use Rattle.sets.proofs.Set.remove.Tie as tie
+use Rattle.sets.proofs.Set.remove.Reads as reads
+use Rattle.sets.proofs.Set.remove.Lts as lts
+use Rattle.sets.proofs.Set.has.Reads as has-reads
+
+has-requires : tie.Need-has-requires
+has-requires c κs = search needs
+
+shl-t8 : tie.Need-shl-t8
+shl-t8 c = search needs
+
+returns : tie.Need-returns
+returns c = let a = c .before .before .before .before .args in
+    set-eq (xor-removed (a .self) (a .i) (search needs) (c .before .before .before .if1 .taken) (sym (c .before .before .has .ensures) ∙ c .before .if2 .taken))
+
+returns-2 : tie.Need-returns-2
+returns-2 c = let a = c .before .before .before .args in
+    removed-none (a .self) (a .i) (search needs) (sym (c .before .has .ensures) ∙ c .if2 .left)
+
+returns-3 : tie.Need-returns-3
+returns-3 c = let a = c .before .args in
+    removed-none (a .self) (a .i) (search needs) (has-past 64 (a .self .bits) (a .i) (search needs) (c .if1 .left))
+
+pub remove-spec : {M : Type 1} → statement M
+remove-spec = tie.close (tie.spec has-requires shl-t8 returns returns-2 returns-3)
