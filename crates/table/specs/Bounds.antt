@@ -1,0 +1,23 @@
+-- What lies at and past 64: the sizes of a table's arrays, and what a cell reads there.
+use mathlib.Core.Path.{_≡_}
+use mathlib.Core.Bool.{false}
+use Prim.Native.Nat.{ℕ, _^_, _≤_, _<_}
+use lib.ListN.{length}
+use Rattle.table.specs.Cell.{noPlace, noAgent, State}
+use Rattle.table.specs.declared.Cell.{Cell}
+
+-- a table's arrays have 64 elements and its sets are words: so it is of every value of the struct
+pub record Sized (t : Cell) : Type 0 where
+  pub places : length (t .places) ≡ 64
+  pub locks : length (t .locks) ≡ 64
+  pub agents : length (t .agents) ≡ 64
+  pub used : t .used .bits < 2 ^ 64
+  pub given : t .given .bits < 2 ^ 64
+
+-- at and past 64 a cell reads as a table does there
+pub record Bounded (c : State) : Type 0 where
+  pub place : (q : ℕ) → 64 ≤ q → c .land .place q ≡ noPlace
+  pub used : (q : ℕ) → 64 ≤ q → c .land .used q ≡ false
+  pub lock : (q : ℕ) → 64 ≤ q → c .lock q ≡ 0
+  pub agent : (x : ℕ) → 64 ≤ x → c .agent x ≡ noAgent
+  pub given : (x : ℕ) → 64 ≤ x → c .given x ≡ false

@@ -1,0 +1,128 @@
+-- A table and its cell determine each other: back and forth. Assumes nothing.
+-- Idea: an array of 64 is the table of its elements, a word that of its members; past 63 a bounded cell has nothing to lose.
+use mathlib.Core.Path.{_≡_, refl, sym, ap, _∙_, subst, fun-ext}
+use mathlib.Core.List.{List}
+use mathlib.Core.Bool.{Bool, false}
+use Prim.Native.Nat.{ℕ, _^_, _≤_, _<_}
+use lib.Dec.{ltb}
+use lib.ListN.{getD, length, set, List·getD-eq-default}
+use borrow.Author.Tests.{ltb-true, ltb-false}
+use Rattle.sets.specs.Word.{has, wordOf}
+use Rattle.sets.specs.WordLaws.{word-has, has-word, has-past, word-lt}
+use Rattle.table.specs.Base.{tab, upd}
+use Rattle.table.specs.BaseLaws.{Told, yea, nay, told, tab-getD, getD-tab, length-tab, set-list, set-tab}
+use Rattle.table.specs.Cell.{noPlace, noAgent, Land, State, cellOf, tableOf}
+use Rattle.table.specs.Bounds.{Sized, Bounded}
+use Rattle.table.specs.declared.Place.{Place}
+use Rattle.table.specs.declared.Agent.{Agent}
+use Rattle.table.specs.declared.Cell.{Cell}
+
+-- ---- equality, field by field
+
+pub table-eq : {x y : Cell} → x .places ≡ y .places → x .locks ≡ y .locks → x .agents ≡ y .agents → x .used .bits ≡ y .used .bits → x .given .bits ≡ y .given .bits → x ≡ y
+table-eq p l a u g = λ i. record { places = p i; locks = l i; agents = a i; used = record { bits = u i }; given = record { bits = g i } }
+
+pub cell-eq : {x y : State} → x .land .place ≡ y .land .place → x .land .used ≡ y .land .used → x .lock ≡ y .lock → x .agent ≡ y .agent → x .given ≡ y .given → x ≡ y
+cell-eq p u l a g = λ i. record { land = record { place = p i; used = u i }; lock = l i; agent = a i; given = g i }
+
+-- a table is that of a cell, field by field
+pub made : (t : Cell) (c : State) → t .places ≡ tab (c .land .place) 64 0 → t .locks ≡ tab (c .lock) 64 0 → t .agents ≡ tab (c .agent) 64 0
+    → t .used .bits ≡ wordOf 64 (c .land .used) → t .given .bits ≡ wordOf 64 (c .given) → t ≡ tableOf c
+unfolding tableOf
+made t c p l a u g = table-eq p l a u g
+
+-- ---- back: from a table to its cell and to the table again
+
+module _ (t : Cell) (z : Sized t) where
+  pub places-are : t .places ≡ tab (cellOf t .land .place) 64 0
+  unfolding cellOf
+  places-are = sym (tab-getD noPlace (t .places) 64 (z .places))
+
+  pub locks-are : t .locks ≡ tab (cellOf t .lock) 64 0
+  unfolding cellOf
+  locks-are = sym (tab-getD 0 (t .locks) 64 (z .locks))
+
+  pub agents-are : t .agents ≡ tab (cellOf t .agent) 64 0
+  unfolding cellOf
+  agents-are = sym (tab-getD noAgent (t .agents) 64 (z .agents))
+
+  pub used-are : t .used .bits ≡ wordOf 64 (cellOf t .land .used)
+  unfolding cellOf
+  used-are = sym (word-has 64 (t .used .bits) (z .used))
+
+  pub given-are : t .given .bits ≡ wordOf 64 (cellOf t .given)
+  unfolding cellOf
+  given-are = sym (word-has 64 (t .given .bits) (z .given))
+
+  -- a table is that of its cell
+  pub back : tableOf (cellOf t) ≡ t
+  back = sym (made t (cellOf t) places-are locks-are agents-are used-are given-are)
+
+  -- ---- the cell of a table reads nothing at and past 64
+  pub bounded : Bounded (cellOf t)
+  unfolding cellOf
+  bounded = record {
+    place = λ q l. past (t .places) noPlace (z .places) q l;
+    used = λ q l. has-past 64 (t .used .bits) q (z .used) l;
+    lock = λ q l. past (t .locks) 0 (z .locks) q l;
+    agent = λ x l. past (t .agents) noAgent (z .agents) x l;
+    given = λ x l. has-past 64 (t .given .bits) x (z .given) l;
+  }
+    where
+      past : {A : Type 0} (l : List A) (d : A) → length l ≡ 64 → (q : ℕ) → 64 ≤ q → getD l q d ≡ d
+      past l d e q m = List·getD-eq-default l d (subst (λ (n : ℕ). n ≤ q) (sym e) m)
+
+  -- ---- one element stored
+  pub lock-set : (q v : ℕ) → q < 64 → set (t .locks) q v ≡ tab (upd (cellOf t .lock) q v) 64 0
+  unfolding cellOf
+  lock-set q v l = set-list 0 (t .locks) 64 q v (z .locks) l
+
+  pub lock-sets : (q v r u : ℕ) → q < 64 → r < 64 → set (set (t .locks) q v) r u ≡ tab (upd (upd (cellOf t .lock) q v) r u) 64 0
+  lock-sets q v r u l m = ap (λ (y : List ℕ). set y r u) (lock-set q v l) ∙ set-tab 0 (upd (cellOf t .lock) q v) 64 r u m
+
+  pub agent-set : (x : ℕ) (a : Agent) → x < 64 → set (t .agents) x a ≡ tab (upd (cellOf t .agent) x a) 64 0
+  unfolding cellOf
+  agent-set x a l = set-list noAgent (t .agents) 64 x a (z .agents) l
+
+  pub place-set : (q : ℕ) (x : Place) → q < 64 → set (t .places) q x ≡ tab (upd (cellOf t .land .place) q x) 64 0
+  unfolding cellOf
+  place-set q x l = set-list noPlace (t .places) 64 q x (z .places) l
+
+-- ---- forth: from a bounded cell to its table and to the cell again
+
+-- a function that is d from 64 on is read back from its table
+pub tab-forth : {A : Type 0} (d : A) (f : ℕ → A) → ((j : ℕ) → 64 ≤ j → f j ≡ d) → (λ j. getD (tab f 64 0) j d) ≡ f
+tab-forth d f h = fun-ext (λ j. go j (told (ltb j 64)))
+  where
+    go : (j : ℕ) → Told (ltb j 64) → getD (tab f 64 0) j d ≡ f j
+    go j (yea t) = getD-tab f 64 j d (ltb-true j 64 t)
+    go j (nay t) = let l = ltb-false j 64 t in List·getD-eq-default (tab f 64 0) d (subst (λ (n : ℕ). n ≤ j) (sym (length-tab f 64 0)) l) ∙ sym (h j l)
+
+-- a test that fails from 64 on is read back from its word
+pub word-forth : (f : ℕ → Bool) → ((j : ℕ) → 64 ≤ j → f j ≡ false) → has (wordOf 64 f) ≡ f
+word-forth f h = fun-ext (λ j. go j (told (ltb j 64)))
+  where
+    go : (j : ℕ) → Told (ltb j 64) → has (wordOf 64 f) j ≡ f j
+    go j (yea t) = has-word 64 f j (ltb-true j 64 t)
+    go j (nay t) = let l = ltb-false j 64 t in has-past 64 (wordOf 64 f) j (word-lt 64 f) l ∙ sym (h j l)
+
+-- the cell of a bounded cell's table is that cell
+pub forth : (c : State) → Bounded c → cellOf (tableOf c) ≡ c
+unfolding cellOf tableOf
+forth c b = cell-eq
+    (tab-forth noPlace (c .land .place) (b .place))
+    (word-forth (c .land .used) (b .used))
+    (tab-forth 0 (c .lock) (b .lock))
+    (tab-forth noAgent (c .agent) (b .agent))
+    (word-forth (c .given) (b .given))
+
+-- the table of a cell has the sizes of the struct
+pub sized-table : (c : State) → Sized (tableOf c)
+unfolding tableOf
+sized-table c = record {
+  places = length-tab (c .land .place) 64 0;
+  locks = length-tab (c .lock) 64 0;
+  agents = length-tab (c .agent) 64 0;
+  used = word-lt 64 (c .land .used);
+  given = word-lt 64 (c .given);
+}
