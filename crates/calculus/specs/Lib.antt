@@ -1,0 +1,2 @@
+pub mod Up
+pub mod Formed

@@ -1,0 +1,1 @@
+// The published calculus beside the plain tree: definitions and laws, no code.

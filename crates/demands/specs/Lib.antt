@@ -1,0 +1,4 @@
+pub mod Reading
+pub mod Invariant
+pub mod Ways
+pub mod ReadingLaws
