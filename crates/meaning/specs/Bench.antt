@@ -74,6 +74,18 @@ rows =
   -- `open 7 | 7[8[]]` ends `8[]`
   ∷ row (1 ∷ 1 ∷ 0 ∷ 7 ∷ 0 ∷ 1 ∷ 2 ∷ 1 ∷ 8 ∷ 0 ∷ 2 ∷ 0 ∷ 0 ∷ 3 ∷ 0 ∷ 3 ∷ 7 ∷ 0 ∷ 4 ∷ []) (calls (0 ∷ 0 ∷ 0 ∷ 0 ∷ 0 ∷ []))
     "start open 7 | 7[8[]]\n0 looked 0\n0 took 0\n0 took 0\n0 opened 0\n0 done 0\nend 8[]\n"
+  -- the slips that the moves invite: an opener asleep because something is on its way to its target is woken when it comes, and looks anew
+  ∷ row (1 ∷ 1 ∷ 0 ∷ 1 ∷ 0 ∷ 1 ∷ 2 ∷ 0 ∷ 2 ∷ 0 ∷ 2 ∷ 0 ∷ 0 ∷ 3 ∷ 0 ∷ 3 ∷ 1 ∷ 0 ∷ 2 ∷ 1 ∷ 2 ∷ 3 ∷ 1 ∷ 1 ∷ 1 ∷ 0 ∷ 4 ∷ [])
+    (calls (1 ∷ 1 ∷ 1 ∷ 1 ∷ 0 ∷ 0 ∷ 0 ∷ 1 ∷ 1 ∷ 1 ∷ 0 ∷ 0 ∷ 0 ∷ 0 ∷ 0 ∷ []))
+    "start open 1 | 1[] | 2[enter 1]\n1 looked 0\n1 took 0\n1 took 0\n1 left 0\n0 looked 0\n0 took 0\n0 slept 0\n1 took 0\n1 took 0\n1 came 1\n0 looked 0\n0 took 0\n0 took 0\n0 opened 0\n0 done 0\nend 2[]\n"
+  -- an exit goes to where the place around it stands when it leaves: that place's holder was opened meanwhile
+  ∷ row (1 ∷ 1 ∷ 0 ∷ 5 ∷ 0 ∷ 1 ∷ 2 ∷ 1 ∷ 6 ∷ 0 ∷ 1 ∷ 3 ∷ 2 ∷ 7 ∷ 0 ∷ 2 ∷ 0 ∷ 0 ∷ 3 ∷ 0 ∷ 3 ∷ 5 ∷ 0 ∷ 2 ∷ 1 ∷ 3 ∷ 3 ∷ 1 ∷ 2 ∷ 6 ∷ 0 ∷ 4 ∷ [])
+    (calls (1 ∷ 1 ∷ 1 ∷ 0 ∷ 0 ∷ 0 ∷ 0 ∷ 1 ∷ 1 ∷ 1 ∷ 1 ∷ 1 ∷ []))
+    "start open 5 | 5[6[7[exit 6]]]\n1 looked 0\n1 took 0\n1 took 0\n0 looked 0\n0 took 0\n0 took 0\n0 opened 0\n1 left 0\n1 took 0\n1 took 0\n1 came 0\n1 done 0\nend 6[] | 7[]\n"
+  -- a place that something is on its way to is not opened, though its opener holds both locks
+  ∷ row (1 ∷ 1 ∷ 0 ∷ 1 ∷ 0 ∷ 1 ∷ 2 ∷ 1 ∷ 2 ∷ 0 ∷ 1 ∷ 3 ∷ 2 ∷ 3 ∷ 0 ∷ 2 ∷ 0 ∷ 0 ∷ 3 ∷ 0 ∷ 3 ∷ 1 ∷ 0 ∷ 2 ∷ 1 ∷ 3 ∷ 3 ∷ 1 ∷ 2 ∷ 2 ∷ 0 ∷ 4 ∷ [])
+    (calls (0 ∷ 0 ∷ 0 ∷ 1 ∷ 1 ∷ 1 ∷ 1 ∷ 0 ∷ 1 ∷ 1 ∷ 1 ∷ 0 ∷ 0 ∷ 0 ∷ 0 ∷ []))
+    "start open 1 | 1[2[3[exit 2]]]\n0 looked 0\n0 took 0\n0 took 0\n1 looked 0\n1 took 0\n1 took 0\n1 left 0\n0 back 0\n1 took 0\n1 took 0\n1 came 0\n0 looked 0\n0 took 0\n0 took 0\n0 opened 0\nend 2[] | 3[]\n"
   ∷ []
 
 -- every row's report is its text
