@@ -7,4 +7,5 @@ pub mod Plain
 pub mod Text
 pub mod Listing
 pub mod Report
+pub mod Codes
 pub mod Bench

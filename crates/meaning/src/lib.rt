@@ -56,3 +56,16 @@ pub enum Listed {
     Length(usize),
     Unlisted(u8),
 }
+
+// What a check answers: the table is sound, or a refusal's number.
+pub enum Checked {
+    Sound,
+    Unsound(u8),
+}
+
+// What a call for idleness answers: all agents are asleep or done, some are not, or a refusal's number.
+pub enum Idled {
+    Idle,
+    Busy,
+    Unknown(u8),
+}

@@ -1,0 +1,74 @@
+-- The remaining calls on a table, and every answer as numbers: refusals by the numbers of document 01, words by those of the register window.
+use Prim.Native.Nat.{ℕ, _+_, _*_, _%_, _^_}
+use mathlib.Core.Bool.{Bool, cond}
+use Rattle.table.specs.Cell.{cellOf}
+use Rattle.table.specs.Sound.{sound}
+use Rattle.table.specs.Idle.{idle}
+use Rattle.table.specs.declared.Cell.{Cell}
+use Rattle.meaning.specs.declared.Word.{Word}
+use Rattle.meaning.specs.declared.Word.the-variants.{Looked, Took, Held, Back, Slept, Left, Came, Opened, Asleep, Done}
+use Rattle.meaning.specs.declared.Answer.{Answer}
+use Rattle.meaning.specs.declared.Answer.the-variants.{Did, Refused}
+use Rattle.meaning.specs.declared.Verdict.{Verdict}
+use Rattle.meaning.specs.declared.Verdict.the-variants.{Accepted, Rejected}
+use Rattle.meaning.specs.declared.Listed.{Listed}
+use Rattle.meaning.specs.declared.Listed.the-variants.{Length, Unlisted}
+use Rattle.meaning.specs.declared.Checked.{Checked}
+use Rattle.meaning.specs.declared.Checked.the-variants.{Sound, Unsound}
+use Rattle.meaning.specs.declared.Idled.{Idled}
+use Rattle.meaning.specs.declared.Idled.the-variants.{Idle, Busy, Unknown}
+
+-- ---- calls that only ask
+
+-- "a soundness check": 10 unsound table
+unfoldable pub checkOf : Cell → Checked
+checkOf t = cond (sound (cellOf t)) Sound (Unsound 10)
+
+-- "whether all agents are asleep or done": 10 first
+unfoldable pub idleOf : Cell → Idled
+idleOf t = cond (sound (cellOf t)) (cond (idle (cellOf t)) Idle Busy) (Unknown 10)
+
+-- ---- answers as numbers
+
+-- "0 looked, 1 took, 2 held, 3 back, 4 slept, 5 left, 6 came, 7 opened, 9 asleep, 10 done"
+abbrev pub wordNumber : Word → ℕ
+wordNumber Looked = 0
+wordNumber Took = 1
+wordNumber Held = 2
+wordNumber Back = 3
+wordNumber Slept = 4
+wordNumber Left = 5
+wordNumber Came = 6
+wordNumber Opened = 7
+wordNumber Asleep = 9
+wordNumber Done = 10
+
+-- a number in bits 8 and up of an answer, over a refusal's number (or 0) in bits 0 to 7; bits 8 to 63 hold 56 bits of it
+abbrev pub above : ℕ → ℕ → ℕ
+above number low = number % 2 ^ 56 * 256 + low
+
+-- a step's answer: the word in bits 8 to 15 and the number woken in bits 16 to 23, or the refusal's number
+abbrev pub stepNumber : Answer → ℕ
+stepNumber (Did word woken) = above (woken * 256 + wordNumber word) 0
+stepNumber (Refused number) = number
+
+-- a load's answer: 0, or the refusal's number with its offset above
+abbrev pub loadNumber : Verdict → ℕ
+loadNumber Accepted = 0
+loadNumber (Rejected number offset) = above offset number
+
+-- a listing's answer: the length above 0, or the refusal's number
+abbrev pub listNumber : Listed → ℕ
+listNumber (Length n) = above n 0
+listNumber (Unlisted number) = number
+
+-- a check's answer: 0, or the refusal's number
+abbrev pub checkNumber : Checked → ℕ
+checkNumber Sound = 0
+checkNumber (Unsound number) = number
+
+-- whether all are asleep or done: 1 above 0 if they are
+abbrev pub idleNumber : Idled → ℕ
+idleNumber Idle = above 1 0
+idleNumber Busy = 0
+idleNumber (Unknown number) = number
