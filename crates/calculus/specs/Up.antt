@@ -2,14 +2,13 @@
 -- A move keeps it because the way up from the new place does not meet the place that moves; 63 steps are enough by counting.
 use mathlib.Core.Path.{_≡_, refl, sym, ap, _∙_, subst}
 use mathlib.Core.Logic.{_≢_, _⊎_, inl, inr}
-use Prim.Native.Nat.{ℕ, zero, suc, _+_, _-_, _≤_, _<_}
-use mathlib.Core.Bool.{Bool, true, false, not, _&&_, _||_, cond}
+use Prim.Native.Nat.{ℕ, zero, suc, _≤_, _<_}
+use mathlib.Core.Bool.{Bool, true, not, _&&_, cond}
 use native.Mathlib.Omega.{arith}
-use native.Mathlib.Numerals.{add-one}
-use lib.Dec.{T, ltb, leb, eqb}
-use borrow.Author.Tests.{eqb-true, eqb-false, eq-eqb, ne-eqb}
+use lib.Dec.{eqb}
+use borrow.Author.Tests.{eqb-true, eqb-false, ne-eqb}
 use Rattle.table.specs.Base.{upd, iter, countBelow}
-use Rattle.table.specs.BaseLaws.{Told, yea, nay, told, eq?, upd-same, upd-at, upd-other}
+use Rattle.table.specs.BaseLaws.{Told, yea, nay, told, eq?, upd-at, upd-other}
 
 -- q leads to the floor
 pub data Up (f : ℕ → ℕ) : ℕ → Type 0 where
@@ -21,11 +20,13 @@ pub data Off (f : ℕ → ℕ) (h : ℕ) : ℕ → Type 0 where
   off0 : Off f h 0
   offs : (q : ℕ) → q ≢ h → Off f h (f q) → Off f h q
 
+-- one step more is the parent of where the others lead
 pub iter-out : (f : ℕ → ℕ) (n q : ℕ) → iter f (suc n) q ≡ f (iter f n q)
 unfolding iter
 iter-out f zero q = refl
 iter-out f (suc n) q = iter-out f n (f q)
 
+-- from the floor every step stays there
 pub iter-floor : (f : ℕ → ℕ) → f 0 ≡ 0 → (n : ℕ) → iter f n 0 ≡ 0
 unfolding iter
 iter-floor f z zero = refl
@@ -37,8 +38,8 @@ module _ (f : ℕ → ℕ) (z : f 0 ≡ 0) where
   unfolding iter
   acyclic base n e = refl
   acyclic (up q u) n e =
-    let p0 : f q ≡ 0 = acyclic u n (iter-out f (suc n) q ∙ ap f e) in
-    sym e ∙ ap (iter f n) p0 ∙ iter-floor f z n
+      let p0 : f q ≡ 0 = acyclic u n (iter-out f (suc n) q ∙ ap f e) in
+      sym e ∙ ap (iter f n) p0 ∙ iter-floor f z n
 
   -- h is on the way from q, or it is not
   pub on? : (h : ℕ) {q : ℕ} → Up f q → Off f h q ⊎ ((n : ℕ) × (iter f n q ≡ h))
@@ -60,11 +61,12 @@ module _ (f : ℕ → ℕ) (z : f 0 ≡ 0) where
       go (inl o) = o
       go (inr m) = absurd (h0 (acyclic (up h u) (m .0) (unfold iter in m .1)))
 
-  -- a place moves where its old way does not meet it
+  -- a way that does not meet h is a way after h has moved
   off-up : (h d : ℕ) → h ≢ 0 → {q : ℕ} → Off f h q → Up (upd f h d) q
   off-up h d h0 off0 = base
   off-up h d h0 (offs q n o) = up q (rw upd-other (off-up h d h0 o))
 
+  -- h moves to d, whose way up does not meet h: every place still leads to the floor
   pub move-up : (h d : ℕ) → h ≢ 0 → Off f h d → {q : ℕ} → Up f q → Up (upd f h d) q
   move-up h d h0 o base = base
   move-up h d h0 o (up q u) = go (eq? q h) (move-up h d h0 o u)
@@ -73,6 +75,7 @@ module _ (f : ℕ → ℕ) (z : f 0 ≡ 0) where
       go (inl e) r = up q (rw (upd-at f h q d e) (off-up h d h0 o))
       go (inr n) r = up q (rw (upd-other f h q d n) r)
 
+  -- nor does the way from the parent of d
   off-parent : {h q : ℕ} → h ≢ 0 → Off f h q → Off f h (f q)
   off-parent h0 off0 = rw z off0
   off-parent h0 (offs q n o) = o
@@ -85,10 +88,11 @@ module _ (f : ℕ → ℕ) (z : f 0 ≡ 0) where
   pub exit-up : (h : ℕ) → h ≢ 0 → ((q : ℕ) → Up f q) → (q : ℕ) → Up (upd f h (f (f h))) q
   exit-up h h0 us q = move-up h (f (f h)) h0 (off-parent h0 (above-off h0 (us h))) (us q)
 
-  -- t dissolves into its parent
+  -- t is opened: what stood in it stands in p, its parent
   abbrev pub opened : ℕ → ℕ → ℕ → ℕ
   opened t p q = cond (eqb q t) 0 (cond (eqb (f q) t) p (f q))
 
+  -- by the way up, a place and its parent together
   opened-both : (t p : ℕ) → f t ≡ p → {q : ℕ} → Up f q → Up (opened t p) q × Up (opened t p) (f q)
   opened-both t p tp base = (base, rw z base)
   opened-both t p tp (up q u) = go (told (eqb q t)) (told (eqb (f q) t)) (opened-both t p tp u)
@@ -101,10 +105,11 @@ module _ (f : ℕ → ℕ) (z : f 0 ≡ 0) where
   pub opened-up : (t p : ℕ) → f t ≡ p → ((q : ℕ) → Up f q) → (q : ℕ) → Up (opened t p) q
   opened-up t p tp us q = opened-both t p tp (us q) .0
 
--- a countBelow, and one place less
+-- a set of places without h
 less : (ℕ → Bool) → ℕ → ℕ → Bool
 less S h q = not (eqb q h) && S q
 
+-- it has no more places than the set
 count-le : (S : ℕ → Bool) (h n : ℕ) → countBelow (less S h) n ≤ countBelow S n
 unfolding countBelow less
 count-le S h zero = omega arith
@@ -116,6 +121,7 @@ count-le S h (suc n) = go (told (eqb n h)) (told (S n)) (count-le S h n)
     go (nay e) (yea s) r = rw (e, s) (omega arith)
     go (nay e) (nay s) r = rw (e, s) (omega arith)
 
+-- and one less, if h was in the set
 count-less : (S : ℕ → Bool) (h n : ℕ) → h < n → S h ≡ true → countBelow (less S h) n < countBelow S n
 unfolding countBelow less
 count-less S h zero hn s = omega arith
@@ -132,6 +138,7 @@ data In (f : ℕ → ℕ) (S : ℕ → Bool) : ℕ → Type 0 where
   in0 : In f S 0
   ins : (q : ℕ) → S q ≡ true → q < 64 → In f S (f q) → In f S q
 
+-- a way that does not meet h is in the set without h
 in-less : {f : ℕ → ℕ} {S : ℕ → Bool} {h q : ℕ} → Off f h q → In f S q → In f (less S h) q
 unfolding less
 in-less off0 i = in0
@@ -139,6 +146,7 @@ in-less (offs q d o) in0 = in0
 in-less {f} {S} {h} (offs q d o) (ins r s l i) = ins r (rw (ne-eqb r h d, s)) l (in-less o i)
 
 module _ (f : ℕ → ℕ) (z : f 0 ≡ 0) where
+  -- a way in a set of n places is over after n steps, since each step leaves one place of the set behind
   short : (n : ℕ) (S : ℕ → Bool) {q : ℕ} → countBelow S 64 ≤ n → Up f q → In f S q → iter f n q ≡ 0
   unfolding iter
   short zero S le u in0 = refl
@@ -151,9 +159,11 @@ module _ (f : ℕ → ℕ) (z : f 0 ≡ 0) where
       go (inl e) h = rw (e, z) (iter-floor f z n)
       go (inr d) h = h (omega (arith, count-less S q 64 l s)) (in-less (above-off f z d (up q u)) i)
 
+  -- the places but the floor
   nonzero : ℕ → Bool
   nonzero q = not (eqb q 0)
 
+  -- every way is among them
   path-in : ((q : ℕ) → q < 64 → f q < 64) → {q : ℕ} → q < 64 → Up f q → In f nonzero q
   unfolding nonzero
   path-in b l base = in0
@@ -163,12 +173,12 @@ module _ (f : ℕ → ℕ) (z : f 0 ≡ 0) where
       go (inl e) i = rw e in0
       go (inr d) i = ins q (rw (ne-eqb q 0 d)) l i
 
-  -- 63 steps are enough
+  -- 63 steps lead every place to the floor
   pub sixty-three : ((q : ℕ) → q < 64 → f q < 64) → {q : ℕ} → q < 64 → Up f q → iter f 63 q ≡ 0
   unfolding nonzero countBelow
   sixty-three b l u = short 63 nonzero (omega arith) u (path-in b l u)
 
-  -- and the other way round
+  -- a place that some number of steps leads to the floor is up
   pub up-of : (n : ℕ) {q : ℕ} → iter f n q ≡ 0 → Up f q
   unfolding iter
   up-of zero e = rw e base

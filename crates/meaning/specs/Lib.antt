@@ -9,3 +9,5 @@ pub mod Listing
 pub mod Report
 pub mod Codes
 pub mod Bench
+pub mod FileLaws
+pub mod Prefix

@@ -1,0 +1,122 @@
+-- A move by its kind: an enter, an exit or an open, its conditions as facts; each move is one of these and each of these is a move.
+-- The tests `permits` and `move` are opened once, here, by the three tests on the kind of the agent's next action.
+use mathlib.Core.Path.{_≡_, refl, sym, ap, _∙_, subst}
+use mathlib.Core.Logic.{_≢_}
+use mathlib.Core.Bool.{Bool, true, not, _&&_}
+use Prim.Native.Nat.{ℕ, _≤_}
+use native.Mathlib.Omega.{arith}
+use lib.Dec.{eqb}
+use borrow.Author.Tests.{eqb-true, eqb-false, eq-eqb, ne-eqb, not-true}
+use Rattle.table.specs.BaseLaws.{Told, yea, nay, told, clash, and-left, and-right}
+use Rattle.meaning.specs.Calculus.{Tree, nextOf, standsAt, mayEnter, mayExit, mayOpen, permits, putInto, openUp, move, Move}
+
+-- place m stands in p; the floor stands in none
+pub record Stands (t : Tree) (m p : ℕ) : Type 0 where
+  pub used : t .used m ≡ true
+  pub placed : m ≢ 0
+  pub parent : t .parent m ≡ p
+
+-- what agent a's next action may do, with the tree it makes
+pub data MoveCase (t : Tree) (a : ℕ) : Tree → Type 0 where
+  -- its own place goes into another place m that stands beside it
+  enters : (m : ℕ) → nextOf t a .kind ≡ 1 → t .home a ≢ 0 → Stands t m (t .parent (t .home a)) → m ≢ t .home a → t .name m ≡ nextOf t a .name
+      → MoveCase t a (putInto t a m)
+  -- its own place goes out of the place around it
+  exits : nextOf t a .kind ≡ 2 → t .home a ≢ 0 → t .name (t .parent (t .home a)) ≡ nextOf t a .name
+      → MoveCase t a (putInto t a (t .parent (t .parent (t .home a))))
+  -- a place m that stands in its own is opened
+  opens : (m : ℕ) → nextOf t a .kind ≡ 3 → Stands t m (t .home a) → t .name m ≡ nextOf t a .name
+      → MoveCase t a (openUp t a m)
+
+-- ---- tests and facts
+
+differ : (q p : ℕ) → not (eqb q p) ≡ true → q ≢ p
+differ q p e = eqb-false q p (not-true (eqb q p) e)
+
+both : (b c : Bool) → (b && c) ≡ true → (b ≡ true) × (c ≡ true)
+both b c e = (and-left b c e, and-right b c e)
+
+-- the test that q stands in p says so
+pub stands-in : (t : Tree) (q p : ℕ) → standsAt t q p ≡ true → Stands t q p
+unfolding standsAt
+stands-in t q p e =
+    let x = both (t .used q) (not (eqb q 0) && eqb (t .parent q) p) e in
+    let y = both (not (eqb q 0)) (eqb (t .parent q) p) (x .1) in
+    record { used = x .0; placed = differ q 0 (y .0); parent = eqb-true (t .parent q) p (y .1) }
+
+pub in-stands : (t : Tree) (q p : ℕ) → Stands t q p → standsAt t q p ≡ true
+unfolding standsAt
+in-stands t q p i = rw (i .used, ne-eqb q 0 (i .placed), eq-eqb (t .parent q) p (i .parent))
+
+module _ (t : Tree) (a m : ℕ) where
+  -- the tests that the three share
+  abbrev off-floor : Bool
+  off-floor = not (eqb (t .home a) 0)
+
+  abbrev named : Bool
+  named = eqb (t .name m) (nextOf t a .name)
+
+  name-is : named ≡ true → t .name m ≡ nextOf t a .name
+  name-is e = eqb-true (t .name m) (nextOf t a .name) e
+
+  enter-case : nextOf t a .kind ≡ 1 → mayEnter t a m ≡ true → MoveCase t a (putInto t a m)
+  unfolding mayEnter
+  enter-case k e =
+      let x = both off-floor (standsAt t m (t .parent (t .home a)) && (not (eqb m (t .home a)) && named)) e in
+      let y = both (standsAt t m (t .parent (t .home a))) (not (eqb m (t .home a)) && named) (x .1) in
+      let z = both (not (eqb m (t .home a))) named (y .1) in
+      enters m k (differ (t .home a) 0 (x .0)) (stands-in t m (t .parent (t .home a)) (y .0)) (differ m (t .home a) (z .0)) (name-is (z .1))
+
+  exit-case : nextOf t a .kind ≡ 2 → mayExit t a m ≡ true → MoveCase t a (putInto t a (t .parent (t .parent (t .home a))))
+  unfolding mayExit
+  exit-case k e =
+      let x = both off-floor (eqb m (t .parent (t .home a)) && named) e in
+      let y = both (eqb m (t .parent (t .home a))) named (x .1) in
+      exits k (differ (t .home a) 0 (x .0)) (ap (t .name) (sym (eqb-true m (t .parent (t .home a)) (y .0))) ∙ name-is (y .1))
+
+  open-case : nextOf t a .kind ≡ 3 → mayOpen t a m ≡ true → MoveCase t a (openUp t a m)
+  unfolding mayOpen
+  open-case k e =
+      let x = both (standsAt t m (t .home a)) named e in
+      opens m k (stands-in t m (t .home a) (x .0)) (name-is (x .1))
+
+  permitted-case : permits t a m ≡ true → MoveCase t a (move t a m)
+  unfolding permits move
+  permitted-case e = go (told (eqb (nextOf t a .kind) 1)) (told (eqb (nextOf t a .kind) 2)) (told (eqb (nextOf t a .kind) 3))
+    where
+      go : Told (eqb (nextOf t a .kind) 1) → Told (eqb (nextOf t a .kind) 2) → Told (eqb (nextOf t a .kind) 3) → MoveCase t a (move t a m)
+      go (yea k) _ _ = rw (k, move) (enter-case (eqb-true (nextOf t a .kind) 1 k) (rw (k, permits) at e))
+      go (nay k) (yea l) _ = rw (k, l, move) (exit-case (eqb-true (nextOf t a .kind) 2 l) (rw (k, l, permits) at e))
+      go (nay k) (nay l) (yea n) = rw (k, l, move) (open-case (eqb-true (nextOf t a .kind) 3 n) (rw (k, l, n, permits) at e))
+      go (nay k) (nay l) (nay n) = clash e (rw (k, l, n, permits))
+
+-- ---- both ways
+
+-- a move is an enter, an exit or an open
+pub move-case : {t u : Tree} {a : ℕ} → Move t a u → MoveCase t a u
+move-case {t} {u} {a} v = subst (MoveCase t a) (sym (v .result)) (permitted-case t a (v .place) (v .permitted))
+
+-- an enter, an exit and an open are moves
+pub case-move : {t u : Tree} {a : ℕ} → MoveCase t a u → Move t a u
+unfolding permits move mayEnter mayExit mayOpen
+case-move {t} {a} (enters m k h s d n) = record {
+  place = m;
+  permitted = rw (k, ne-eqb (t .home a) 0 h, in-stands t m (t .parent (t .home a)) s, ne-eqb m (t .home a) d, eq-eqb (t .name m) (nextOf t a .name) n);
+  result = rw k;
+}
+case-move {t} {a} (exits k h n) = record {
+  place = t .parent (t .home a);
+  permitted = rw (k, ne-eqb (t .home a) 0 h, eq-eqb (t .parent (t .home a)) (t .parent (t .home a)) refl, eq-eqb (t .name (t .parent (t .home a))) (nextOf t a .name) n);
+  result = rw k;
+}
+case-move {t} {a} (opens m k s n) = record {
+  place = m;
+  permitted = rw (k, in-stands t m (t .home a) s, eq-eqb (t .name m) (nextOf t a .name) n);
+  result = rw k;
+}
+
+-- an agent that moves has an action left
+pub case-kind : {t u : Tree} {a : ℕ} → MoveCase t a u → 1 ≤ nextOf t a .kind
+case-kind (enters m k h s d n) = omega arith
+case-kind (exits k h n) = omega arith
+case-kind (opens m k s n) = omega arith

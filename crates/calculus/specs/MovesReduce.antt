@@ -1,0 +1,67 @@
+-- Every move of a tree is a reduction of its term.
+-- Idea: the place where the two trees differ holds, before and after, the two sides of one rule beside the same rest; `ascends` carries this up to the floor.
+use mathlib.Core.Path.{_≡_, refl, sym}
+use mathlib.Core.Logic.{_≢_, inl, inr}
+use Prim.Native.Nat.{ℕ}
+use native.Mathlib.Omega.{arith}
+use Rattle.meaning.specs.Calculus.{Tree, nextOf, putInto, openUp, Move}
+use Rattle.calculus.specs.Formed.{Formed}
+use Rattle.calculus.specs.MoveCases.{Stands, MoveCase, enters, exits, opens, move-case}
+use Rattle.calculus.specs.MoveFormed.{enter-formed, exit-formed, open-formed, exit-placed, acting-few}
+use Rattle.calculus.specs.Above.{above-self, below-one, below-not}
+use Rattle.calculus.specs.Terms.{struct-symm, struct-par-assoc, struct-amb, struct-par, _⟶_}
+use Rattle.calculus.specs.TermLaws.{_⨾_, of-path, renamed, pars, struct-par-right}
+use Rattle.calculus.specs.Spots.{rule-enter, rule-exit, rule-open, Spot, at-top, reduces}
+use Rattle.calculus.specs.TermOf.{prefix, term}
+use Rattle.calculus.specs.Contents.{row-is}
+use Rattle.calculus.specs.Near.{ascends}
+use Rattle.calculus.specs.EnterExit.{Two, Travel, travel-local, enter-before, enter-after, exit-before, exit-after}
+use Rattle.calculus.specs.OpenUp.{open-local, open-before, open-after}
+
+module _ (t : Tree) (w : Formed t) (a : ℕ) where
+  enter-reduces : (m : ℕ) → nextOf t a .kind ≡ 1 → t .home a ≢ 0 → Stands t m (t .parent (t .home a)) → m ≢ t .home a → t .name m ≡ nextOf t a .name
+      → Spot (term t) (term (putInto t a m))
+  unfolding term prefix
+  enter-reduces m k h s d n =
+      let v = enter-formed t w a m h s d in
+      let l = acting-few t w a (omega arith) in
+      let p = t .parent (t .home a) in
+      let y : Travel t a m m p = record { own = h; other = s; apart = d; from = inl refl; to = inr refl } in
+      ascends t (putInto t a m) w v p (Two (t .home a) m) (travel-local t w a m m p v y) (w .tree p) (w .parent-used _) (above-self (t .parent) p)
+      (at-top rule-enter
+      (enter-before t w a m p v y refl l ⨾ pars (struct-amb (struct-par (of-path (row-is (t .unused a) 0 k)))) (struct-par (renamed n)) ⨾ struct-symm struct-par-assoc)
+      (enter-after t w a m p v y refl l ⨾ struct-par (renamed n)))
+
+  exit-reduces : nextOf t a .kind ≡ 2 → t .home a ≢ 0 → t .name (t .parent (t .home a)) ≡ nextOf t a .name
+      → Spot (term t) (term (putInto t a (t .parent (t .parent (t .home a)))))
+  unfolding term prefix
+  exit-reduces k h n =
+      let v = exit-formed t w a h in
+      let l = acting-few t w a (omega arith) in
+      let m = t .parent (t .home a) in
+      let p = t .parent (t .parent (t .home a)) in
+      let s : Stands t m p = record { used = w .parent-used _; placed = exit-placed t w a k n; parent = refl } in
+      let y : Travel t a p m p = record { own = h; other = s; apart = λ e. below-not t w (below-one h refl) (sym e); from = inr refl; to = inl refl } in
+      ascends t (putInto t a p) w v p (Two (t .home a) m) (travel-local t w a p m p v y) (w .tree p) (w .parent-used _) (above-self (t .parent) p)
+      (at-top rule-exit
+      (exit-before t w a m p v y refl l ⨾ struct-par (renamed n ⨾ struct-amb (struct-par (struct-amb (struct-par (of-path (row-is (t .unused a) 1 k)))))))
+      (exit-after t w a m p v y refl l ⨾ struct-par-right (struct-par (renamed n)) ⨾ struct-symm struct-par-assoc))
+
+  open-reduces : (m : ℕ) → nextOf t a .kind ≡ 3 → Stands t m (t .home a) → t .name m ≡ nextOf t a .name → Spot (term t) (term (openUp t a m))
+  unfolding term prefix
+  open-reduces m k s n =
+      let v = open-formed t w a m s in
+      let l = acting-few t w a (omega arith) in
+      ascends t (openUp t a m) w v (t .home a) (λ r. r ≡ m) (open-local t w a m v s) (w .tree _) (w .homes a) (above-self (t .parent) (t .home a))
+      (at-top rule-open
+      (open-before t w a m v s l ⨾ pars (of-path (row-is (t .unused a) 2 k)) (struct-par (renamed n)) ⨾ struct-symm struct-par-assoc)
+      (open-after t w a m v s l ⨾ struct-symm struct-par-assoc))
+
+case-reduces : {t u : Tree} {a : ℕ} → Formed t → MoveCase t a u → Spot (term t) (term u)
+case-reduces {t} {a} w (enters m k h s d n) = enter-reduces t w a m k h s d n
+case-reduces {t} {a} w (exits k h n) = exit-reduces t w a k h n
+case-reduces {t} {a} w (opens m k s n) = open-reduces t w a m k s n
+
+-- a move of an agent is a reduction of the term
+pub move-reduces : {t u : Tree} {a : ℕ} → Formed t → Move t a u → term t ⟶ term u
+move-reduces w v = reduces (case-reduces w (move-case v))

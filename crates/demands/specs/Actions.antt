@@ -1,0 +1,122 @@
+-- The row of unused actions of an agent: its first is the next action, and using that up leaves the rest.
+-- By cases on whether an action is left.
+use mathlib.Core.Path.{_≡_, refl, sym, ap, ap₂, _∙_, subst}
+use mathlib.Core.List.{List, []}
+use mathlib.Core.Bool.{true, false}
+use Prim.Native.Nat.{ℕ, zero, suc, _+_, _-_, _≤_}
+use native.Mathlib.Omega.{arith}
+use native.Mathlib.Numerals.{add-one}
+use borrow.Author.Tests.{ltb-true, ltb-false, lt-ltb}
+use Rattle.table.specs.Base.{tab}
+use Rattle.table.specs.BaseLaws.{Told, yea, nay, told}
+use Rattle.table.specs.Cell.{noAction, hasAction, nextAction, kindOf, nameOf, unused}
+use Rattle.table.specs.declared.Action.{Action}
+use Rattle.table.specs.declared.Agent.{Agent}
+use Rattle.meaning.specs.Update.{useUp, atStage}
+use Rattle.meaning.specs.Calculus.{firstOf, restOf}
+use Rattle.calculus.specs.Formed.{Good, none, more}
+use Rattle.demands.specs.Facts.{Kind, kind-is}
+use Rattle.demands.specs.Invariant.{Fit}
+
+-- ---- the row
+
+-- a row of n actions from the k-th on: its first, none, and all but the first
+first-tab : (f : ℕ → Action) (n k : ℕ) → 1 ≤ n → firstOf (tab f n k) ≡ f k
+unfolding tab
+first-tab f zero k l = absurd (omega arith)
+first-tab f (suc n) k l = refl
+
+empty-tab : (f : ℕ → Action) (n k : ℕ) → n ≤ 0 → tab f n k ≡ []
+unfolding tab
+empty-tab f zero k l = refl
+empty-tab f (suc n) k l = absurd (omega arith)
+
+rest-tab : (f : ℕ → Action) (n m k : ℕ) → m ≡ n - 1 → tab f m (k + 1) ≡ restOf (tab f n k)
+unfolding tab
+rest-tab f zero m k e = empty-tab f m (k + 1) (omega arith)
+rest-tab f (suc n) m k e = ap₂ (tab f) (let z : m ≡ n = omega arith in z) (add-one k)
+
+-- without an action left the row is empty
+pub unused-none : (a : Agent) → hasAction a ≡ false → unused a ≡ []
+unfolding unused
+unused-none a e = let l = ltb-false (a .next) (a .count) e in empty-tab _ (a .count - a .next) (a .next) (omega arith)
+
+-- and the next action is none
+pub next-none : (a : Agent) → hasAction a ≡ false → nextAction a ≡ noAction
+unfolding nextAction
+next-none a e = rw e
+
+-- the first unused action is the next one
+pub first-unused : (a : Agent) → Fit a → firstOf (unused a) ≡ nextAction a
+unfolding unused nextAction
+first-unused a f = go (told (hasAction a))
+  where
+    go : Told (hasAction a) → firstOf (unused a) ≡ nextAction a
+    go (yea e) =
+      let l = ltb-true (a .next) (a .count) e in
+      let few = f .few in
+      first-tab _ (a .count - a .next) (a .next) (omega arith) ∙ sym (rw (e, lt-ltb (a .next) 16 (omega arith)))
+    go (nay e) = ap firstOf (unused-none a e) ∙ sym (next-none a e)
+
+-- an action used up leaves the rest of the row
+pub rest-unused : (a : Agent) → unused (useUp a) ≡ restOf (unused a)
+unfolding unused
+rest-unused a = rest-tab _ (a .count - a .next) (a .count - (a .next + 1)) (a .next) (omega arith)
+
+-- ---- kind and name of the next action
+
+-- what a row in range says of its first action
+good-kind : {l : List Action} → Good l → firstOf l .kind ≤ 3
+good-kind none = omega arith
+good-kind (more a b n g) = b
+
+good-name : {l : List Action} → Good l → 1 ≤ firstOf l .kind → 1 ≤ firstOf l .name
+good-name none k = absurd (omega arith)
+good-name (more a b n g) k = n
+
+good-some : (f : ℕ → Action) (n k : ℕ) → 1 ≤ n → Good (tab f n k) → 1 ≤ firstOf (tab f n k) .kind
+unfolding tab
+good-some f zero k l g = absurd (omega arith)
+good-some f (suc n) k l (more a b w g) = a
+
+good-rest : {l : List Action} → Good l → Good (restOf l)
+good-rest none = none
+good-rest (more a b n g) = g
+
+-- the kind of the next action is 3 at most
+pub kind-small : (a : Agent) → Fit a → kindOf a ≤ 3
+kind-small a f = subst (λ (n : ℕ). n ≤ 3) (ap (λ (x : Action). x .kind) (first-unused a f)) (good-kind (f .good))
+
+-- and its name is not 0
+pub name-some : (a : Agent) → Fit a → 1 ≤ kindOf a → 1 ≤ nameOf a
+name-some a f k = subst (λ (x : Action). 1 ≤ x .kind → 1 ≤ x .name) (first-unused a f) (good-name (f .good)) k
+
+-- an action is left exactly if the next one has a kind
+pub kind-some : (a : Agent) → Fit a → hasAction a ≡ true → 1 ≤ kindOf a
+unfolding unused
+kind-some a f e =
+  let l = ltb-true (a .next) (a .count) e in
+  subst (λ (x : Action). 1 ≤ x .kind) (first-unused a f) (good-some _ (a .count - a .next) (a .next) (omega arith) (f .good))
+
+pub has-some : (a : Agent) → 1 ≤ kindOf a → hasAction a ≡ true
+has-some a k = go (told (hasAction a))
+  where
+    go : Told (hasAction a) → hasAction a ≡ true
+    go (yea e) = e
+    go (nay e) = absurd (omega (arith, subst (λ (x : Action). 1 ≤ x .kind) (next-none a e) k))
+
+-- it enters, exits or opens
+pub kind-of : (a : Agent) → Fit a → 1 ≤ kindOf a → Kind (kindOf a)
+kind-of a f k = kind-is (kindOf a) k (kind-small a f)
+
+-- ---- the row stays in order
+
+-- at another stage
+pub fit-stage : (a : Agent) (stage remembered chosen : ℕ) → Fit a → Fit (atStage a stage remembered chosen)
+unfolding unused
+fit-stage a stage remembered chosen f = record { ordered = f .ordered; few = f .few; good = f .good }
+
+-- with an action used up
+pub fit-used : (a : Agent) → Fit a → hasAction a ≡ true → Fit (useUp a)
+fit-used a f e = let l = ltb-true (a .next) (a .count) e in
+  record { ordered = omega arith; few = f .few; good = subst Good (sym (rest-unused a)) (good-rest (f .good)) }

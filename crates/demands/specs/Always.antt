@@ -1,0 +1,123 @@
+-- Every step keeps a cell sound and gives every sleeper a reason to sleep, from every sound cell, and so does every list of calls on a table.
+-- Each way that a step can go has its own lemma; this file collects them, and goes from cells to tables by reading back.
+use mathlib.Core.Path.{_≡_}
+use mathlib.Core.Bool.{true}
+use mathlib.Core.List.{List, [], _∷_}
+use Prim.Native.Nat.{ℕ}
+use Rattle.table.specs.BaseLaws.{Told, yea, nay, told}
+use Rattle.table.specs.Bounds.{Sized}
+use Rattle.table.specs.Cell.{State, cellOf, tableOf}
+use Rattle.table.specs.CellLaws.{bounded, sized-table}
+use Rattle.table.specs.Sound.{sound}
+use Rattle.table.specs.declared.Cell.{Cell}
+use Rattle.meaning.specs.Step.{Outcome, still, step}
+use Rattle.meaning.specs.Run.{Call, stepOf, made, turnedAway, run}
+use Rattle.demands.specs.Invariant.{Sound, Inv}
+use Rattle.demands.specs.Ways.{Way, is-done, is-asleep, held-first, held-second, held-own, held-destination, looks-up, looks-home, sleeps-alone, takes-first, goes-back, sleeps-stuck, takes-second, gives-up, enters, exits, opens, takes-own, takes-destination, comes}
+use Rattle.demands.specs.StepWays.{step-way}
+use Rattle.demands.specs.Change.{Keeps, keeps-inv}
+use Rattle.demands.specs.Quiet.{keep-look, keep-look-home, keep-sleep-alone, keep-take-first, keep-back, keep-sleep-stuck, keep-take-second, keep-give-up, keep-take-own, keep-take-destination}
+use Rattle.demands.specs.Leaving.{keep-enter, keep-exit}
+use Rattle.demands.specs.Coming.{keep-come}
+use Rattle.demands.specs.Opening.{open-keeps}
+use Rattle.demands.specs.ReadBack.{Within, bounded-within, sound-within, way-within, sound-back, inv-back}
+use Rattle.demands.specs.SoundTest.{sound-true}
+
+-- ---- one step of a cell
+
+module _ (c : State) (i : Sound c) (x : ℕ) (g : c .given x ≡ true) where
+  -- where nothing changes
+  same : Keeps c c
+  same = record { sound = i; sleep = λ s. s }
+
+  -- every way keeps the cell
+  pub way-kept : {wish : ℕ} {o : Outcome} → Way c x wish o → Keeps c (o .cell)
+  unfolding still
+  way-kept (is-done _) = same
+  way-kept (is-asleep _) = same
+  way-kept (held-first _ _) = same
+  way-kept (held-second _ _ _ _) = same
+  way-kept (held-own _ _) = same
+  way-kept (held-destination _ _) = same
+  way-kept (looks-up s k _) = keep-look c i x g s k
+  way-kept (looks-home s _) = keep-look-home c i x g s
+  way-kept (sleeps-alone s k e) = keep-sleep-alone c i x g s k e
+  way-kept (takes-first s e) = keep-take-first c i x g s e
+  way-kept (goes-back s _) = keep-back c i x g s
+  way-kept {wish} (sleeps-stuck s e l) = keep-sleep-stuck c i x g wish s e l
+  way-kept {wish} (takes-second q s e f l h) = keep-take-second c i x g wish q s e f l h
+  way-kept (gives-up s _) = keep-give-up c i x g s
+  way-kept (enters s k e) = keep-enter c i x g s k e
+  way-kept (exits s k _) = keep-exit c i x g s k
+  way-kept (opens s k e) = open-keeps c i x g s k e
+  way-kept (takes-own s e) = keep-take-own c i x g s e
+  way-kept (takes-destination s e) = keep-take-destination c i x g s e
+  way-kept (comes s) = keep-come c i x g s
+
+  -- so does every step
+  pub step-kept : (wish : ℕ) → Keeps c (step c x wish .cell)
+  step-kept wish = way-kept (step-way c i x g wish)
+
+  -- and it changes nothing past 64
+  pub step-within : Within c → (wish : ℕ) → Within (step c x wish .cell)
+  step-within b wish = way-within c i x g b (step-way c i x g wish)
+
+-- a step keeps a cell sound, reached or not
+pub step-sound : (c : State) → Sound c → (x : ℕ) → c .given x ≡ true → (wish : ℕ) → Sound (step c x wish .cell)
+step-sound c i x g wish = step-kept c i x g wish .sound
+
+-- a step keeps the invariant
+pub step-keeps : (c : State) → Inv c → (x : ℕ) → c .given x ≡ true → (wish : ℕ) → Inv (step c x wish .cell)
+step-keeps c i x g wish = keeps-inv (step-kept c (i .sound) x g wish) i
+
+-- ---- step calls on a table
+
+-- what a step call leaves: the table as it was, or that of a step of a given agent in a sound cell
+stepped : (P : Cell → Type 0) (t : Cell) (x wish : ℕ) → P t → (sound (cellOf t) ≡ true → cellOf t .given x ≡ true → P (tableOf (step (cellOf t) x wish .cell)))
+  → P (stepOf t x wish .cell)
+unfolding stepOf made turnedAway
+stepped P t x wish old new = go (told (sound (cellOf t))) (told (cellOf t .given x))
+  where
+    go : Told (sound (cellOf t)) → Told (cellOf t .given x) → P (stepOf t x wish .cell)
+    go (yea e) (yea g) = rw (e, g) (new e g)
+    go (yea e) (nay g) = rw (e, g) old
+    go (nay e) _ = rw e old
+
+-- the table after a call has the sizes of the struct
+pub sized-stepped : (t : Cell) (x wish : ℕ) → Sized t → Sized (stepOf t x wish .cell)
+sized-stepped t x wish z = stepped Sized t x wish z (λ _ _. sized-table _)
+
+-- and its cell the invariant
+pub inv-stepped : (t : Cell) (x wish : ℕ) → Sized t → Inv (cellOf t) → Inv (cellOf (stepOf t x wish .cell))
+inv-stepped t x wish z i = stepped (λ (u : Cell). Inv (cellOf u)) t x wish i
+  (λ _ g. inv-back _ (step-within (cellOf t) (i .sound) x g (bounded-within (bounded t z)) wish) (step-keeps (cellOf t) i x g wish))
+
+-- so has every table after a list of calls
+pub sized-run : (t : Cell) (calls : List Call) → Sized t → Sized (run t calls)
+unfolding run
+sized-run t [] z = z
+sized-run t (k ∷ calls) z = sized-run _ calls (sized-stepped t (k .agent) (k .wish) z)
+
+pub inv-run : (t : Cell) (calls : List Call) → Sized t → Inv (cellOf t) → Inv (cellOf (run t calls))
+unfolding run
+inv-run t [] z i = i
+inv-run t (k ∷ calls) z i = inv-run _ calls (sized-stepped t (k .agent) (k .wish) z) (inv-stepped t (k .agent) (k .wish) z i)
+
+-- ---- soundness as a test
+
+-- a step in a cell that passes the test gives a cell that passes it
+pub step-keeps-sound : (c : State) → Within c → (x : ℕ) → c .given x ≡ true → (wish : ℕ) → sound c ≡ true → sound (step c x wish .cell) ≡ true
+step-keeps-sound c b x g wish e = sound-true _ (step-sound c (sound-within c b e) x g wish)
+
+-- a step call on a table whose cell is sound leaves one, whatever it answers; the table has the sizes of the struct, as every value of it has
+pub sound-stepped : (t : Cell) (x wish : ℕ) → Sized t → sound (cellOf t) ≡ true → sound (cellOf (stepOf t x wish .cell)) ≡ true
+sound-stepped t x wish z e = stepped (λ (u : Cell). sound (cellOf u) ≡ true) t x wish e
+  (λ _ g. let b = bounded-within (bounded t z) in
+    let i = sound-within (cellOf t) b e in
+    sound-true _ (sound-back _ (step-within (cellOf t) i x g b wish) (step-sound (cellOf t) i x g wish)))
+
+-- so does every list of calls: a sound table is never turned away with 10
+pub sound-run : (t : Cell) (calls : List Call) → Sized t → sound (cellOf t) ≡ true → sound (cellOf (run t calls)) ≡ true
+unfolding run
+sound-run t [] z e = e
+sound-run t (k ∷ calls) z e = sound-run _ calls (sized-stepped t (k .agent) (k .wish) z) (sound-stepped t (k .agent) (k .wish) z e)

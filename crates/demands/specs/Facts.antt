@@ -1,0 +1,263 @@
+-- What the tests of a step say of the places, in both directions. Assumes nothing.
+-- Idea: each test is a conjunction; told apart into its parts it is one of the propositions of the invariant, and back.
+use mathlib.Core.Path.{_≡_, refl, sym, ap, _∙_, subst}
+use mathlib.Core.Logic.{_≢_}
+use Prim.Native.Nat.{ℕ, zero, suc, _≤_, _<_}
+use mathlib.Core.Bool.{Bool, true, false, not, _&&_, _||_}
+use native.Mathlib.Omega.{arith}
+use lib.Dec.{ltb, eqb}
+use borrow.Author.Tests.{eqb-true, eqb-false, eq-eqb, ne-eqb, ltb-true, lt-ltb, not-true}
+use Rattle.sets.specs.Word.{lowestOf, upto, chosenOf}
+use Rattle.table.specs.BaseLaws.{Told, yea, nay, told, clash, and-left, and-right, any-at, any-found}
+use Rattle.table.specs.Cell.{Land, linked, linkedTo, travels, kindOf, nameOf}
+use Rattle.table.specs.Sound.{secondPlace}
+use Rattle.table.specs.declared.Agent.{Agent}
+use Rattle.meaning.specs.Step.{onWayTo, awaited, entersAt, exitsFrom, opensAt, qualifies, choose, choice, targetOf, fires, stays}
+use Rattle.demands.specs.Reading.{parentIn, nameIn}
+use Rattle.demands.specs.Invariant.{Under}
+
+-- a test that is never true is false
+pub not-yes : (b : Bool) → (b ≡ true → ⊥) → b ≡ false
+not-yes true f = absurd (f refl)
+not-yes false f = refl
+
+-- ---- the choice
+
+-- the lowest member is one, and where there is none no number is
+lowest-fits : (n : ℕ) (f : ℕ → Bool) → lowestOf n f < n → f (lowestOf n f) ≡ true
+unfolding lowestOf
+lowest-fits zero f l = absurd (omega arith)
+lowest-fits (suc n) f l = go (told (f 0)) (lowest-fits n (λ i. f (suc i)))
+  where
+    go : Told (f 0) → (lowestOf n (λ i. f (suc i)) < n → f (suc (lowestOf n (λ i. f (suc i)))) ≡ true) → f (lowestOf (suc n) f) ≡ true
+    go (yea e) r = rw (e, lowestOf) e
+    go (nay e) r = rw (e, lowestOf) (r (omega (arith, rw (e, lowestOf) at l)))
+
+lowest-none : (n : ℕ) (f : ℕ → Bool) → n ≤ lowestOf n f → (j : ℕ) → j < n → f j ≡ false
+unfolding lowestOf
+lowest-none zero f l j k = absurd (omega arith)
+lowest-none (suc n) f l j k = go (told (f 0)) j k (lowest-none n (λ i. f (suc i)))
+  where
+    go : Told (f 0) → (j : ℕ) → j < suc n → (n ≤ lowestOf n (λ i. f (suc i)) → (i : ℕ) → i < n → f (suc i) ≡ false) → f j ≡ false
+    go (yea e) j k r = absurd (omega (arith, rw (e, lowestOf) at l))
+    go (nay e) zero k r = e
+    go (nay e) (suc j) k r = r (omega (arith, rw (e, lowestOf) at l)) j (omega arith)
+
+-- a choice below 64 is a member
+pub choose-fits : (f : ℕ → Bool) (wish : ℕ) → chosenOf (upto 64 f) wish < 64 → f (chosenOf (upto 64 f) wish) ≡ true
+unfolding chosenOf
+choose-fits f wish l = go (told (upto 64 f wish))
+  where
+    go : Told (upto 64 f wish) → f (chosenOf (upto 64 f) wish) ≡ true
+    go (yea e) = rw (e, chosenOf) (and-right (ltb wish 64) (f wish) e)
+    go (nay e) = rw (e, chosenOf) (and-right (ltb (lowestOf 64 (upto 64 f)) 64) _ (lowest-fits 64 (upto 64 f) (rw (e, chosenOf) at l)))
+
+-- where the choice is none, nothing qualifies
+pub choose-none : (f : ℕ → Bool) (wish : ℕ) → 64 ≤ chosenOf (upto 64 f) wish → (q : ℕ) → q < 64 → f q ≡ false
+unfolding chosenOf
+choose-none f wish l q s = go (told (upto 64 f wish))
+  where
+    go : Told (upto 64 f wish) → f q ≡ false
+    go (yea e) = absurd (omega (arith, ltb-true wish 64 (and-left (ltb wish 64) (f wish) e), rw (e, chosenOf) at l))
+    go (nay e) = not-yes (f q) (λ t. clash (rw (lt-ltb q 64 s) t) (lowest-none 64 (upto 64 f) (rw (e, chosenOf) at l) q s))
+
+-- a wish that qualifies is granted
+pub choose-wish : (f : ℕ → Bool) (wish : ℕ) → wish < 64 → f wish ≡ true → chosenOf (upto 64 f) wish ≡ wish
+unfolding chosenOf
+choose-wish f wish l e = rw (lt-ltb wish 64 l, e)
+
+-- ---- names, parents and links of places in use
+
+module _ (l : Land) (q : ℕ) where
+  -- a place in use reads as it is
+  pub parent-read : l .used q ≡ true → parentIn l q ≡ l .place q .parent
+  unfolding parentIn
+  parent-read u = rw u
+
+  pub name-read : l .used q ≡ true → nameIn l q ≡ l .place q .name
+  unfolding nameIn
+  name-read u = rw u
+
+  -- a linked place is in use
+  pub link-used : linked l q ≡ true → l .used q ≡ true
+  unfolding linked
+  link-used e = and-left (l .used q) _ e
+
+  -- q is linked to p: the test and the proposition
+  pub under-fits : (p : ℕ) → linkedTo l q p ≡ true → Under l q p
+  unfolding linkedTo linked
+  under-fits p e =
+    let u : l .used q ≡ true = and-left (l .used q) _ e in
+    let r = and-right (l .used q) _ e in
+    record
+      { link = rw (u, and-left (eqb (l .place q .way) 0) _ r)
+      ; parent = parent-read u ∙ eqb-true _ p (and-right (eqb (l .place q .way) 0) _ r) }
+
+  pub under-of : (p : ℕ) → Under l q p → linkedTo l q p ≡ true
+  unfolding linkedTo linked
+  under-of p u =
+    let k : l .used q ≡ true = and-left (l .used q) _ (u .link) in
+    rw (k, and-right (l .used q) _ (u .link), eq-eqb (l .place q .parent) p (sym (parent-read k) ∙ u .parent))
+
+-- ---- what is on its way
+
+-- r is on its way to q
+pub record Comes (l : Land) (q r : ℕ) : Type 0 where
+  pub used : l .used r ≡ true
+  pub placed : r ≢ 0
+  pub loose : linked l r ≡ false
+  pub parent : parentIn l r ≡ q
+
+-- the test and the proposition
+pub comes-fits : (l : Land) (q r : ℕ) → onWayTo l q r ≡ true → Comes l q r
+unfolding onWayTo travels linked
+comes-fits l q r e =
+  let t = and-left (travels l r) _ e in
+  let u : l .used r ≡ true = and-left (l .used r) _ t in
+  let w = and-right (l .used r) _ t in
+  record
+    { used = u
+    ; placed = eqb-false r 0 (not-true (eqb r 0) (and-left (not (eqb r 0)) _ w))
+    ; loose = rw (u, not-true (eqb (l .place r .way) 0) (and-right (not (eqb r 0)) _ w))
+    ; parent = parent-read l r u ∙ eqb-true _ q (and-right (travels l r) _ e) }
+
+pub comes-of : (l : Land) (q r : ℕ) → Comes l q r → onWayTo l q r ≡ true
+unfolding onWayTo travels linked
+comes-of l q r m = rw (m .used, ne-eqb r 0 (m .placed), not-zero, eq-eqb (l .place r .parent) q (sym (parent-read l r (m .used)) ∙ m .parent))
+  where
+    not-zero : eqb (l .place r .way) 0 ≡ false
+    not-zero = rw (m .used) at (m .loose)
+
+-- something is on its way to q exactly if some r is
+pub awaited-yes : (l : Land) (q r : ℕ) → r < 64 → Comes l q r → awaited l q ≡ true
+unfolding awaited
+awaited-yes l q r s m = any-at (onWayTo l q) 64 r s (comes-of l q r m)
+
+pub awaited-some : (l : Land) (q : ℕ) → awaited l q ≡ true → (r : ℕ) × Comes l q r
+unfolding awaited
+awaited-some l q e = let s = any-found (onWayTo l q) 64 e in (s .0, comes-fits l q (s .0) (s .1 .1))
+
+-- ---- what qualifies, by the kind of the action
+
+-- the kinds of document 01
+pub data Kind (kind : ℕ) : Type 0 where
+  is-enter : kind ≡ 1 → Kind kind
+  is-exit : kind ≡ 2 → Kind kind
+  is-open : kind ≡ 3 → Kind kind
+
+-- a kind in range is one of them
+pub kind-is : (kind : ℕ) → 1 ≤ kind → kind ≤ 3 → Kind kind
+kind-is zero a b = absurd (omega arith)
+kind-is (suc zero) a b = is-enter refl
+kind-is (suc (suc zero)) a b = is-exit refl
+kind-is (suc (suc (suc zero))) a b = is-open refl
+kind-is (suc (suc (suc (suc k)))) a b = absurd (omega arith)
+
+-- q is linked to p and named n
+pub record Child (l : Land) (p n q : ℕ) : Type 0 where
+  pub under : Under l q p
+  pub name : nameIn l q ≡ n
+
+module _ (l : Land) (kind n home p q : ℕ) where
+  -- the test of a child with one more condition, as enter and open have it
+  child : (b : Bool) → linkedTo l q p && (eqb (l .place q .name) n && b) ≡ true → Child l p n q × (b ≡ true)
+  child b e =
+    let t = and-left (linkedTo l q p) _ e in
+    let r = and-right (linkedTo l q p) _ e in
+    let u = under-fits l q p t in
+    (record { under = u; name = name-read l q (link-used l q (u .link)) ∙ eqb-true _ n (and-left (eqb (l .place q .name) n) b r) },
+      and-right (eqb (l .place q .name) n) b r)
+
+  child-of : (b : Bool) → Child l p n q → b ≡ true → linkedTo l q p && (eqb (l .place q .name) n && b) ≡ true
+  child-of b c e = rw (under-of l q p (c .under), eq-eqb (l .place q .name) n (sym (name-read l q (link-used l q (c .under .link))) ∙ c .name), e)
+
+  -- what each kind asks, told apart
+  pub enters-fits : kind ≡ 1 → qualifies l kind n home p q ≡ true → Child l p n q × (q ≢ home)
+  unfolding qualifies entersAt
+  enters-fits k e = let r = child (not (eqb q home)) (rw k at e) in (r .0, eqb-false q home (not-true (eqb q home) (r .1)))
+
+  pub exits-fits : kind ≡ 2 → qualifies l kind n home p q ≡ true → (q ≡ p) × (linked l p ≡ true) × (nameIn l p ≡ n)
+  unfolding qualifies exitsFrom
+  exits-fits k e =
+    let f : (eqb q p && (linked l p && eqb (l .place p .name) n)) ≡ true = rw k at e in
+    let r = and-right (eqb q p) _ f in
+    let u = and-left (linked l p) _ r in
+    (eqb-true q p (and-left (eqb q p) _ f), u, name-read l p (link-used l p u) ∙ eqb-true _ n (and-right (linked l p) _ r))
+
+  pub opens-fits : kind ≡ 3 → qualifies l kind n home p q ≡ true → Child l p n q × (awaited l q ≡ false)
+  unfolding qualifies opensAt
+  opens-fits k e = let r = child (not (awaited l q)) (rw k at e) in (r .0, not-true (awaited l q) (r .1))
+
+  -- and put together
+  pub enters-of : kind ≡ 1 → Child l p n q → q ≢ home → qualifies l kind n home p q ≡ true
+  unfolding qualifies entersAt
+  enters-of k c d = rw k (child-of (not (eqb q home)) c (rw (ne-eqb q home d)))
+
+  pub exits-of : kind ≡ 2 → q ≡ p → linked l p ≡ true → nameIn l p ≡ n → qualifies l kind n home p q ≡ true
+  unfolding qualifies exitsFrom
+  exits-of k s u e = rw (k, eq-eqb q p s, u, eq-eqb (l .place p .name) n (sym (name-read l p (link-used l p u)) ∙ e))
+
+  pub opens-of : kind ≡ 3 → Child l p n q → awaited l q ≡ false → qualifies l kind n home p q ≡ true
+  unfolding qualifies opensAt
+  opens-of k c d = rw k (child-of (not (awaited l q)) c (rw d))
+
+  -- what qualifies is linked
+  pub fits-linked : Kind kind → qualifies l kind n home p q ≡ true → linked l q ≡ true
+  fits-linked (is-enter k) e = enters-fits k e .0 .under .link
+  fits-linked (is-exit k) e = let f = exits-fits k e in ap (linked l) (f .0) ∙ f .1
+  fits-linked (is-open k) e = opens-fits k e .0 .under .link
+
+-- ---- an agent's choice, its second place, and whether it stays
+
+-- the place that an agent chooses qualifies
+pub choice-fits : (l : Land) (a : Agent) (wish q : ℕ) → choice l a wish ≡ q → q < 64
+  → qualifies l (kindOf a) (nameOf a) (a .home) (a .remembered) q ≡ true
+unfolding choose
+choice-fits l a wish q e s = subst (λ r. qualifies l (kindOf a) (nameOf a) (a .home) (a .remembered) r ≡ true) e
+  (choose-fits (qualifies l (kindOf a) (nameOf a) (a .home) (a .remembered)) wish (subst (λ (r : ℕ). r < 64) (sym e) s))
+
+-- where it chooses none, no place below 64 qualifies
+pub choice-none : (l : Land) (a : Agent) (wish : ℕ) → 64 ≤ choice l a wish → (q : ℕ) → q < 64
+  → qualifies l (kindOf a) (nameOf a) (a .home) (a .remembered) q ≡ false
+unfolding choose
+choice-none l a wish = choose-none (qualifies l (kindOf a) (nameOf a) (a .home) (a .remembered)) wish
+
+-- a wish that qualifies is its choice
+pub choice-wish : (l : Land) (a : Agent) (wish : ℕ) → wish < 64
+  → qualifies l (kindOf a) (nameOf a) (a .home) (a .remembered) wish ≡ true → choice l a wish ≡ wish
+unfolding choose
+choice-wish l a wish = choose-wish (qualifies l (kindOf a) (nameOf a) (a .home) (a .remembered)) wish
+
+-- an agent that fires at stage 3 qualifies on its target
+pub fires-target : (l : Land) (a : Agent) → fires l a ≡ qualifies l (kindOf a) (nameOf a) (a .home) (a .remembered) (targetOf a)
+unfolding fires
+fires-target l a = refl
+
+-- the target is the chosen place for enter and open
+pub target-chosen : (a : Agent) → kindOf a ≢ 2 → targetOf a ≡ a .chosen
+target-chosen a n = rw (ne-eqb (kindOf a) 2 n)
+
+-- enter and exit stay exactly if their place is linked to the remembered one
+pub stays-under : (l : Land) (a : Agent) → kindOf a ≤ 2 → stays l a ≡ true → Under l (a .home) (a .remembered)
+unfolding stays
+stays-under l a k e = under-fits l (a .home) (a .remembered) (rw (ne-eqb (kindOf a) 3 (λ z. omega arith)) at e)
+
+pub stays-of : (l : Land) (a : Agent) → Under l (a .home) (a .remembered) → stays l a ≡ true
+unfolding stays
+stays-of l a u = rw (under-of l (a .home) (a .remembered) u) (go (eqb (kindOf a) 3))
+  where
+    go : (b : Bool) → (b || true) ≡ true
+    go true = refl
+    go false = refl
+
+-- an opener stays
+pub stays-open : (l : Land) (a : Agent) → kindOf a ≡ 3 → stays l a ≡ true
+unfolding stays
+stays-open l a k = rw k
+
+-- the second place is its own for enter and exit, the chosen one for open
+pub second-move : (kind home chosen : ℕ) → kind ≤ 2 → secondPlace kind home chosen ≡ home
+second-move kind home chosen k = rw (ne-eqb kind 3 (λ z. omega arith))
+
+pub second-open : (kind home chosen : ℕ) → kind ≡ 3 → secondPlace kind home chosen ≡ chosen
+second-open kind home chosen k = rw k

@@ -1,0 +1,36 @@
+-- A cell right after an accepted load: one tree, nothing held, nothing on its way, every agent at the start of its row or done.
+use mathlib.Core.Path.{_≡_}
+use mathlib.Core.Logic.{_≢_}
+use mathlib.Core.List.{[]}
+use mathlib.Core.Bool.{true, false}
+use Prim.Native.Nat.{ℕ, _≤_, _<_}
+use lib.ListN.{length}
+use Rattle.table.specs.Cell.{State, none, noPlace, freshAgent, linked, kindOf, unused}
+use Rattle.table.specs.Bounds.{Bounded}
+use Rattle.table.specs.declared.Agent.{Agent}
+use Rattle.demands.specs.Invariant.{Places, Fit}
+
+-- "an agent loaded without actions is at 8, one loaded with some at 0"
+pub data Starts (a : Agent) : Type 0 where
+  looks : a .stage ≡ 0 → 1 ≤ kindOf a → Starts a
+  done : a .stage ≡ 8 → unused a ≡ [] → Starts a
+
+-- an agent as it is loaded: none of its actions is used up, and it remembers nothing
+pub record New (a : Agent) : Type 0 where
+  pub fit : Fit a
+  pub starts : Starts a
+  pub next : a .next ≡ 0
+  pub row : length (a .actions) ≡ 16
+  pub remembered : a .remembered ≡ 0
+  pub chosen : a .chosen ≡ 0
+
+-- a cell as it is loaded
+pub record Fresh (c : State) : Type 0 where
+  pub places : Places (c .land)
+  pub settled : (q : ℕ) → c .land .used q ≡ true → q ≢ 0 → linked (c .land) q ≡ true
+  pub free : (q : ℕ) → q < 64 → c .lock q ≡ none
+  pub homes : (x : ℕ) → c .given x ≡ true → c .land .used (c .agent x .home) ≡ true
+  pub agents : (x : ℕ) → c .given x ≡ true → New (c .agent x)
+  pub no-agents : (x : ℕ) → x < 64 → c .given x ≡ false → c .agent x ≡ freshAgent
+  pub no-places : (q : ℕ) → c .land .used q ≡ false → c .land .place q ≡ noPlace
+  pub bounds : Bounded c

@@ -1,0 +1,251 @@
+-- In a sound cell with an agent at stages 0 to 6, some agent's step changes the cell, whatever its wish: no deadlock.
+-- An agent that waits leads to the holder of the lock. Holders at stage 2 lead down along links, those at stage 5 up along destinations;
+-- both ways end, and at the other stages nobody waits while it holds a lock.
+use mathlib.Core.Path.{_≡_, refl, sym, ap, _∙_, subst}
+use mathlib.Core.Logic.{_≢_, _⊎_, inl, inr}
+use mathlib.Core.Bool.{Bool, true, false, not, _&&_}
+use Prim.Native.Nat.{ℕ, zero, suc, _+_, _≤_, _<_}
+use native.Mathlib.Omega.{arith}
+use lib.Dec.{eqb}
+use borrow.Author.Tests.{eqb-false, ne-eqb, not-true}
+use Rattle.table.specs.Base.{upd, anyBelow, iter}
+use Rattle.table.specs.BaseLaws.{Told, yea, nay, told, clash, eq?, and-left, and-right, upd-same, any-at, any-found}
+use Rattle.table.specs.Cell.{Land, State, none, linked, linkedTo, kindOf}
+use Rattle.table.specs.Sound.{secondPlace}
+use Rattle.table.specs.declared.Agent.{Agent}
+use Rattle.meaning.specs.Update.{useUp}
+use Rattle.meaning.specs.Step.{Outcome, step, still, leave, dissolve, arrive, restStage, choice, stays}
+use Rattle.calculus.specs.Up.{Up, base, up, sixty-three}
+use Rattle.demands.specs.Reading.{parentIn, agentIn}
+use Rattle.demands.specs.ReadingLaws.{agent-given}
+use Rattle.demands.specs.Invariant.{Under, Ok, ok0, ok1, ok2, ok3-move, ok3-open, ok4, ok5, ok6, ok7, ok8, Holds, near, far, own, destination, Kept, free, kept, Sound}
+use Rattle.demands.specs.Facts.{link-used, under-fits, under-of, choice-fits, opens-fits, stays-under, second-move, second-open}
+use Rattle.demands.specs.Stages.{ok-at, rest-stage, ok-given, home-given}
+use Rattle.demands.specs.Ways.{Way, is-done, is-asleep, held-first, held-second, held-own, held-destination, looks-up, looks-home, sleeps-alone, takes-first, goes-back, sleeps-stuck, takes-second, gives-up, enters, exits, opens, takes-own, takes-destination, comes}
+use Rattle.demands.specs.StepWays.{kind-given, step-way}
+
+-- an agent whose step changes its stage, whatever its wish
+pub record Goes (c : State) : Type 0 where
+  pub who : ℕ
+  pub given : c .given who ≡ true
+  pub awake : c .agent who .stage ≤ 6
+  pub changes : (w : ℕ) → step c who w .cell .agent who .stage ≢ c .agent who .stage
+
+-- so its step changes the cell
+pub goes-changes : (c : State) (g : Goes c) (w : ℕ) → step c (g .who) w .cell ≢ c
+goes-changes c g w e = g .changes w (ap (λ d. d .agent (g .who) .stage) e)
+
+-- an agent that is not done is given
+pub awake-given : (c : State) (x : ℕ) → agentIn c x .stage ≤ 7 → c .given x ≡ true
+awake-given c x l = go (told (c .given x))
+  where
+    go : Told (c .given x) → c .given x ≡ true
+    go (yea e) = e
+    go (nay e) = let s : agentIn c x .stage ≡ 8 = unfold agentIn in rw e in absurd (omega arith)
+
+-- the stage after opened or came is none of 1 to 7
+rest-differs : (s : ℕ) (a : Agent) → 1 ≤ s → s ≤ 7 → s ≢ restStage a
+rest-differs s a lo hi e = go (rest-stage a)
+  where
+    go : (restStage a ≡ 0) ⊎ (restStage a ≡ 8) → ⊥
+    go (inl z) = omega arith
+    go (inr z) = omega arith
+
+-- the lock of q is the next that an agent at this stage needs
+abbrev pub Needs : Land → Agent → ℕ → ℕ → Type 0
+Needs l a q zero = ⊥
+Needs l a q (suc zero) = q ≡ a .remembered
+Needs l a q (suc (suc zero)) = Under l q (a .remembered)
+Needs l a q (suc (suc (suc zero))) = ⊥
+Needs l a q (suc (suc (suc (suc zero)))) = q ≡ a .home
+Needs l a q (suc (suc (suc (suc (suc zero))))) = q ≡ parentIn l (a .home)
+Needs l a q (suc (suc (suc (suc (suc (suc n)))))) = ⊥
+
+-- a step that changes nothing: the agent is at rest, or a lock that it needs is held
+pub data Waits (c : State) (x : ℕ) : Type 0 where
+  rests : 7 ≤ c .agent x .stage → Waits c x
+  waits : (q n : ℕ) → c .agent x .stage ≡ n → Needs (c .land) (c .agent x) q n → c .lock q ≢ none → Waits c x
+
+module _ (c : State) (i : Sound c) (x : ℕ) (g : c .given x ≡ true) where
+  other-stage : (s k : ℕ) (b : Agent) (f : ℕ → Agent) → c .agent x .stage ≡ s → b .stage ≡ k → s ≢ k → upd f x b x .stage ≢ c .agent x .stage
+  other-stage s k b f e d n z = n (sym e ∙ sym z ∙ ap (λ v. v .stage) (upd-same f x b) ∙ d)
+
+  -- the second place is linked to the remembered one
+  second-under : (w : ℕ) → stays (c .land) (c .agent x) ≡ true → choice (c .land) (c .agent x) w < 64
+    → Under (c .land) (secondPlace (kindOf (c .agent x)) (c .agent x .home) (choice (c .land) (c .agent x) w)) (c .agent x .remembered)
+  second-under w st l = go (eq? (kindOf (c .agent x)) 3)
+    where
+      q : ℕ
+      q = choice (c .land) (c .agent x) w
+      to : (r : ℕ) → secondPlace (kindOf (c .agent x)) (c .agent x .home) q ≡ r → Under (c .land) r (c .agent x .remembered)
+        → Under (c .land) (secondPlace (kindOf (c .agent x)) (c .agent x .home) q) (c .agent x .remembered)
+      to r e = subst (λ (n : ℕ). Under (c .land) n (c .agent x .remembered)) (sym e)
+      go : (kindOf (c .agent x) ≡ 3) ⊎ (kindOf (c .agent x) ≢ 3) → Under (c .land) (secondPlace (kindOf (c .agent x)) (c .agent x .home) q) (c .agent x .remembered)
+      go (inl k) = to q (second-open _ _ q k) (opens-fits (c .land) _ _ _ _ q k (choice-fits (c .land) (c .agent x) w q refl l) .0 .under)
+      go (inr n) = let k : kindOf (c .agent x) ≤ 2 = omega (arith, kind-given c i x g) in to (c .agent x .home) (second-move _ _ q k) (stays-under (c .land) (c .agent x) k st)
+
+  -- a step changes the agent's stage, or the agent waits
+  change : {w : ℕ} {o : Outcome} → Way c x w o → (o .cell .agent x .stage ≢ c .agent x .stage) ⊎ Waits c x
+  unfolding still leave dissolve arrive
+  change (is-done s) = inr (rests (omega arith))
+  change (is-asleep s) = inr (rests (omega arith))
+  change (held-first s n) = inr (waits _ 1 s refl n)
+  change {w} (held-second s st l n) = inr (waits _ 2 s (second-under w st l) n)
+  change (held-own s n) = inr (waits _ 4 s refl n)
+  change (held-destination s n) = inr (waits _ 5 s refl n)
+  change (looks-up s k e) = inl (other-stage 0 1 _ _ s refl (omega arith))
+  change (looks-home s k) = inl (other-stage 0 1 _ _ s refl (omega arith))
+  change (sleeps-alone s k e) = inl (other-stage 0 7 _ _ s refl (omega arith))
+  change (takes-first s e) = inl (other-stage 1 2 _ _ s refl (omega arith))
+  change (goes-back s e) = inl (other-stage 2 0 _ _ s refl (omega arith))
+  change (sleeps-stuck s st l) = inl (other-stage 2 7 _ _ s refl (omega arith))
+  change (takes-second q s st e l f) = inl (other-stage 2 3 _ _ s refl (omega arith))
+  change (gives-up s e) = inl (other-stage 3 0 _ _ s refl (omega arith))
+  change (enters s k e) = inl (other-stage 3 4 _ _ s refl (omega arith))
+  change (exits s k e) = inl (other-stage 3 4 _ _ s refl (omega arith))
+  change (opens s k e) = inl (other-stage 3 _ _ _ s refl (rest-differs 3 (useUp (c .agent x)) (omega arith) (omega arith)))
+  change (takes-own s e) = inl (other-stage 4 5 _ _ s refl (omega arith))
+  change (takes-destination s e) = inl (other-stage 5 6 _ _ s refl (omega arith))
+  change (comes s) = inl (other-stage 6 _ _ _ s refl (rest-differs 6 (c .agent x) (omega arith) (omega arith)))
+
+  -- an agent at stage n whose locks are free goes
+  free-to : (n : ℕ) → c .agent x .stage ≡ n → n ≤ 6 → ((q : ℕ) → Needs (c .land) (c .agent x) q n → c .lock q ≡ none) → Goes c
+  free-to n s l f = record { who = x; given = g; awake = omega arith; changes = λ w. go w (change (step-way c i x g w)) }
+    where
+      go : (w : ℕ) → (step c x w .cell .agent x .stage ≢ c .agent x .stage) ⊎ Waits c x → step c x w .cell .agent x .stage ≢ c .agent x .stage
+      go w (inl d) = d
+      go w (inr (rests r)) = absurd (omega arith)
+      go w (inr (waits q m t k h)) = absurd (h (f q (subst (Needs (c .land) (c .agent x) q) (sym t ∙ s) k)))
+
+module _ (c : State) (i : Sound c) where
+  -- the holder of the lock of q: its step changes the cell, or it is at stage 2 or 5
+  data Holder (q : ℕ) : Type 0 where
+    goes : Goes c → Holder q
+    at-two : (y : ℕ) → c .given y ≡ true → c .agent y .stage ≡ 2 → q ≡ c .agent y .remembered → Holder q
+    at-five : (y : ℕ) → c .given y ≡ true → c .agent y .stage ≡ 5 → q ≡ c .agent y .home → Holder q
+
+  holder : (q : ℕ) → c .land .used q ≡ true → c .lock q ≢ none → Holder q
+  holder q u n = go (i .locks q u)
+    where
+      by : (y : ℕ) → c .given y ≡ true → Holds (c .land) (c .agent y) q → Holder q
+      by y g (near lo hi f) = two (eq? (c .agent y .stage) 2)
+        where
+          two : (c .agent y .stage ≡ 2) ⊎ (c .agent y .stage ≢ 2) → Holder q
+          two (inl e) = at-two y g e f
+          two (inr e) = goes (free-to c i y g 3 (omega arith) (omega arith) (λ r z. absurd z))
+      by y g (far s f) = goes (free-to c i y g 3 s (omega arith) (λ r z. absurd z))
+      by y g (own lo hi f) = five (eq? (c .agent y .stage) 5)
+        where
+          five : (c .agent y .stage ≡ 5) ⊎ (c .agent y .stage ≢ 5) → Holder q
+          five (inl e) = at-five y g e f
+          five (inr e) = goes (free-to c i y g 6 (omega arith) (omega arith) (λ r z. absurd z))
+      by y g (destination s f) = goes (free-to c i y g 6 s (omega arith) (λ r z. absurd z))
+      go : Kept (c .land) (c .lock) (agentIn c) q → Holder q
+      go (free f) = absurd (n f)
+      go (kept y h r) = let g = awake-given c y (below r) in by y g (subst (λ (a : Agent). Holds (c .land) a q) (agent-given c y g) r)
+        where
+          below : {a : Agent} → Holds (c .land) a q → a .stage ≤ 7
+          below (near lo hi f) = omega arith
+          below (far s f) = omega arith
+          below (own lo hi f) = omega arith
+          below (destination s f) = omega arith
+
+  -- ---- stage 2: down along links
+
+  -- place p is deeper than k - 1
+  Deep : ℕ → ℕ → Type 0
+  Deep zero p = Unit {0}
+  Deep (suc k) p = iter (parentIn (c .land)) k p ≢ 0
+
+  deeper : (k p q : ℕ) → Deep k p → Under (c .land) q p → Deep (suc k) q
+  unfolding Deep iter
+  deeper zero p q d u z = clash (u .link) (ap (linked (c .land)) z ∙ i .places .floor-link)
+  deeper (suc k) p q d u z = d (ap (iter (parentIn (c .land)) k) (sym (u .parent)) ∙ z)
+
+  too-deep : (p : ℕ) → c .land .used p ≡ true → Deep 64 p → ⊥
+  unfolding Deep
+  too-deep p u d = d (sixty-three (parentIn (c .land)) (i .places .floor-parent) (λ q _. i .places .small _ (i .places .parent-used q)) (i .places .small p u) (i .places .tree p))
+
+  -- a place linked to p is locked
+  lockedUnder : ℕ → ℕ → Bool
+  lockedUnder p q = linkedTo (c .land) q p && not (eqb (c .lock q) none)
+
+  down : (n k : ℕ) → k + n ≡ 64 → (x : ℕ) → c .given x ≡ true → c .agent x .stage ≡ 2 → Deep k (c .agent x .remembered) → Goes c
+  unfolding lockedUnder
+  down zero k e x g s d = absurd (too-deep _ (ok-at 2 s (ok-given c i x g) .0 .known) (subst (λ (j : ℕ). Deep j (c .agent x .remembered)) (omega arith) d))
+  down (suc n) k e x g s d = go (told (anyBelow (lockedUnder p) 64)) (λ y h t. down n (suc k) (omega arith) y h t)
+    where
+      p : ℕ
+      p = c .agent x .remembered
+      clear : anyBelow (lockedUnder p) 64 ≡ false → (q : ℕ) → Under (c .land) q p → c .lock q ≡ none
+      clear f q u = at (eq? (c .lock q) none)
+        where
+          at : (c .lock q ≡ none) ⊎ (c .lock q ≢ none) → c .lock q ≡ none
+          at (inl e) = e
+          at (inr h) = clash (any-at (lockedUnder p) 64 q (i .places .small q (link-used (c .land) q (u .link))) (rw (under-of (c .land) q p u, ne-eqb (c .lock q) none h))) f
+      on : (q : ℕ) → Under (c .land) q p → Holder q → ((y : ℕ) → c .given y ≡ true → c .agent y .stage ≡ 2 → Deep (suc k) (c .agent y .remembered) → Goes c) → Goes c
+      on q u (goes r) more = r
+      on q u (at-two y h t f) more = more y h t (subst (Deep (suc k)) f (deeper k p q d u))
+      on q u (at-five y h t f) more = clash (u .link) (ap (linked (c .land)) f ∙ ok-at 5 t (ok-given c i y h) .0 .loose)
+      go : Told (anyBelow (lockedUnder p) 64) → ((y : ℕ) → c .given y ≡ true → c .agent y .stage ≡ 2 → Deep (suc k) (c .agent y .remembered) → Goes c) → Goes c
+      go (nay f) more = free-to c i x g 2 s (omega arith) (clear f)
+      go (yea f) more =
+        let t = any-found (lockedUnder p) 64 f in
+        let q = t .0 in
+        let u = under-fits (c .land) q p (and-left (linkedTo (c .land) q p) (not (eqb (c .lock q) none)) (t .1 .1)) in
+        let h = eqb-false (c .lock q) none (not-true _ (and-right (linkedTo (c .land) q p) (not (eqb (c .lock q) none)) (t .1 .1))) in
+        on q u (holder q (link-used (c .land) q (u .link)) h) more
+
+  second-stage : (x : ℕ) → c .given x ≡ true → c .agent x .stage ≡ 2 → Goes c
+  unfolding Deep
+  second-stage x g s = down 64 0 refl x g s tt
+
+  -- ---- stage 5: up along destinations
+
+  climb : {q : ℕ} → Up (parentIn (c .land)) q → (x : ℕ) → c .given x ≡ true → q ≡ c .agent x .home → c .agent x .stage ≡ 5 → Goes c
+  climb base x g e s = absurd (ok-at 5 s (ok-given c i x g) .0 .placed (sym e))
+  climb (up q u) x g e s = go (eq? (c .lock d) none) (λ y h f t. climb u y h f t)
+    where
+      d : ℕ
+      d = parentIn (c .land) (c .agent x .home)
+      on : Holder d → ((y : ℕ) → c .given y ≡ true → parentIn (c .land) q ≡ c .agent y .home → c .agent y .stage ≡ 5 → Goes c) → Goes c
+      on (goes r) more = r
+      on (at-two y h t f) more = second-stage y h t
+      on (at-five y h t f) more = more y h (ap (parentIn (c .land)) e ∙ f) t
+      go : (c .lock d ≡ none) ⊎ (c .lock d ≢ none) → ((y : ℕ) → c .given y ≡ true → parentIn (c .land) q ≡ c .agent y .home → c .agent y .stage ≡ 5 → Goes c) → Goes c
+      go (inl f) more = free-to c i x g 5 s (omega arith) (λ r z. ap (c .lock) z ∙ f)
+      go (inr n) more = on (holder d (i .places .parent-used _) n) more
+
+  fifth-stage : (x : ℕ) → c .given x ≡ true → c .agent x .stage ≡ 5 → Goes c
+  fifth-stage x g s = climb (i .places .tree (c .agent x .home)) x g refl s
+
+  -- ---- the other stages
+
+  -- an agent goes, or the lock of q, which it needs, has a holder
+  either : (x n q : ℕ) → c .given x ≡ true → c .agent x .stage ≡ n → n ≤ 6 → c .land .used q ≡ true
+    → ((r : ℕ) → Needs (c .land) (c .agent x) r n → r ≡ q) → Goes c
+  either x n q g s l u only = go (eq? (c .lock q) none)
+    where
+      on : Holder q → Goes c
+      on (goes r) = r
+      on (at-two y h t f) = second-stage y h t
+      on (at-five y h t f) = fifth-stage y h t
+      go : (c .lock q ≡ none) ⊎ (c .lock q ≢ none) → Goes c
+      go (inl e) = free-to c i x g n s l (λ r z. ap (c .lock) (only r z) ∙ e)
+      go (inr h) = on (holder q u h)
+
+  -- an agent that is neither asleep nor done: somebody's step changes the cell
+  pub live : (x : ℕ) → c .given x ≡ true → c .agent x .stage ≤ 6 → Goes c
+  live x g l = go (ok-given c i x g)
+    where
+      go : Ok (c .land) (c .lock) x (c .agent x) → Goes c
+      go (ok0 s k) = free-to c i x g 0 s (omega arith) (λ r z. absurd z)
+      go (ok1 s r) = either x 1 (c .agent x .remembered) g s (omega arith) (r .known) (λ r z. z)
+      go (ok2 s r h) = second-stage x g s
+      go (ok3-move s r k h₁ h₂ u v) = free-to c i x g 3 s (omega arith) (λ r z. absurd z)
+      go (ok3-open s r k h₁ h₂ u) = free-to c i x g 3 s (omega arith) (λ r z. absurd z)
+      go (ok4 s v) = either x 4 (c .agent x .home) g s (omega arith) (home-given c i x g) (λ r z. z)
+      go (ok5 s v h) = fifth-stage x g s
+      go (ok6 s v h₁ h₂) = free-to c i x g 6 s (omega arith) (λ r z. absurd z)
+      go (ok7 s k u) = absurd (omega arith)
+      go (ok8 s e) = absurd (omega arith)

@@ -1,0 +1,246 @@
+-- The steps that leave the places as they are keep the cell: the agent goes on, takes a lock, or gives its locks back.
+-- Each is a change of one agent that nobody else notices: others have their locks, and nothing is linked or loosened.
+use mathlib.Core.Path.{_≡_, refl, sym, ap, _∙_, subst}
+use mathlib.Core.Logic.{_≢_, _⊎_, inl, inr}
+use Prim.Native.Nat.{ℕ, _≤_, _<_}
+use mathlib.Core.Bool.{true, false, cond}
+use native.Mathlib.Omega.{arith}
+use lib.Dec.{eqb}
+use Rattle.table.specs.Base.{upd}
+use Rattle.table.specs.BaseLaws.{clash, eq?, upd-same, upd-other}
+use Rattle.table.specs.Cell.{State, none, linked, nextAction, kindOf, nameOf}
+use Rattle.table.specs.Sound.{secondPlace}
+use Rattle.table.specs.declared.Agent.{Agent}
+use Rattle.meaning.specs.Update.{atStage, withLocks, released}
+use Rattle.meaning.specs.Step.{choice, qualifies, stays}
+use Rattle.demands.specs.Reading.{parentIn, agentIn}
+use Rattle.demands.specs.ReadingLaws.{agent-given, agent-turned}
+use Rattle.demands.specs.Invariant.{Under, Has, Ready, Travels, Sleeper, alone, stuck, Sound, Holds, near, far, own, destination}
+use Rattle.demands.specs.Invariant.{Ok, ok0, ok1, ok2, ok3-move, ok3-open, ok5, ok6, ok7}
+use Rattle.demands.specs.Ways.{goesOn, takesLock, givesBack}
+use Rattle.demands.specs.Facts.{not-yes, link-used, choice-fits, choice-none, stays-under, second-move, second-open}
+use Rattle.demands.specs.Facts.{Kind, is-enter, is-exit, is-open, enters-fits, opens-fits, fits-linked}
+use Rattle.demands.specs.Actions.{kind-of, fit-stage}
+use Rattle.demands.specs.Stages.{ok-at, holds-none, holds-two, holds-four, holds-five, ok-given, fit-given, home-given, Returned, returned-two, returned-three}
+use Rattle.demands.specs.Frame.{unchanged}
+use Rattle.demands.specs.Change.{Mine, is-free, is-mine, returned-has, returned-free, Change, Keeps, keeps}
+
+module _ (c : State) (s : Sound c) (x : ℕ) (g : c .given x ≡ true) where
+  -- the agent at another stage
+  abbrev next : ℕ → ℕ → ℕ → Agent
+  next stage m k = atStage (c .agent x) stage m k
+
+  -- the agent is at stages 4 to 6 before and after, or neither
+  abbrev Pace : ℕ → ℕ → ℕ → Type 0
+  Pace stage m k = (Travels (c .agent x) × Travels (next stage m k)) ⊎ ((Travels (c .agent x) → ⊥) × (Travels (next stage m k) → ⊥))
+
+  -- one agent and some locks change, and not the places
+  quiet : (stage m k : ℕ) (lock′ : ℕ → ℕ) → Ok (c .land) lock′ x (next stage m k)
+    → ((y q : ℕ) → y ≢ x → Has (c .lock) q y → Has lock′ q y)
+    → ((q : ℕ) → c .land .used q ≡ true → Mine (c .land) (c .lock) x (c .agent x) q → Mine (c .land) lock′ x (next stage m k) q)
+    → Pace stage m k
+    → (stage ≡ 7 → Sleeper (c .land) (next stage m k))
+    → Keeps c (withLocks (goesOn c x stage m k) lock′)
+  unfolding agentIn
+  quiet stage m k lock′ ok has mine pace asleep = keeps s change asleep (λ a _ _ r. r)
+    where
+      own-loose : Pace stage m k → linked (c .land) (c .agent x .home) ≡ false
+        → Travels (next stage m k) ⊎ ((linked (c .land) (c .agent x .home) ≡ false) × (Travels (c .agent x) → ⊥))
+      own-loose (inl t) e = inl (t .1)
+      own-loose (inr n) e = inr (e, n .0)
+
+      lone : Pace stage m k → Travels (next stage m k) → (y : ℕ) → y ≢ x → Travels (agentIn c y) → agentIn c y .home ≢ c .agent x .home
+      lone (inl t) _ y n u e =
+        let a = agent-given c x g in
+        n (s .single y x u (subst Travels (sym a) (t .0)) (e ∙ ap (λ (b : Agent). b .home) (sym a)))
+      lone (inr r) t y n u e = r .1 t
+
+      change : Change c (withLocks (goesOn c x stage m k) lock′) x (λ _. Unit {0})
+      change = record
+        { steps = g; given = λ y. refl; used = λ q. refl
+        ; new = next stage m k; woke = agentIn c
+        ; reads = agent-turned c x (next stage m k) g
+        ; roused = λ y. unchanged (λ _. tt)
+        ; places = s .places
+        ; home = refl
+        ; fit = fit-stage (c .agent x) stage m k (fit-given c s x g)
+        ; ok = ok; has = has
+        ; under = λ y n q p h u. u
+        ; way = λ y n t v. (v .loose, refl)
+        ; mine = mine
+        ; loose = λ q n e. e
+        ; own-loose = own-loose pace
+        ; lone = lone pace }
+
+  -- no lock changes
+  go-on : (stage m k : ℕ) → Ok (c .land) (c .lock) x (next stage m k) → ((q : ℕ) → Holds (c .land) (c .agent x) q → ⊥) → Pace stage m k
+    → (stage ≡ 7 → Sleeper (c .land) (next stage m k)) → Keeps c (goesOn c x stage m k)
+  go-on stage m k ok idle pace asleep = quiet stage m k (c .lock) ok (λ y q n h. h) (λ q u. go q) pace asleep
+    where
+      go : (q : ℕ) → Mine (c .land) (c .lock) x (c .agent x) q → Mine (c .land) (c .lock) x (next stage m k) q
+      go q (is-free e) = is-free e
+      go q (is-mine h r) = absurd (idle q r)
+
+  -- a free lock is taken
+  take-on : (p stage m k : ℕ) → c .lock p ≡ none
+    → (((q : ℕ) → Has (c .lock) q x → Has (upd (c .lock) p x) q x) → Has (upd (c .lock) p x) p x → Ok (c .land) (upd (c .lock) p x) x (next stage m k))
+    → ((q : ℕ) → Holds (c .land) (c .agent x) q → Holds (c .land) (next stage m k) q)
+    → Holds (c .land) (next stage m k) p → Pace stage m k → stage ≢ 7 → Keeps c (takesLock c x p stage m k)
+  take-on p stage m k f ok old add pace up = quiet stage m k lock′ (ok (has x) mine) (λ y q n h. has y q h) (λ q u. go q (eq? q p)) pace
+    (λ e. absurd (up e))
+    where
+      lock′ : ℕ → ℕ
+      lock′ = upd (c .lock) p x
+
+      has : (y q : ℕ) → Has (c .lock) q y → Has lock′ q y
+      has y q h = record
+        { by = upd-other (c .lock) p q x (λ e. let z : y ≡ none = sym (h .by) ∙ ap (c .lock) e ∙ f in omega (arith, h .small)) ∙ h .by
+        ; small = h .small }
+
+      mine : Has lock′ p x
+      mine = record { by = upd-same (c .lock) p x; small = s .few x g }
+
+      go : (q : ℕ) → (q ≡ p) ⊎ (q ≢ p) → Mine (c .land) (c .lock) x (c .agent x) q → Mine (c .land) lock′ x (next stage m k) q
+      go q (inl e) r = subst (Mine (c .land) lock′ x (next stage m k)) (sym e) (is-mine mine add)
+      go q (inr n) (is-free e) = is-free (upd-other (c .lock) p q x n ∙ e)
+      go q (inr n) (is-mine h r) = is-mine (has x q h) (old q r)
+
+  -- all of the agent's locks are given back
+  give-on : (p q stage m : ℕ) → Returned c x (released (c .lock) p q) → Ok (c .land) (released (c .lock) p q) x (next stage m 0) → Pace stage m 0
+    → (stage ≡ 7 → Sleeper (c .land) (next stage m 0)) → Keeps c (givesBack c x p q stage m)
+  give-on p q stage m back ok pace asleep = quiet stage m 0 (released (c .lock) p q) ok
+    (λ y r n h. returned-has back n h) (λ r u h. is-free (returned-free back (s .few x g) u h)) pace asleep
+
+  -- ---- the steps
+
+  -- neither before nor after is the agent on its way
+  stay : (stage m k : ℕ) → c .agent x .stage ≤ 3 → (stage ≤ 3) ⊎ (stage ≡ 7) → Pace stage m k
+  stay stage m k b (inl a) = inr (λ t. omega arith, λ t. omega arith)
+  stay stage m k b (inr a) = inr (λ t. omega arith, λ t. omega arith)
+
+  -- both before and after
+  travel : (stage m k : ℕ) → 4 ≤ c .agent x .stage → c .agent x .stage ≤ 6 → 4 ≤ stage → stage ≤ 6 → Pace stage m k
+  travel stage m k a b d e = inl (record { from = a; to = b }, record { from = d; to = e })
+
+  -- an agent that keeps what it remembers
+  ready : (stage k : ℕ) → Ready (c .land) (c .agent x) → Ready (c .land) (next stage (c .agent x .remembered) k)
+  unfolding nextAction
+  ready stage k r = record { some = r .some; known = r .known; opener = r .opener }
+
+  -- stage 0 with a linked parent
+  pub keep-look : c .agent x .stage ≡ 0 → kindOf (c .agent x) ≤ 2 → Keeps c (goesOn c x 1 (parentIn (c .land) (c .agent x .home)) 0)
+  unfolding nextAction
+  keep-look e k = go-on 1 _ 0
+    (ok1 refl (record { some = ok-at 0 e (ok-given c s x g); known = s .places .parent-used _; opener = λ z. absurd (omega arith) }))
+    (λ q. holds-none (omega arith)) (stay 1 _ 0 (omega arith) (inl (omega arith))) (λ z. absurd (omega arith))
+
+  -- stage 0 of open
+  pub keep-look-home : c .agent x .stage ≡ 0 → Keeps c (goesOn c x 1 (c .agent x .home) 0)
+  unfolding nextAction
+  keep-look-home e = go-on 1 _ 0
+    (ok1 refl (record { some = ok-at 0 e (ok-given c s x g); known = home-given c s x g; opener = λ _. refl }))
+    (λ q. holds-none (omega arith)) (stay 1 _ 0 (omega arith) (inl (omega arith))) (λ z. absurd (omega arith))
+
+  -- stage 0 without a linked parent
+  pub keep-sleep-alone : c .agent x .stage ≡ 0 → kindOf (c .agent x) ≤ 2 → linked (c .land) (c .agent x .home) ≡ false
+    → Keeps c (goesOn c x 7 (c .agent x .home) 0)
+  unfolding nextAction
+  keep-sleep-alone e k l = go-on 7 _ 0
+    (ok7 refl (ok-at 0 e (ok-given c s x g)) (home-given c s x g))
+    (λ q. holds-none (omega arith)) (stay 7 _ 0 (omega arith) (inr refl)) (λ z. alone k refl l)
+
+  -- stage 1 with the lock free
+  pub keep-take-first : c .agent x .stage ≡ 1 → c .lock (c .agent x .remembered) ≡ none
+    → Keeps c (takesLock c x (c .agent x .remembered) 2 (c .agent x .remembered) 0)
+  keep-take-first e f = take-on _ 2 _ 0 f
+    (λ has mine. ok2 refl (ready 2 0 (ok-at 1 e (ok-given c s x g))) mine)
+    (λ q h. absurd (holds-none (omega arith) h)) (near (omega arith) (omega arith) refl)
+    (stay 2 _ 0 (omega arith) (inl (omega arith))) (λ z. omega arith)
+
+  -- stage 2 when its place is no longer linked to p
+  pub keep-back : c .agent x .stage ≡ 2 → Keeps c (givesBack c x (c .agent x .remembered) (c .agent x .remembered) 0 0)
+  unfolding nextAction
+  keep-back e = give-on _ _ 0 0 (returned-two c s x g e) (ok0 refl (ok-at 2 e (ok-given c s x g) .0 .some))
+    (stay 0 0 0 (omega arith) (inl (omega arith))) (λ z. absurd (omega arith))
+
+  -- stage 2 when the action can't fire
+  pub keep-sleep-stuck : (wish : ℕ) → c .agent x .stage ≡ 2 → stays (c .land) (c .agent x) ≡ true → 64 ≤ choice (c .land) (c .agent x) wish
+    → Keeps c (givesBack c x (c .agent x .remembered) (c .agent x .remembered) 7 (c .agent x .remembered))
+  unfolding nextAction stays
+  keep-sleep-stuck wish e st ch = give-on _ _ 7 _ (returned-two c s x g e) (ok7 refl (r .some) (r .known))
+    (stay 7 _ 0 (omega arith) (inr refl)) (λ z. stuck (r .opener) st nothing)
+    where
+      r : Ready (c .land) (c .agent x)
+      r = ok-at 2 e (ok-given c s x g) .0
+
+      nothing : (q : ℕ) → qualifies (c .land) (kindOf (c .agent x)) (nameOf (c .agent x)) (c .agent x .home) (c .agent x .remembered) q ≡ false
+      nothing q = not-yes _ (λ t. clash t (choice-none (c .land) (c .agent x) wish ch q
+        (s .places .small q (link-used (c .land) q (fits-linked (c .land) _ _ _ _ q (kind-of _ (fit-given c s x g) (r .some)) t)))))
+
+  -- stage 2 when it fires and the second lock is free
+  pub keep-take-second : (wish q : ℕ) → c .agent x .stage ≡ 2 → stays (c .land) (c .agent x) ≡ true → choice (c .land) (c .agent x) wish ≡ q → q < 64
+    → c .lock (secondPlace (kindOf (c .agent x)) (c .agent x .home) q) ≡ none
+    → Keeps c (takesLock c x (secondPlace (kindOf (c .agent x)) (c .agent x .home) q) 3 (c .agent x .remembered) (cond (eqb (kindOf (c .agent x)) 2) 0 q))
+  unfolding nextAction
+  keep-take-second wish q e st ch l f = take-on _ 3 _ _ f (λ has mine. ok kind has mine)
+    (λ r h. near (omega arith) (omega arith) (holds-two e h)) (far refl (second kind)) (stay 3 _ _ (omega arith) (inl (omega arith))) (λ z. omega arith)
+    where
+      a : Agent
+      a = c .agent x
+
+      o : Ready (c .land) a × Has (c .lock) (a .remembered) x
+      o = ok-at 2 e (ok-given c s x g)
+
+      kind : Kind (kindOf a)
+      kind = kind-of _ (fit-given c s x g) (o .0 .some)
+
+      fits : qualifies (c .land) (kindOf a) (nameOf a) (a .home) (a .remembered) q ≡ true
+      fits = choice-fits (c .land) a wish q ch l
+
+      second : Kind (kindOf a) → secondPlace (kindOf a) (a .home) q ≡ secondPlace (kindOf a) (a .home) (cond (eqb (kindOf a) 2) 0 q)
+      second (is-enter k) = rw k
+      second (is-exit k) = rw k
+      second (is-open k) = rw k
+
+      lock′ : ℕ → ℕ
+      lock′ = upd (c .lock) (secondPlace (kindOf a) (a .home) q) x
+
+      ok : Kind (kindOf a) → ((r : ℕ) → Has (c .lock) r x → Has lock′ r x) → Has lock′ (secondPlace (kindOf a) (a .home) q) x
+        → Ok (c .land) lock′ x (next 3 (a .remembered) (cond (eqb (kindOf a) 2) 0 q))
+      ok kind has mine = at kind
+        where
+          moves : kindOf a ≤ 2 → (kindOf a ≡ 1 → Under (c .land) (cond (eqb (kindOf a) 2) 0 q) (a .remembered))
+            → Ok (c .land) lock′ x (next 3 (a .remembered) (cond (eqb (kindOf a) 2) 0 q))
+          moves k = ok3-move refl (ready 3 _ (o .0)) k (has _ (o .1)) (subst (λ (r : ℕ). Has lock′ r x) (second-move (kindOf a) (a .home) q k) mine)
+            (stays-under (c .land) a k st)
+
+          at : Kind (kindOf a) → Ok (c .land) lock′ x (next 3 (a .remembered) (cond (eqb (kindOf a) 2) 0 q))
+          at (is-enter k) = moves (omega arith)
+            (λ _. subst (λ (r : ℕ). Under (c .land) r (a .remembered)) (rw k) (enters-fits (c .land) _ _ _ _ q k fits .0 .under))
+          at (is-exit k) = moves (omega arith) (λ z. absurd (omega arith))
+          at (is-open k) =
+            let chosen : q ≡ cond (eqb (kindOf a) 2) 0 q = rw k in
+            ok3-open refl (ready 3 _ (o .0)) k (has _ (o .1)) (subst (λ (r : ℕ). Has lock′ r x) (second-open (kindOf a) (a .home) q k ∙ chosen) mine)
+              (subst (λ (r : ℕ). Under (c .land) r (a .remembered)) chosen (opens-fits (c .land) _ _ _ _ q k fits .0 .under))
+
+  -- stage 3 when the action no longer fires
+  pub keep-give-up : c .agent x .stage ≡ 3
+    → Keeps c (givesBack c x (c .agent x .remembered) (secondPlace (kindOf (c .agent x)) (c .agent x .home) (c .agent x .chosen)) 0 0)
+  unfolding nextAction
+  keep-give-up e = give-on _ _ 0 0 (returned-three c s x g e) (ok0 refl (ok-at 3 e (ok-given c s x g) .0 .some))
+    (stay 0 0 0 (omega arith) (inl (omega arith))) (λ z. absurd (omega arith))
+
+  -- stage 4 with its own lock free
+  pub keep-take-own : c .agent x .stage ≡ 4 → c .lock (c .agent x .home) ≡ none → Keeps c (takesLock c x (c .agent x .home) 5 0 0)
+  keep-take-own e f = take-on _ 5 0 0 f
+    (λ has mine. let w = ok-at 4 e (ok-given c s x g) in ok5 refl (record { loose = w .loose; placed = w .placed }) mine)
+    (λ q h. absurd (holds-four e h)) (own (omega arith) (omega arith) refl)
+    (travel 5 0 0 (omega arith) (omega arith) (omega arith) (omega arith)) (λ z. omega arith)
+
+  -- stage 5 with the destination's lock free
+  pub keep-take-destination : c .agent x .stage ≡ 5 → c .lock (parentIn (c .land) (c .agent x .home)) ≡ none
+    → Keeps c (takesLock c x (parentIn (c .land) (c .agent x .home)) 6 0 0)
+  keep-take-destination e f = take-on _ 6 0 0 f
+    (λ has mine. let w = ok-at 5 e (ok-given c s x g) in ok6 refl (record { loose = w .0 .loose; placed = w .0 .placed }) (has _ (w .1)) mine)
+    (λ q h. own (omega arith) (omega arith) (holds-five e h)) (destination refl refl)
+    (travel 6 0 0 (omega arith) (omega arith) (omega arith) (omega arith)) (λ z. omega arith)

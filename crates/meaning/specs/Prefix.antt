@@ -1,0 +1,206 @@
+-- A load is decided by the first 5,633 bytes of the file.
+-- Idea: each record that is not refused gives a new place, a new agent or a new action, and there is room for 63, 64 and 1,024 of
+-- these: 5 * 63 + 3 * 64 + 5 * 1024 = 5,627 bytes. What comes next is the end or a refusal, and looks at five bytes at most.
+use mathlib.Core.Path.{_≡_, refl, sym, ap, ap₂, _∙_, subst}
+use mathlib.Core.Bool.{Bool, true, false, _||_}
+use mathlib.Core.List.{List}
+use mathlib.Core.Logic.{_≢_, _⊎_, inl, inr}
+use Prim.Native.Nat.{ℕ, zero, suc, _+_, _*_, _-_, _<_, _≤_}
+use native.Mathlib.Omega.{arith}
+use lib.Dec.{leb, eqb}
+use lib.ListN.{length, take}
+use lib.Seq.{getD-take, take-all, length-take-le}
+use borrow.Author.Tests.{eq-eqb, ne-eqb, lt-ltb, le-ltb, leb-true, leb-false}
+use Rattle.sets.specs.Word.{bit, has}
+use Rattle.table.specs.Base.{upd}
+use Rattle.table.specs.BaseLaws.{Told, yea, nay, told, eq?, upd-at, upd-other}
+use Rattle.table.specs.Cell.{State, cellOf, bareTable}
+use Rattle.table.specs.declared.Agent.{Agent}
+use Rattle.meaning.specs.declared.Record.{Record}
+use Rattle.meaning.specs.declared.Record.the-variants.{PlaceRecord, AgentRecord, ActionRecord, EndRecord, Faulty}
+use Rattle.meaning.specs.Update.{withHome}
+use Rattle.meaning.specs.File.{byteAt, recordAt, addPlace, addAgent, withAction, addAction, isFull, loadRecord, loadFrom, load}
+use Rattle.meaning.specs.FileLaws.{Fits, place, agent, action, end, faulty, record-fits, bare-agent}
+
+-- ---- sums below n
+
+-- f 0 + f 1 + .. below n
+sumBelow : (ℕ → ℕ) → ℕ → ℕ
+sumBelow f zero = 0
+sumBelow f (suc n) = sumBelow f n + f n
+
+sum-ext : (f g : ℕ → ℕ) (n : ℕ) → ((j : ℕ) → j < n → f j ≡ g j) → sumBelow f n ≡ sumBelow g n
+unfolding sumBelow
+sum-ext f g zero h = refl
+sum-ext f g (suc n) h = ap₂ _+_ (sum-ext f g n (λ j l. h j (omega arith))) (h n (omega arith))
+
+sum-most : (f : ℕ → ℕ) (n m : ℕ) → ((j : ℕ) → j < n → f j ≤ m) → sumBelow f n ≤ n * m
+unfolding sumBelow
+sum-most f zero m h = omega arith
+sum-most f (suc n) m h =
+  let a = sum-most f n m (λ j l. h j (omega arith)) in let b = h n (omega arith) in let c : suc n * m ≡ n * m + m = times n m in omega arith
+  where
+    times : (n m : ℕ) → suc n * m ≡ n * m + m
+    times n m = omega arith
+
+-- one more at i
+sum-more : (f g : ℕ → ℕ) (n i : ℕ) → i < n → g i ≡ f i + 1 → ((j : ℕ) → j ≢ i → g j ≡ f j) → sumBelow g n ≡ sumBelow f n + 1
+unfolding sumBelow
+sum-more f g zero i l e h = absurd (omega arith)
+sum-more f g (suc n) i l e h = go (eq? i n) (sum-more f g n i)
+  where
+    go : (i ≡ n) ⊎ (i ≢ n) → (i < n → g i ≡ f i + 1 → ((j : ℕ) → j ≢ i → g j ≡ f j) → sumBelow g n ≡ sumBelow f n + 1)
+      → sumBelow g n + g n ≡ sumBelow f n + f n + 1
+    go (inl q) r =
+      let a : sumBelow g n ≡ sumBelow f n = sum-ext g f n (λ j k. h j (λ z. absurd (omega arith))) in
+      let b : g n ≡ f n + 1 = ap g (sym q) ∙ e ∙ ap (λ (k : ℕ). f k + 1) q in omega arith
+    go (inr q) r = let a = r (omega arith) e h in let b : g n ≡ f n = h n (λ z. q (sym z)) in omega arith
+
+abbrev one : (ℕ → Bool) → ℕ → ℕ
+one f j = bit (f j)
+
+bit-most : (b : Bool) → bit b ≤ 1
+bit-most true = omega arith
+bit-most false = omega arith
+
+one-more : (f : ℕ → Bool) (n : ℕ) → n < 64 → f n ≡ false → sumBelow (one (λ j. eqb j n || f j)) 64 ≡ sumBelow (one f) 64 + 1
+one-more f n l e = sum-more (one f) (one (λ j. eqb j n || f j)) 64 n l (rw (eq-eqb n n refl, e)) (λ j q. rw (ne-eqb j n q))
+
+-- ---- how many bytes the cell so far took
+
+abbrev places : State → ℕ
+places c = sumBelow (one (c .land .used)) 64
+
+abbrev agents : State → ℕ
+agents c = sumBelow (one (c .given)) 64
+
+abbrev counts : State → ℕ → ℕ
+counts c x = c .agent x .count
+
+-- the cell so far took the bytes before the offset, the floor none, and no row is longer than sixteen
+record Took (c : State) (at : ℕ) : Type 0 where
+  size : at + 5 ≡ 5 * places c + 3 * agents c + 5 * sumBelow (counts c) 64
+  most : (j : ℕ) → j < 64 → counts c j ≤ 16
+
+took-bare : Took (cellOf bareTable) 0
+took-bare = record { size = unfold cellOf in unfold bareTable in unfold has in unfold sumBelow in refl
+  ; most = λ j l. subst (λ (a : Agent). a .count ≤ 16) (sym (bare-agent j l)) (omega arith) }
+
+at-most : (c : State) (at : ℕ) → Took c at → at ≤ 5627
+at-most c at t =
+  let p : places c ≤ 64 = sum-most (one (c .land .used)) 64 1 (λ j l. bit-most (c .land .used j)) in
+  let a : agents c ≤ 64 = sum-most (one (c .given)) 64 1 (λ j l. bit-most (c .given j)) in
+  let n : sumBelow (counts c) 64 ≤ 1024 = sum-most (counts c) 64 16 (t .most) in
+  omega (arith, t .size)
+
+took-place : (c : State) (at n p m : ℕ) → Took c at → n < 64 → c .land .used n ≡ false → Took (addPlace c n p m) (at + 5)
+unfolding addPlace
+took-place c at n p m t l e = record { size = omega (arith, t .size, one-more (c .land .used) n l e); most = t .most }
+
+home-count : (c : State) (n h j : ℕ) → counts (addAgent c n h) j ≡ counts c j
+unfolding addAgent
+home-count c n h j = go (eq? j n)
+  where
+    go : (j ≡ n) ⊎ (j ≢ n) → upd (c .agent) n (withHome (c .agent n) h) j .count ≡ c .agent j .count
+    go (inl e) = ap (λ (a : Agent). a .count) (upd-at (c .agent) n j (withHome (c .agent n) h) e) ∙ ap (λ (k : ℕ). c .agent k .count) (sym e)
+    go (inr q) = ap (λ (a : Agent). a .count) (upd-other (c .agent) n j (withHome (c .agent n) h) q)
+
+took-agent : (c : State) (at n h : ℕ) → Took c at → n < 64 → c .given n ≡ false → Took (addAgent c n h) (at + 3)
+took-agent c at n h t l e = record { size = omega (arith, t .size, given, same, land)
+  ; most = λ j k. subst (λ (z : ℕ). z ≤ 16) (sym (home-count c n h j)) (t .most j k) }
+  where
+    same : sumBelow (counts (addAgent c n h)) 64 ≡ sumBelow (counts c) 64
+    same = sum-ext (counts (addAgent c n h)) (counts c) 64 (λ j k. home-count c n h j)
+
+    land : places (addAgent c n h) ≡ places c
+    land = unfold addAgent in refl
+
+    given : agents (addAgent c n h) ≡ agents c + 1
+    given = unfold addAgent in one-more (c .given) n l e
+
+module _ (c : State) (n k m : ℕ) where
+  action-there : (j : ℕ) → j ≡ n → counts (addAction c n k m) j ≡ counts c n + 1
+  unfolding addAction withAction
+  action-there j e = ap (λ (a : Agent). a .count) (upd-at (c .agent) n j (withAction (c .agent n) k m) e)
+
+  action-else : (j : ℕ) → j ≢ n → counts (addAction c n k m) j ≡ counts c j
+  unfolding addAction withAction
+  action-else j q = ap (λ (a : Agent). a .count) (upd-other (c .agent) n j (withAction (c .agent n) k m) q)
+
+  took-action : (at : ℕ) → Took c at → n < 64 → isFull c n ≡ false → Took (addAction c n k m) (at + 5)
+  took-action at t l e = record { size = omega (arith, t .size, more, land, given); most = λ j h. go j h (eq? j n) }
+    where
+      more : sumBelow (counts (addAction c n k m)) 64 ≡ sumBelow (counts c) 64 + 1
+      more = sum-more (counts c) (counts (addAction c n k m)) 64 n l (action-there n refl) action-else
+
+      land : places (addAction c n k m) ≡ places c
+      land = unfold addAction in refl
+
+      given : agents (addAction c n k m) ≡ agents c
+      given = unfold addAction in refl
+
+      go : (j : ℕ) → j < 64 → (j ≡ n) ⊎ (j ≢ n) → counts (addAction c n k m) j ≤ 16
+      go j h (inl q) = subst (λ (z : ℕ). z ≤ 16) (sym (action-there j q)) (omega (arith, leb-false 16 (c .agent n .count) e))
+      go j h (inr q) = subst (λ (z : ℕ). z ≤ 16) (sym (action-else j q)) (t .most j h)
+
+-- ---- the file and its first b bytes
+
+module _ (s : List ℕ) (b : ℕ) (wide : 5633 ≤ b) (long : b ≤ length s) where
+  t : List ℕ
+  t = take b s
+
+  t-long : length t ≡ b
+  unfolding t
+  t-long = length-take-le b s long
+
+  same-byte : (i : ℕ) → i < b → byteAt t i ≡ byteAt s i
+  unfolding t
+  same-byte i l = getD-take b s i 0 l
+
+  same-record : (used given full : ℕ → Bool) (at : ℕ) → at ≤ 5627 → recordAt used given full t at ≡ recordAt used given full s at
+  unfolding recordAt
+  same-record used given full at l = rw (
+    same-byte at (omega arith),
+    same-byte (at + 1) (omega arith),
+    same-byte (at + 2) (omega arith),
+    same-byte (at + 3) (omega arith),
+    same-byte (at + 4) (omega arith),
+    le-ltb (length t - at) 5 (omega (arith, t-long)),
+    le-ltb (length t - at) 3 (omega (arith, t-long)),
+    le-ltb (length s - at) 5 (omega arith),
+    le-ltb (length s - at) 3 (omega arith))
+
+  same-load : (k m : ℕ) (c : State) (at : ℕ) → Took c at → b < k + at → length s < m + at → loadFrom k c t at ≡ loadFrom m c s at
+  unfolding loadFrom
+  same-load zero m c at h p q = absurd (omega (arith, at-most c at h))
+  same-load (suc k) zero c at h p q = absurd (omega (arith, at-most c at h))
+  same-load (suc k) (suc m) c at h p q =
+    rw (lt-ltb at (length t) (omega (arith, t-long, l)), lt-ltb at (length s) (omega (arith, l)), same-record (c .land .used) (c .given) (isFull c) at l)
+      (go (recordAt (c .land .used) (c .given) (isFull c) s at) (record-fits (c .land .used) (c .given) (isFull c) s at)
+        (λ d i g x y. same-load k m d i g x y))
+    where
+      l : at ≤ 5627
+      l = at-most c at h
+
+      go : (r : Record) → Fits (c .land .used) (c .given) (isFull c) r
+        → ((d : State) (i : ℕ) → Took d i → b < k + i → length s < m + i → loadFrom k d t i ≡ loadFrom m d s i)
+        → loadRecord (λ d i. loadFrom k d t i) c t at r ≡ loadRecord (λ d i. loadFrom m d s i) c s at r
+      go (PlaceRecord n x y) (place one low under new known named) r =
+        unfold loadRecord in r (addPlace c n x y) (at + 5) (took-place c at n x y h low new) (omega arith) (omega arith)
+      go (AgentRecord n x) (agent low under new known) r =
+        unfold loadRecord in r (addAgent c n x) (at + 3) (took-agent c at n x h low new) (omega arith) (omega arith)
+      go (ActionRecord n x y) (action low known room one three named) r =
+        unfold loadRecord in r (addAction c n x y) (at + 5) (took-action c n x y at h low room) (omega arith) (omega arith)
+      go EndRecord end r = unfold loadRecord in
+        rw (lt-ltb (at + 1) (length t) (omega (arith, t-long, l)), lt-ltb (at + 1) (length s) (omega (arith, l)))
+      go (Faulty n) faulty r = unfold loadRecord in refl
+
+-- whatever follows the first 5,633 bytes, the answer is theirs: the same cell, or the same refusal at the same offset
+pub prefix : (s : List ℕ) (b : ℕ) → 5633 ≤ b → load (take b s) ≡ load s
+prefix s b wide = go (told (leb (length s) b))
+  where
+    go : Told (leb (length s) b) → load (take b s) ≡ load s
+    go (yea e) = ap load (take-all b s (leb-true _ _ e))
+    go (nay e) = unfold load in unfold t in
+      (let l : b ≤ length s = omega (arith, leb-false (length s) b e) in
+      same-load s b wide l (suc (length (take b s))) (suc (length s)) (cellOf bareTable) 0 took-bare (omega (arith, t-long s b wide l)) (omega arith))
