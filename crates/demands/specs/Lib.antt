@@ -41,3 +41,5 @@ pub mod SoundTest
 pub mod SoundTestGiven
 pub mod LoadingLaws
 pub mod Always
+pub mod Agrees
+pub mod AgreesLaws

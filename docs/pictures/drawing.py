@@ -1,0 +1,164 @@
+"""How the pictures are drawn: text, lines and arrows, and places as boxes in boxes.
+
+Agents are yellow labels, a held lock is a dark label, a place on its way has a dashed edge.
+"""
+
+from html import escape
+from pathlib import Path
+
+HERE = Path(__file__).parent
+SANS = "Helvetica, Arial, 'DejaVu Sans', sans-serif"
+MONO = "Menlo, Consolas, 'DejaVu Sans Mono', monospace"
+
+INK, SOFT = "#1c1c1c", "#4a4a4a"
+EDGE, FILL = "#2f5d8a", "#eef4fa"
+WAY_EDGE, WAY_FILL = "#b0461a", "#fdf1ea"
+AGENT_EDGE, AGENT_FILL = "#8a6d00", "#fff3c4"
+LOCK_0, LOCK_1 = "#1b3a57", "#7a2e0e"
+LINE = "#333333"
+
+
+# ---- drawing
+
+class Svg:
+    """A drawing of a given size; parts are kept in the order they are added."""
+
+    def __init__(self, width, height, title, description):
+        self.width, self.height, self.title, self.description = width, height, title, description
+        self.parts = []
+
+    def rect(self, x, y, w, h, fill, edge, dashed=False, thick=1.6, round_by=8):
+        dash = ' stroke-dasharray="7 5"' if dashed else ""
+        self.parts.append(f'<rect x="{x:g}" y="{y:g}" width="{w:g}" height="{h:g}" rx="{round_by}" fill="{fill}" '
+                          f'stroke="{edge}" stroke-width="{thick:g}"{dash}/>')
+
+    def text(self, x, y, words, size=15, colour=INK, bold=False, anchor="start", mono=False):
+        weight = ' font-weight="bold"' if bold else ""
+        family = MONO if mono else SANS
+        self.parts.append(f'<text x="{x:g}" y="{y:g}" font-family="{family}" font-size="{size:g}" fill="{colour}" '
+                          f'text-anchor="{anchor}" xml:space="preserve"{weight}>{escape(words)}</text>')
+
+    def path(self, points, colour=LINE, thick=1.8, dashed=False, head=True):
+        """A line through the points, with an arrow head at the last one."""
+        d = "M " + " L ".join(f"{x:g} {y:g}" for x, y in points)
+        self._stroke(d, colour, thick, dashed, head)
+
+    def loop(self, x, y, up=True, colour=LINE):
+        """A small loop on the upper or lower edge of a box, from x - 16 back to x + 16."""
+        s = -1 if up else 1
+        self._stroke(f"M {x - 16:g} {y:g} C {x - 30:g} {y + s * 44:g} {x + 30:g} {y + s * 44:g} {x + 16:g} {y + s * 2:g}",
+                     colour, 1.8, False, True)
+
+    def _stroke(self, d, colour, thick, dashed, head):
+        dash = ' stroke-dasharray="6 5"' if dashed else ""
+        mark = f' marker-end="url(#head-{colour[1:]})"' if head else ""
+        self.parts.append(f'<path d="{d}" fill="none" stroke="{colour}" stroke-width="{thick:g}" '
+                          f'stroke-linejoin="round"{dash}{mark}/>')
+
+    def write(self, name):
+        heads = "".join(
+            f'<marker id="head-{c[1:]}" markerWidth="11" markerHeight="9" refX="10" refY="4.5" orient="auto" '
+            f'markerUnits="userSpaceOnUse"><path d="M 0 0 L 11 4.5 L 0 9 z" fill="{c}"/></marker>'
+            for c in (LINE, WAY_EDGE, SOFT))
+        lines = [f'<svg xmlns="http://www.w3.org/2000/svg" width="{self.width:g}" height="{self.height:g}" '
+                 f'viewBox="0 0 {self.width:g} {self.height:g}" role="img">',
+                 f"<title>{escape(self.title)}</title>", f"<desc>{escape(self.description)}</desc>",
+                 f"<defs>{heads}</defs>",
+                 f'<rect width="{self.width:g}" height="{self.height:g}" fill="#ffffff"/>', *self.parts, "</svg>", ""]
+        (HERE / name).write_text("\n".join(lines), encoding="utf-8")
+
+
+def width_of(words, size, bold=False):
+    """A width that the words stay within in any usual typeface."""
+    return len(words) * size * (0.69 if bold else 0.62)
+
+
+# ---- places in places
+
+PAD, GAP, TITLE, NOTE, CHIP, STEP = 12, 12, 18, 14, 26, 8
+
+
+def place(title, number, *contents, away=False, lock=None):
+    """A place: its title, its number, and in it agents and places; lock is the number of the agent that holds its lock."""
+    return {"title": title, "number": f"place {number}", "agents": [c for c in contents if "label" in c],
+            "places": [c for c in contents if "title" in c], "away": away, "lock": lock}
+
+
+def agent(number, row):
+    """An agent with its number and its unused actions."""
+    return {"label": f"agent {number}: {row}"}
+
+
+def spent(number):
+    """An agent that has used up its actions; a listing does not show it."""
+    return agent(number, "none left")
+
+
+def lock_words(box):
+    return "" if box["lock"] is None else f"locked by agent {box['lock']}"
+
+
+def head_width(box):
+    return width_of(box["title"], 16, True) + 14 + width_of(box["number"], 12)
+
+
+def size_of(box):
+    """Width and height of a box with all that is in it."""
+    labels = [a["label"] for a in box["agents"]]
+    inner = [size_of(p) for p in box["places"]]
+    widths = [head_width(box)] + [width_of(t, 14) + 16 for t in labels]
+    heights = [TITLE] + [CHIP] * len(labels)
+    if box["away"]:
+        heights.append(NOTE)
+    if box["lock"] is not None:
+        widths.append(width_of(lock_words(box), 13, True) + 16)
+        heights.append(CHIP)
+    if inner:
+        widths.append(sum(w for w, _ in inner) + GAP * (len(inner) - 1))
+        heights.append(max(h for _, h in inner))
+    return max(widths) + 2 * PAD, sum(heights) + STEP * (len(heights) - 1) + 2 * PAD
+
+
+def draw_box(svg, box, x, y, h=0):
+    """Draws a box at x, y, at least as high as it needs to be."""
+    w, need = size_of(box)
+    fill = WAY_FILL if box["away"] else "#ffffff" if box["number"] == "place 0" else FILL
+    svg.rect(x, y, w, max(h, need), fill, WAY_EDGE if box["away"] else EDGE, dashed=box["away"])
+    svg.text(x + PAD, y + PAD + 14, box["title"], 16, bold=True)
+    svg.text(x + w - PAD, y + PAD + 14, box["number"], 12, SOFT, anchor="end")
+    at = y + PAD + TITLE + STEP
+    if box["away"]:
+        svg.text(x + PAD, at + 11, "on its way", 13, WAY_EDGE)
+        at += NOTE + STEP
+    if box["lock"] is not None:
+        words = lock_words(box)
+        svg.rect(x + PAD, at, width_of(words, 13, True) + 16, CHIP, LOCK_1 if box["lock"] == 1 else LOCK_0, "none", round_by=4)
+        svg.text(x + PAD + 8, at + 18, words, 13, "#ffffff", bold=True)
+        at += CHIP + STEP
+    for a in box["agents"]:
+        svg.rect(x + PAD, at, width_of(a["label"], 14) + 16, CHIP, AGENT_FILL, AGENT_EDGE, round_by=12)
+        svg.text(x + PAD + 8, at + 18, a["label"], 14)
+        at += CHIP + STEP
+    across = x + PAD
+    for p in box["places"]:
+        draw_box(svg, p, across, at)
+        across += size_of(p)[0] + GAP
+
+
+def panels(name, title, description, rows):
+    """A picture of boxes side by side, each under a heading and over a listing, with arrows between them."""
+    margin, between, top = 20, 56, 44
+    sizes = [size_of(box) for _, box, _ in rows]
+    widths = [max(w, width_of(head, 15, True), width_of(listing, 13)) for (w, _), (head, _, listing) in zip(sizes, rows)]
+    tall = max(h for _, h in sizes)
+    svg = Svg(2 * margin + sum(widths) + between * (len(rows) - 1), top + tall + 48, title, description)
+    x = margin
+    for i, (head, box, listing) in enumerate(rows):
+        svg.text(x, 28, head, 15, bold=True)
+        draw_box(svg, box, x, top, h=tall)
+        svg.text(x, top + tall + 28, listing, 13, mono=True)
+        if i + 1 < len(rows):
+            svg.path([(x + max(widths[i], sizes[i][0]) + 10, top + tall / 2), (x + widths[i] + between - 10, top + tall / 2)],
+                     thick=2.4)
+        x += widths[i] + between
+    svg.write(name)
