@@ -1,7 +1,7 @@
 -- The keeper agrees with the published calculus: its tree is formed, so that `published` applies to the plain tree of demand 3.
-use mathlib.Core.Path.{_≡_, refl, sym, ap, _∙_, subst}
+use mathlib.Core.Path.{_≡_, refl, sym, subst}
 use mathlib.Core.Logic.{_⊎_, inl, inr}
-use mathlib.Core.List.{List, [], _∷_}
+use mathlib.Core.List.{List, []}
 use mathlib.Core.Bool.{Bool, true, false, not, _&&_}
 use Prim.Native.Nat.{ℕ, _≤_, _<_}
 use native.Mathlib.Omega.{arith}
@@ -13,17 +13,18 @@ use Rattle.meaning.specs.Run.{Call, rests}
 use Rattle.meaning.specs.File.{load, accepted}
 use Rattle.meaning.specs.Calculus.{Tree, Move}
 use Rattle.meaning.specs.Plain.{plainOf, treeOf, History, start, moved, stayed}
-use Rattle.calculus.specs.Formed.{Good, none, Formed}
+use Rattle.calculus.specs.Formed.{Good, Formed}
 use Rattle.calculus.specs.Terms.{Term, _⟶_}
 use Rattle.calculus.specs.TermOf.{term}
 use Rattle.calculus.specs.Published.{Moves, moves-none, moves-then, published}
-use Rattle.demands.specs.Reading.{parentIn, nameIn, agentIn}
-use Rattle.demands.specs.Invariant.{Sound, Inv}
+use Rattle.demands.specs.Reading.{parentIn, nameIn}
+use Rattle.demands.specs.Invariant.{Sound}
 use Rattle.demands.specs.SameTree.{tree-home, tree-unused}
 use Rattle.demands.specs.Loading.{accepted-fresh}
 use Rattle.demands.specs.LoadingLaws.{fresh-inv}
 use Rattle.demands.specs.AfterCalls.{StepChanges, reached, plainAfter, AfterCalls}
 use Rattle.demands.specs.DemandThree.{reached-inv, reached-tree, demand-three}
+use Rattle.demands.specs.DemandTwo.{demand-two}
 use Rattle.demands.specs.Agrees.{Agrees}
 
 -- the tree of a sound cell is formed
@@ -83,7 +84,10 @@ module _ (s : List ℕ) (c : State) (e : load s ≡ accepted c) (calls : List Ca
   agrees = record
     { reduces = published .run loaded-formed (history-moves (after .history))
     ; live = λ P r. go P r (awake? (cellOf (reached c calls) .given) (rests (reached c calls)) 64)
-    ; blocked = λ all P r. let m = published .moves reached-formed r in after .at-rest all (m .who) (m .after) (m .move) }
+    ; blocked = λ all P r. let m = published .moves reached-formed r in after .at-rest all (m .who) (m .after) (m .move)
+    ; complete = λ still P r. let m = published .moves reached-formed r in record
+      { who = m .who; after = m .after; same = m .same
+      ; reaches = demand-two s c e calls still (m .who) (m .after) (subst (λ t. Move t (m .who) (m .after)) (reached-tree s c e calls) (m .move)) } }
     where
       go : (P : Term) → term (plainAfter c calls .tree) ⟶ P
         → ((x : ℕ) × ((cellOf (reached c calls) .given x ≡ true) × (rests (reached c calls) x ≡ false)))

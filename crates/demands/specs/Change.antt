@@ -115,8 +115,8 @@ module _ {c c′ : State} {x : ℕ} {quiet : ℕ → Type 0} (s : Sound c) (m : 
   was : (y : ℕ) → y ≢ x → Travels (after y) → Travels (agentIn c y)
   was y n t = roused-travels (m .roused y) (subst Travels (other y n) t)
 
-  now : (y : ℕ) → y ≢ x → agentIn c y .stage ≢ 7 → after y ≡ agentIn c y
-  now y n a = other y n ∙ roused-awake (m .roused y) a
+  kept-awake : (y : ℕ) → y ≢ x → agentIn c y .stage ≢ 7 → after y ≡ agentIn c y
+  kept-awake y n a = other y n ∙ roused-awake (m .roused y) a
 
   -- each fact of a sound cell, of the agents after
   others-ok : (y : ℕ) → y ≢ x → Ok (c′ .land) (c′ .lock) y (m .woke y)
@@ -148,7 +148,7 @@ module _ {c c′ : State} {x : ℕ} {quiet : ℕ → Type 0} (s : Sound c) (m : 
           at : (y ≡ x) ⊎ (y ≢ x) → Kept (c′ .land) (c′ .lock) after q
           at (inl e) = mine (m .mine q v (is-mine (subst (Has (c .lock) q) e h)
             (subst (λ (a : Agent). Holds (c .land) a q) (ap (agentIn c) e ∙ before) k)))
-          at (inr n) = kept y (m .has y q n h) (subst (λ (b : Agent). Holds (c′ .land) b q) (sym (now y n (holds-awake k))) (holds y n k))
+          at (inr n) = kept y (m .has y q n h) (subst (λ (b : Agent). Holds (c′ .land) b q) (sym (kept-awake y n (holds-awake k))) (holds y n k))
 
   moved : (q : ℕ) → c′ .land .used q ≡ true → q ≢ 0 → linked (c′ .land) q ≡ false → Mover after q
   moved q u z b = go (eq? q (c .agent x .home))
@@ -161,7 +161,7 @@ module _ {c c′ : State} {x : ℕ} {quiet : ℕ → Type 0} (s : Sound c) (m : 
         let w = s .mover q (sym (m .used q) ∙ u) z l in
         let n : w .who ≢ x = λ e. not-x (w .who) e (w .goes) (w .lives) in
         let a : agentIn c (w .who) .stage ≢ 7 = λ e. let t = w .goes .to in omega arith in
-        record { who = w .who; lives = same-home (w .who) ∙ w .lives; goes = subst Travels (sym (now (w .who) n a)) (w .goes) }
+        record { who = w .who; lives = same-home (w .who) ∙ w .lives; goes = subst Travels (sym (kept-awake (w .who) n a)) (w .goes) }
 
       ours : q ≡ c .agent x .home → Travels (m .new) ⊎ ((linked (c .land) (c .agent x .home) ≡ false) × (Travels (c .agent x) → ⊥)) → Mover after q
       ours e (inl t) = record { who = x; lives = same-home x ∙ own-home x refl ∙ sym e; goes = mine t }

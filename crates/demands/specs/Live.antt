@@ -21,6 +21,7 @@ use Rattle.demands.specs.ReadingLaws.{agent-given}
 use Rattle.demands.specs.Invariant.{Under, Ok, ok0, ok1, ok2, ok3-move, ok3-open, ok4, ok5, ok6, ok7, ok8, Holds, near, far, own, destination, Kept, free, kept, Sound}
 use Rattle.demands.specs.Facts.{link-used, under-fits, under-of, choice-fits, opens-fits, stays-under, second-move, second-open}
 use Rattle.demands.specs.Stages.{ok-at, rest-stage, ok-given, home-given}
+use Rattle.demands.specs.SoundTestGiven.{stage-given}
 use Rattle.demands.specs.Ways.{Way, is-done, is-asleep, held-first, held-second, held-own, held-destination, looks-up, looks-home, sleeps-alone, takes-first, goes-back, sleeps-stuck, takes-second, gives-up, enters, exits, opens, takes-own, takes-destination, comes}
 use Rattle.demands.specs.StepWays.{kind-given, step-way}
 
@@ -35,13 +36,12 @@ pub record Goes (c : State) : Type 0 where
 pub goes-changes : (c : State) (g : Goes c) (w : ℕ) → step c (g .who) w .cell ≢ c
 goes-changes c g w e = g .changes w (ap (λ d. d .agent (g .who) .stage) e)
 
--- an agent that is not done is given
-pub awake-given : (c : State) (x : ℕ) → agentIn c x .stage ≤ 7 → c .given x ≡ true
-awake-given c x l = go (told (c .given x))
-  where
-    go : Told (c .given x) → c .given x ≡ true
-    go (yea e) = e
-    go (nay e) = let s : agentIn c x .stage ≡ 8 = unfold agentIn in rw e in absurd (omega arith)
+-- an agent that holds a lock is at stages 2 to 6
+pub holds-between : {l : Land} {a : Agent} {q : ℕ} → Holds l a q → (2 ≤ a .stage) × (a .stage ≤ 6)
+holds-between (near lo hi e) = (lo, omega arith)
+holds-between (far s e) = (omega arith, omega arith)
+holds-between (own lo hi e) = (omega arith, hi)
+holds-between (destination s e) = (omega arith, omega arith)
 
 -- the stage after opened or came is none of 1 to 7
 rest-differs : (s : ℕ) (a : Agent) → 1 ≤ s → s ≤ 7 → s ≢ restStage a
@@ -71,7 +71,7 @@ module _ (c : State) (i : Sound c) (x : ℕ) (g : c .given x ≡ true) where
   other-stage s k b f e d n z = n (sym e ∙ sym z ∙ ap (λ v. v .stage) (upd-same f x b) ∙ d)
 
   -- the second place is linked to the remembered one
-  second-under : (w : ℕ) → stays (c .land) (c .agent x) ≡ true → choice (c .land) (c .agent x) w < 64
+  pub second-under : (w : ℕ) → stays (c .land) (c .agent x) ≡ true → choice (c .land) (c .agent x) w < 64
     → Under (c .land) (secondPlace (kindOf (c .agent x)) (c .agent x .home) (choice (c .land) (c .agent x) w)) (c .agent x .remembered)
   second-under w st l = go (eq? (kindOf (c .agent x)) 3)
     where
@@ -82,7 +82,9 @@ module _ (c : State) (i : Sound c) (x : ℕ) (g : c .given x ≡ true) where
       to r e = subst (λ (n : ℕ). Under (c .land) n (c .agent x .remembered)) (sym e)
       go : (kindOf (c .agent x) ≡ 3) ⊎ (kindOf (c .agent x) ≢ 3) → Under (c .land) (secondPlace (kindOf (c .agent x)) (c .agent x .home) q) (c .agent x .remembered)
       go (inl k) = to q (second-open _ _ q k) (opens-fits (c .land) _ _ _ _ q k (choice-fits (c .land) (c .agent x) w q refl l) .0 .under)
-      go (inr n) = let k : kindOf (c .agent x) ≤ 2 = omega (arith, kind-given c i x g) in to (c .agent x .home) (second-move _ _ q k) (stays-under (c .land) (c .agent x) k st)
+      go (inr n) =
+        let k : kindOf (c .agent x) ≤ 2 = omega (arith, kind-given c i x g) in
+        to (c .agent x .home) (second-move _ _ q k) (stays-under (c .land) (c .agent x) k st)
 
   -- a step changes the agent's stage, or the agent waits
   change : {w : ℕ} {o : Outcome} → Way c x w o → (o .cell .agent x .stage ≢ c .agent x .stage) ⊎ Waits c x
@@ -142,13 +144,9 @@ module _ (c : State) (i : Sound c) where
       by y g (destination s f) = goes (free-to c i y g 6 s (omega arith) (λ r z. absurd z))
       go : Kept (c .land) (c .lock) (agentIn c) q → Holder q
       go (free f) = absurd (n f)
-      go (kept y h r) = let g = awake-given c y (below r) in by y g (subst (λ (a : Agent). Holds (c .land) a q) (agent-given c y g) r)
-        where
-          below : {a : Agent} → Holds (c .land) a q → a .stage ≤ 7
-          below (near lo hi f) = omega arith
-          below (far s f) = omega arith
-          below (own lo hi f) = omega arith
-          below (destination s f) = omega arith
+      go (kept y h r) =
+        let g = stage-given c y (λ z. omega (arith, holds-between r .1)) in
+        by y g (subst (λ (a : Agent). Holds (c .land) a q) (agent-given c y g) r)
 
   -- ---- stage 2: down along links
 
@@ -164,11 +162,16 @@ module _ (c : State) (i : Sound c) where
 
   too-deep : (p : ℕ) → c .land .used p ≡ true → Deep 64 p → ⊥
   unfolding Deep
-  too-deep p u d = d (sixty-three (parentIn (c .land)) (i .places .floor-parent) (λ q _. i .places .small _ (i .places .parent-used q)) (i .places .small p u) (i .places .tree p))
+  too-deep p u d = d (sixty-three (parentIn (c .land)) (i .places .floor-parent) (λ q _. i .places .small _ (i .places .parent-used q))
+    (i .places .small p u) (i .places .tree p))
 
   -- a place linked to p is locked
   lockedUnder : ℕ → ℕ → Bool
   lockedUnder p q = linkedTo (c .land) q p && not (eqb (c .lock q) none)
+
+  -- an agent at stage 2 that holds a deeper place leads to one that goes
+  abbrev Deeper : ℕ → Type 0
+  Deeper k = (y : ℕ) → c .given y ≡ true → c .agent y .stage ≡ 2 → Deep (suc k) (c .agent y .remembered) → Goes c
 
   down : (n k : ℕ) → k + n ≡ 64 → (x : ℕ) → c .given x ≡ true → c .agent x .stage ≡ 2 → Deep k (c .agent x .remembered) → Goes c
   unfolding lockedUnder
@@ -183,11 +186,11 @@ module _ (c : State) (i : Sound c) where
           at : (c .lock q ≡ none) ⊎ (c .lock q ≢ none) → c .lock q ≡ none
           at (inl e) = e
           at (inr h) = clash (any-at (lockedUnder p) 64 q (i .places .small q (link-used (c .land) q (u .link))) (rw (under-of (c .land) q p u, ne-eqb (c .lock q) none h))) f
-      on : (q : ℕ) → Under (c .land) q p → Holder q → ((y : ℕ) → c .given y ≡ true → c .agent y .stage ≡ 2 → Deep (suc k) (c .agent y .remembered) → Goes c) → Goes c
+      on : (q : ℕ) → Under (c .land) q p → Holder q → Deeper k → Goes c
       on q u (goes r) more = r
       on q u (at-two y h t f) more = more y h t (subst (Deep (suc k)) f (deeper k p q d u))
       on q u (at-five y h t f) more = clash (u .link) (ap (linked (c .land)) f ∙ ok-at 5 t (ok-given c i y h) .0 .loose)
-      go : Told (anyBelow (lockedUnder p) 64) → ((y : ℕ) → c .given y ≡ true → c .agent y .stage ≡ 2 → Deep (suc k) (c .agent y .remembered) → Goes c) → Goes c
+      go : Told (anyBelow (lockedUnder p) 64) → Deeper k → Goes c
       go (nay f) more = free-to c i x g 2 s (omega arith) (clear f)
       go (yea f) more =
         let t = any-found (lockedUnder p) 64 f in
@@ -202,17 +205,21 @@ module _ (c : State) (i : Sound c) where
 
   -- ---- stage 5: up along destinations
 
-  climb : {q : ℕ} → Up (parentIn (c .land)) q → (x : ℕ) → c .given x ≡ true → q ≡ c .agent x .home → c .agent x .stage ≡ 5 → Goes c
+  -- an agent at stage 5 of place q leads to one that goes
+  abbrev Higher : ℕ → Type 0
+  Higher q = (y : ℕ) → c .given y ≡ true → q ≡ c .agent y .home → c .agent y .stage ≡ 5 → Goes c
+
+  climb : {q : ℕ} → Up (parentIn (c .land)) q → Higher q
   climb base x g e s = absurd (ok-at 5 s (ok-given c i x g) .0 .placed (sym e))
   climb (up q u) x g e s = go (eq? (c .lock d) none) (λ y h f t. climb u y h f t)
     where
       d : ℕ
       d = parentIn (c .land) (c .agent x .home)
-      on : Holder d → ((y : ℕ) → c .given y ≡ true → parentIn (c .land) q ≡ c .agent y .home → c .agent y .stage ≡ 5 → Goes c) → Goes c
+      on : Holder d → Higher (parentIn (c .land) q) → Goes c
       on (goes r) more = r
       on (at-two y h t f) more = second-stage y h t
       on (at-five y h t f) more = more y h (ap (parentIn (c .land)) e ∙ f) t
-      go : (c .lock d ≡ none) ⊎ (c .lock d ≢ none) → ((y : ℕ) → c .given y ≡ true → parentIn (c .land) q ≡ c .agent y .home → c .agent y .stage ≡ 5 → Goes c) → Goes c
+      go : (c .lock d ≡ none) ⊎ (c .lock d ≢ none) → Higher (parentIn (c .land) q) → Goes c
       go (inl f) more = free-to c i x g 5 s (omega arith) (λ r z. ap (c .lock) z ∙ f)
       go (inr n) more = on (holder d (i .places .parent-used _) n) more
 

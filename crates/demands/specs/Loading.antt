@@ -83,34 +83,34 @@ module _ (c : State) (f : Fresh c) (n p m : ℕ) (n0 : n ≢ 0) (n64 : n < 64) (
   abbrev was : Land
   was = c .land
 
-  abbrev now : Land
-  now = addPlace c n p m .land
+  abbrev grown : Land
+  grown = addPlace c n p m .land
 
-  used-added : now .used ≡ upd (was .used) n true
+  used-added : grown .used ≡ upd (was .used) n true
   unfolding addPlace
   used-added = or-upd (was .used) n
 
-  parent-added : parentIn now ≡ upd (parentIn was) n p
+  parent-added : parentIn grown ≡ upd (parentIn was) n p
   unfolding addPlace parentIn upd
   parent-added = fun-ext λ q. go q (told (eqb q n))
     where
-      go : (q : ℕ) → Told (eqb q n) → parentIn now q ≡ upd (parentIn was) n p q
+      go : (q : ℕ) → Told (eqb q n) → parentIn grown q ≡ upd (parentIn was) n p q
       go q (yea e) = rw (e, upd)
       go q (nay e) = rw (e, upd)
 
-  name-added : nameIn now ≡ upd (nameIn was) n m
+  name-added : nameIn grown ≡ upd (nameIn was) n m
   unfolding addPlace nameIn upd
   name-added = fun-ext λ q. go q (told (eqb q n))
     where
-      go : (q : ℕ) → Told (eqb q n) → nameIn now q ≡ upd (nameIn was) n m q
+      go : (q : ℕ) → Told (eqb q n) → nameIn grown q ≡ upd (nameIn was) n m q
       go q (yea e) = rw (e, upd)
       go q (nay e) = rw (e, upd)
 
-  linked-added : linked now ≡ upd (linked was) n true
+  linked-added : linked grown ≡ upd (linked was) n true
   unfolding addPlace linked upd
   linked-added = fun-ext λ q. go q (told (eqb q n))
     where
-      go : (q : ℕ) → Told (eqb q n) → linked now q ≡ upd (linked was) n true q
+      go : (q : ℕ) → Told (eqb q n) → linked grown q ≡ upd (linked was) n true q
       go q (yea e) = rw (e, upd)
       go q (nay e) = rw (e, upd)
 
@@ -118,17 +118,17 @@ module _ (c : State) (f : Fresh c) (n p m : ℕ) (n0 : n ≢ 0) (n64 : n < 64) (
   other : (q : ℕ) → was .used q ≡ true → q ≢ n
   other q u e = clash u (ap (was .used) e ∙ new)
 
-  still-used : (q : ℕ) → was .used q ≡ true → now .used q ≡ true
+  still-used : (q : ℕ) → was .used q ≡ true → grown .used q ≡ true
   still-used q u = rw used-added (upd-other (was .used) n q true (other q u) ∙ u)
 
-  used-before : (q : ℕ) → q ≢ n → now .used q ≡ true → was .used q ≡ true
+  used-before : (q : ℕ) → q ≢ n → grown .used q ≡ true → was .used q ≡ true
   used-before q d u = sym (ap (λ (g : ℕ → Bool). g q) used-added ∙ upd-other (was .used) n q true d) ∙ u
 
   way-off : {q : ℕ} → was .used q ≡ true → Up (parentIn was) q → Off (parentIn was) n q
   way-off u base = off0
   way-off u (up q v) = offs q (other q u) (way-off (f .places .parent-used q) v)
 
-  add-places : Places now
+  add-places : Places grown
   add-places = record
     { floor-used = still-used 0 (f .places .floor-used)
     ; floor-parent = rw parent-added (upd-other (parentIn was) n 0 p (λ e. n0 (sym e)) ∙ f .places .floor-parent)
@@ -136,15 +136,15 @@ module _ (c : State) (f : Fresh c) (n p m : ℕ) (n0 : n ≢ 0) (n64 : n < 64) (
     ; floor-name = rw name-added (upd-other (nameIn was) n 0 m (λ e. n0 (sym e)) ∙ f .places .floor-name)
     ; tree = λ q. rw parent-added (move-up (parentIn was) (f .places .floor-parent) n p n0 (way-off old (f .places .tree p)) (f .places .tree q))
     ; parent-used = λ q. rw parent-added
-        (upd-all (parentIn was) n p (λ _ v. now .used v ≡ true) (still-used p old) (λ r _. still-used _ (f .places .parent-used r)) q)
+        (upd-all (parentIn was) n p (λ _ v. grown .used v ≡ true) (still-used p old) (λ r _. still-used _ (f .places .parent-used r)) q)
     ; small = λ q u. small q u (eq? q n)
     ; named = λ q u z. rw name-added (named q u z (eq? q n)) }
     where
-      small : (q : ℕ) → now .used q ≡ true → (q ≡ n) ⊎ (q ≢ n) → q < 64
+      small : (q : ℕ) → grown .used q ≡ true → (q ≡ n) ⊎ (q ≢ n) → q < 64
       small q u (inl e) = omega arith
       small q u (inr d) = f .places .small q (used-before q d u)
 
-      named : (q : ℕ) → now .used q ≡ true → q ≢ 0 → (q ≡ n) ⊎ (q ≢ n) → 1 ≤ upd (nameIn was) n m q
+      named : (q : ℕ) → grown .used q ≡ true → q ≢ 0 → (q ≡ n) ⊎ (q ≢ n) → 1 ≤ upd (nameIn was) n m q
       named q u z (inl e) = rw (upd-at (nameIn was) n q m e) m1
       named q u z (inr d) = rw (upd-other (nameIn was) n q m d) (f .places .named q (used-before q d u) z)
 
@@ -164,11 +164,11 @@ module _ (c : State) (f : Fresh c) (n p m : ℕ) (n0 : n ≢ 0) (n64 : n < 64) (
       ; agent = unfold addPlace in f .bounds .agent
       ; given = unfold addPlace in f .bounds .given } }
     where
-      link : (q : ℕ) → now .used q ≡ true → q ≢ 0 → (q ≡ n) ⊎ (q ≢ n) → upd (linked was) n true q ≡ true
+      link : (q : ℕ) → grown .used q ≡ true → q ≢ 0 → (q ≡ n) ⊎ (q ≢ n) → upd (linked was) n true q ≡ true
       link q u z (inl e) = upd-at (linked was) n q true e
       link q u z (inr d) = upd-other (linked was) n q true d ∙ f .settled q (used-before q d u) z
 
-      empty : (q : ℕ) → now .used q ≡ false → (q ≡ n) ⊎ (q ≢ n) → now .place q ≡ noPlace
+      empty : (q : ℕ) → grown .used q ≡ false → (q ≡ n) ⊎ (q ≢ n) → grown .place q ≡ noPlace
       empty q e (inl z) = clash (rw used-added (upd-at (was .used) n q true z)) e
       empty q e (inr d) = unfold addPlace in upd-other (was .place) n q (linkedPlace m p) d
         ∙ f .no-places q (sym (ap (λ (g : ℕ → Bool). g q) used-added ∙ upd-other (was .used) n q true d) ∙ e)

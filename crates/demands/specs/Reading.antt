@@ -1,5 +1,5 @@
 -- What is read of a cell in the proofs: a number that is not in use reads as one under the floor, or as an agent that is done.
-use mathlib.Core.Bool.{Bool, true, false, cond}
+use mathlib.Core.Bool.{cond}
 use Prim.Native.Nat.{ℕ}
 use Rattle.table.specs.Cell.{Land, State, freshAgent}
 use Rattle.table.specs.declared.Agent.{Agent}

@@ -1,17 +1,16 @@
 -- What a step does to what is read of a cell: each change of places or agents is one value changed, or a plain rule for each number.
 -- By cases on whether a number is in use and whether it is the one that changes.
-use mathlib.Core.Path.{_≡_, refl, sym, ap, _∙_, subst, fun-ext}
-use mathlib.Core.Logic.{_≢_, _⊎_, inl, inr}
+use mathlib.Core.Path.{_≡_, refl, sym, ap, _∙_, fun-ext}
+use mathlib.Core.Logic.{_≢_}
 use Prim.Native.Nat.{ℕ}
-use mathlib.Core.Bool.{Bool, true, false, not, _&&_, _||_, cond}
+use mathlib.Core.Bool.{Bool, true, false, not, _&&_, cond}
 use lib.Dec.{eqb}
-use borrow.Author.Tests.{eqb-true, eq-eqb, ne-eqb}
+use borrow.Author.Tests.{eqb-true, ne-eqb}
 use Rattle.table.specs.Base.{upd}
-use Rattle.table.specs.BaseLaws.{Told, yea, nay, told, clash}
-use Rattle.table.specs.Cell.{Land, State, none, noPlace, freshAgent, linked}
-use Rattle.table.specs.declared.Place.{Place}
+use Rattle.table.specs.BaseLaws.{Told, yea, nay, told}
+use Rattle.table.specs.Cell.{Land, State, freshAgent, linked}
 use Rattle.table.specs.declared.Agent.{Agent}
-use Rattle.meaning.specs.Update.{atStage, withParent, withAgent, withHome}
+use Rattle.meaning.specs.Update.{atStage, withAgent}
 use Rattle.meaning.specs.Step.{sendTo, linkUp, dissolveLand, asleepOn, wake, dissolveAgent}
 use Rattle.demands.specs.Reading.{parentIn, nameIn, agentIn}
 

@@ -90,11 +90,13 @@ module _ (c : State) (x : ℕ) (g : c .given x ≡ true) where
   same-own = agent-given c x g
 
   -- one agent changes and keeps its home
-  turned-home : (h : ℕ → Agent) (b : Agent) → b .home ≡ own .home → ((y : ℕ) → h y .home ≡ agentIn c y .home) → (y : ℕ) → upd h x b y .home ≡ agentIn c y .home
+  turned-home : (h : ℕ → Agent) (b : Agent) → b .home ≡ own .home → ((y : ℕ) → h y .home ≡ agentIn c y .home)
+    → (y : ℕ) → upd h x b y .home ≡ agentIn c y .home
   turned-home h b e r = upd-all h x b (λ y v. v .home ≡ agentIn c y .home) (e ∙ sym (ap (λ v. v .home) same-own)) (λ y _. r y)
 
   -- or keeps its actions
-  turned-unused : (h : ℕ → Agent) (b : Agent) → unused b ≡ unused own → ((y : ℕ) → unused (h y) ≡ unused (agentIn c y)) → (y : ℕ) → unused (upd h x b y) ≡ unused (agentIn c y)
+  turned-unused : (h : ℕ → Agent) (b : Agent) → unused b ≡ unused own → ((y : ℕ) → unused (h y) ≡ unused (agentIn c y))
+    → (y : ℕ) → unused (upd h x b y) ≡ unused (agentIn c y)
   turned-unused h b e r = upd-all h x b (λ y v. unused v ≡ unused (agentIn c y)) (e ∙ sym (ap unused same-own)) (λ y _. r y)
 
   -- or uses one up
@@ -123,7 +125,8 @@ module _ (c : State) (x : ℕ) (g : c .given x ≡ true) where
   pub tree-came : (d : ℕ) → treeOf (arrive c x own d .cell) ≡ treeOf c
   unfolding agentIn unused arrive
   tree-came d = tree-read (arrive c x own d .cell) ∙ ap (readTree (linkUp l (own .home))) (agent-woken c (own .home) d (beyond l d) x b g) ∙ linked-same
-      ∙ same-tree l (agentIn c) _ (turned-home h b refl (λ y. woken-home (own .home) d (beyond l d) (agentIn c y))) (turned-unused h b refl (λ y. woken-unused (own .home) d (beyond l d) (agentIn c y)))
+      ∙ same-tree l (agentIn c) _ (turned-home h b refl (λ y. woken-home (own .home) d (beyond l d) (agentIn c y)))
+        (turned-unused h b refl (λ y. woken-unused (own .home) d (beyond l d) (agentIn c y)))
       ∙ sym (tree-read c)
     where
       l : Land
@@ -133,7 +136,8 @@ module _ (c : State) (x : ℕ) (g : c .given x ≡ true) where
       b : Agent
       b = atStage own (restStage own) 0 0
       linked-same : readTree (linkUp l (own .home)) (upd h x b) ≡ readTree l (upd h x b)
-      linked-same = unfold readTree in λ j. record { used = l .used; name = name-linked l (own .home) j; parent = parent-linked l (own .home) j; home = λ y. upd h x b y .home; unused = λ y. unused (upd h x b y) }
+      linked-same = unfold readTree in λ j. record { used = l .used; name = name-linked l (own .home) j; parent = parent-linked l (own .home) j
+        ; home = λ y. upd h x b y .home; unused = λ y. unused (upd h x b y) }
 
   -- leaving puts the agent's place into its destination
   pub tree-left : (d : ℕ) → c .land .used (own .home) ≡ true → treeOf (leave c x own d .cell) ≡ putInto (treeOf c) x d

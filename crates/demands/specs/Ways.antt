@@ -1,14 +1,12 @@
 -- The ways a step can go: one case for each, with its conditions as equations.
 use mathlib.Core.Path.{_≡_}
 use mathlib.Core.Logic.{_≢_}
-use mathlib.Core.Bool.{Bool, true, false, cond}
+use mathlib.Core.Bool.{true, false, cond}
 use Prim.Native.Nat.{ℕ, _≤_, _<_}
 use lib.Dec.{eqb}
 use Rattle.table.specs.Base.{upd}
-use Rattle.table.specs.Cell.{Land, State, none, linked, kindOf}
+use Rattle.table.specs.Cell.{State, none, linked, kindOf}
 use Rattle.table.specs.Sound.{secondPlace}
-use Rattle.table.specs.declared.Agent.{Agent}
-use Rattle.meaning.specs.declared.Word.{Word}
 use Rattle.meaning.specs.declared.Word.the-variants.{Looked, Took, Held, Back, Slept, Asleep, Done}
 use Rattle.meaning.specs.Update.{atStage, withAgent, withLocks, released}
 use Rattle.meaning.specs.Step.{Outcome, still, choice, stays, fires, leave, dissolve, arrive}

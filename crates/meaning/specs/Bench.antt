@@ -1,10 +1,10 @@
 -- The rows of document 01's bench cases that are marked P, and the worked example of `walk`: one computed table, one result.
 use mathlib.Core.Path.{_≡_, refl}
-use mathlib.Core.Bool.{Bool, true, false, not, _&&_, _||_, cond}
-use mathlib.Core.List.{List, [], _∷_, _++_}
+use mathlib.Core.Bool.{Bool, true, false, _&&_}
+use mathlib.Core.List.{List, [], _∷_}
 use Prim.Native.Nat.{ℕ}
 use Prim.Native.String.{String}
-use lib.Dec.{eqb, ltb, leb}
+use lib.Dec.{eqb}
 use Rattle.sets.specs.Word.{has, wordOf, countOf, lowestOf, chosenOf}
 use Rattle.table.specs.Base.{upd, tab, foldUp, allBelow, anyBelow, countBelow, iter}
 use Rattle.table.specs.Cell.{cellOf, tableOf, bareTable, linked, linkedTo, travels, nextAction}

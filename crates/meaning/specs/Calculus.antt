@@ -1,8 +1,8 @@
 -- The ambient calculus on a tree of places (document 01, "The plain tree"): what it permits and what a move makes.
 -- Red Enter and Red Exit of source 002 section 2.3 and Red Open of source 004, by themselves: no lock, stage or wish plays a part.
-use Prim.Native.Nat.{ℕ, zero, suc, _+_}
+use Prim.Native.Nat.{ℕ}
 use mathlib.Core.Path.{_≡_}
-use mathlib.Core.Bool.{Bool, true, false, not, _&&_, _||_, cond}
+use mathlib.Core.Bool.{Bool, true, false, not, _&&_, cond}
 use mathlib.Core.List.{List, [], _∷_}
 use lib.Dec.{eqb}
 use Rattle.table.specs.Base.{upd}

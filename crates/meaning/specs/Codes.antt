@@ -1,6 +1,6 @@
 -- The remaining calls on a table, and every answer as numbers: refusals by the numbers of document 01, words by those of the register window.
 use Prim.Native.Nat.{ℕ, _+_, _*_, _%_, _^_}
-use mathlib.Core.Bool.{Bool, cond}
+use mathlib.Core.Bool.{cond}
 use Rattle.table.specs.Cell.{cellOf}
 use Rattle.table.specs.Sound.{sound}
 use Rattle.table.specs.Idle.{idle}

@@ -1,18 +1,15 @@
 -- The cell file (document 01, "The cell file" and "Turned-away calls"): records, the order of checks, and the load of a whole file.
 use Prim.Native.Nat.{ℕ, zero, suc, _+_, _*_, _-_}
-use mathlib.Core.Bool.{Bool, true, false, not, _&&_, _||_, cond}
-use mathlib.Core.List.{List, []}
+use mathlib.Core.Bool.{Bool, _||_, cond}
+use mathlib.Core.List.{List}
 use lib.Dec.{ltb, leb, eqb}
 use lib.ListN.{length, getD, set}
 use Rattle.table.specs.Base.{upd}
-use Rattle.table.specs.Cell.{Land, State, cellOf, tableOf, bareTable}
-use Rattle.table.specs.declared.Place.{Place}
-use Rattle.table.specs.declared.Action.{Action}
+use Rattle.table.specs.Cell.{State, cellOf, tableOf, bareTable}
 use Rattle.table.specs.declared.Agent.{Agent}
 use Rattle.table.specs.declared.Cell.{Cell}
 use Rattle.meaning.specs.declared.Record.{Record}
 use Rattle.meaning.specs.declared.Record.the-variants.{PlaceRecord, AgentRecord, ActionRecord, EndRecord, Faulty}
-use Rattle.meaning.specs.declared.Verdict.{Verdict}
 use Rattle.meaning.specs.declared.Verdict.the-variants.{Accepted, Rejected}
 use Rattle.meaning.specs.declared.Loaded.{Loaded}
 use Rattle.meaning.specs.Update.{linkedPlace, withHome, withStage, withCount, withActions, withPlaces, withUsed, withLand, withGiven, withAgent}

@@ -1,15 +1,14 @@
 -- The listing (document 01, "The listing"): "A term, in ASCII: a place writes its contents and contents write places."
-use Prim.Native.Nat.{ℕ, zero, suc, _+_}
-use mathlib.Core.Bool.{Bool, true, false, not, _&&_, _||_, cond}
-use mathlib.Core.List.{List, [], _∷_, _++_}
+use Prim.Native.Nat.{ℕ, zero, suc}
+use mathlib.Core.Bool.{Bool, not, _&&_, cond}
+use mathlib.Core.List.{List, [], _++_}
 use lib.Dec.{ltb, leb, eqb}
 use lib.ListN.{length, getD}
 use Rattle.table.specs.Base.{tab, foldUp}
-use Rattle.table.specs.Cell.{State, cellOf, noAction}
+use Rattle.table.specs.Cell.{State, noAction}
 use Rattle.table.specs.Sound.{sound}
 use Rattle.table.specs.declared.Action.{Action}
 use Rattle.table.specs.declared.Agent.{Agent}
-use Rattle.table.specs.declared.Cell.{Cell}
 use Rattle.meaning.specs.declared.Listed.{Listed}
 use Rattle.meaning.specs.declared.Listed.the-variants.{Length, Unlisted}
 use Rattle.meaning.specs.Text.{ascii, decimal, gap, joined, overlay}

@@ -1,14 +1,12 @@
 -- The plain tree (document 01, "The plain tree"): "It is kept beside the cell from each step call's agent, wish and answered word, and
 -- from nothing else."
-use Prim.Native.Nat.{ℕ, zero, suc, _+_}
+use Prim.Native.Nat.{ℕ}
 use mathlib.Core.Path.{_≡_}
-use mathlib.Core.Bool.{Bool, true, false, not, _&&_, _||_, cond}
+use mathlib.Core.Bool.{Bool, true, false, _||_, cond}
 use mathlib.Core.List.{List, [], _∷_}
 use lib.Dec.{eqb}
 use Rattle.table.specs.Base.{upd}
 use Rattle.table.specs.Cell.{Land, State, none, unused}
-use Rattle.table.specs.declared.Place.{Place}
-use Rattle.table.specs.declared.Action.{Action}
 use Rattle.meaning.specs.declared.Word.{Word}
 use Rattle.meaning.specs.declared.Word.the-variants.{Looked, Took, Held, Back, Slept, Left, Came, Opened, Asleep, Done}
 use Rattle.meaning.specs.declared.Answer.{Answer}

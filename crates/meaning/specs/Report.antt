@@ -1,6 +1,5 @@
 -- What program `walk` writes (document 01, "The listing"), from the bytes of the files `cell` and `order`.
-use Prim.Native.Nat.{ℕ, zero, suc, _+_}
-use mathlib.Core.Bool.{Bool, true, false, not, _&&_, _||_, cond}
+use Prim.Native.Nat.{ℕ, zero, suc}
 use mathlib.Core.List.{List, [], _∷_, _++_}
 use Rattle.table.specs.Base.{tab}
 use Rattle.table.specs.Cell.{State, cellOf, tableOf}

@@ -1,9 +1,9 @@
 -- Step calls (document 01, "Turned-away calls" and "One step"): a call on a table with its refusals, and a run of calls one after the other.
 use Prim.Native.Nat.{ℕ}
-use mathlib.Core.Bool.{Bool, true, false, not, _&&_, _||_, cond}
+use mathlib.Core.Bool.{Bool, true, false, not, _&&_, cond}
 use mathlib.Core.List.{List, [], _∷_}
 use lib.Dec.{eqb}
-use Rattle.table.specs.Cell.{State, none, linked, travels, cellOf, tableOf}
+use Rattle.table.specs.Cell.{State, none, travels, cellOf, tableOf}
 use Rattle.table.specs.Sound.{sound}
 use Rattle.table.specs.Base.{allBelow}
 use Rattle.table.specs.declared.Cell.{Cell}

@@ -1,12 +1,11 @@
 -- One lock step (document 01, "One step"), over total functions: the agent's stage decides the step.
-use Prim.Native.Nat.{ℕ, zero, suc, _+_}
-use mathlib.Core.Bool.{Bool, true, false, not, _&&_, _||_, cond}
+use Prim.Native.Nat.{ℕ}
+use mathlib.Core.Bool.{Bool, not, _&&_, _||_, cond}
 use lib.Dec.{ltb, leb, eqb}
 use Rattle.sets.specs.Word.{countOf, upto, chosenOf}
 use Rattle.table.specs.Base.{upd, anyBelow}
 use Rattle.table.specs.Cell.{Land, State, none, noPlace, linked, linkedTo, travels, hasAction, kindOf, nameOf}
 use Rattle.table.specs.Sound.{secondPlace}
-use Rattle.table.specs.declared.Place.{Place}
 use Rattle.table.specs.declared.Agent.{Agent}
 use Rattle.meaning.specs.declared.Word.{Word}
 use Rattle.meaning.specs.declared.Word.the-variants.{Looked, Took, Held, Back, Slept, Left, Came, Opened, Asleep, Done}

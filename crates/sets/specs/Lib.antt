@@ -2,3 +2,4 @@ pub mod Word
 pub mod WordLaws
 pub mod Set
 pub mod SetLaws
+pub mod WalkLaws

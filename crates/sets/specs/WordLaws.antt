@@ -2,21 +2,22 @@
 -- Idea: everything goes by the lowest bit first, w % 2 and then w / 2, which is how wordOf is built.
 use mathlib.Core.Path.{_≡_, refl, sym, ap, ap₂, _∙_, subst}
 use mathlib.Core.Logic.{_⊎_, inl, inr, ⊎-elim}
-use mathlib.Core.Bool.{Bool, true, false, xor, _||_, cond}
+use mathlib.Core.Bool.{Bool, true, false, xor, _||_, cond, true≢false}
 use Prim.Native.Nat.{ℕ, zero, suc, _+_, _*_, _/_, _%_, _^_, _≤_, _<_, suc-le-suc}
 use native.Mathlib.Nat.{le-of-suc-le-suc, not-suc-le-zero, zero-lt-suc, mod-lt, div-add-mod', pow-suc, pow-succ', div-div-eq-div-mul, div-one, zero-div, lt-of-lt-of-le, div-eq-of-lt}
 use native.Mathlib.Omega.{arith}
-use lib.Dec.{eqb, lit<, eqb·zero-suc, eqb·suc-zero, eqb·suc-suc}
+use lib.Dec.{eqb, ltb, lit<, eqb·zero-suc, eqb·suc-zero, eqb·suc-suc}
 use lib.Arith.{digits-div, digits-mod, lt-one}
 use lib.Pow.{pow-mono, shl-exact}
 use lib.Bits.{bitOr, bitXor, xor-shr, xor-mod, or-shr, or-mod}
 use lib.Count.{ones, ones-step, trailingZeros, trailing-le, under}
+use borrow.Author.Tests.{ltb-true, ltb-false}
 use Rattle.sets.specs.Word.{bit, has, wordOf, countOf, lowestOf}
 
 -- ---- one bit
 
 -- a remainder by 2 is 0 or 1
-two-cases : (n : ℕ) → (n % 2 ≡ 0) ⊎ (n % 2 ≡ 1)
+pub two-cases : (n : ℕ) → (n % 2 ≡ 0) ⊎ (n % 2 ≡ 1)
 two-cases n = go (n % 2) (mod-lt n (zero-lt-suc 1))
   where
     go : (m : ℕ) → m < 2 → (m ≡ 0) ⊎ (m ≡ 1)
@@ -95,6 +96,14 @@ word-has (suc n) w h =
 pub has-past : (n w i : ℕ) → w < 2 ^ n → n ≤ i → has w i ≡ false
 unfolding has
 has-past n w i h l = ap (λ (x : ℕ). eqb (x % 2) 1) (div-eq-of-lt (lt-of-lt-of-le h (pow-mono l)))
+
+-- so a member is below the length
+pub has-lt : (n w i : ℕ) → w < 2 ^ n → has w i ≡ true → i < n
+has-lt n w i h e = go (ltb i n) refl
+  where
+    go : (b : Bool) → ltb i n ≡ b → i < n
+    go true t = ltb-true i n t
+    go false t = absurd (true≢false (sym e ∙ has-past n w i h (ltb-false i n t)))
 
 -- two words of length n with the same members below n are equal
 pub same-word : (n w v : ℕ) → w < 2 ^ n → v < 2 ^ n → ((i : ℕ) → i < n → has w i ≡ has v i) → w ≡ v

@@ -83,10 +83,30 @@ impl Set {
         u64::trailing_zeros(self.bits)
     }
 
+    // The lowest member as a byte, or 64 where there is none.
+    pub fn first(self) -> u8
+        ensures { λ r. ⌜ r ≡ lowestOf 64 (member self) ⌝ }
+    {
+        self.lowest() as u8
+    }
+
+    // Without its lowest member.
+    pub fn rest(self) -> Set
+        ensures { λ r. ⌜ r ≡ removed self (lowestOf 64 (member self)) ⌝ }
+    {
+        if self.bits == 0 {
+            self
+        } else {
+            Set {
+                bits: self.bits & (self.bits - 1),
+            }
+        }
+    }
+
     // The member w, or else the lowest member, or 64 where there is none.
     pub fn choose(self, w: u8) -> u8
         ensures { λ r. ⌜ r ≡ chosenOf (member self) w ⌝ }
     {
-        if self.has(w) { w } else { self.lowest() as u8 }
+        if self.has(w) { w } else { self.first() }
     }
 }

@@ -4,8 +4,8 @@ use mathlib.Core.Path.{_≡_, refl, sym, ap, ap₂, _∙_, subst}
 use mathlib.Core.Logic.{_≢_, _⊎_, inl, inr}
 use mathlib.Core.List.{List, [], _∷_}
 use mathlib.Core.Bool.{Bool, true, false, not, _&&_, _||_, cond, false≢true}
-use Prim.Native.Nat.{ℕ, zero, suc, _+_, _≤_, _<_}
-use native.Mathlib.Nat.{add-zero, zero-add}
+use Prim.Native.Nat.{ℕ, zero, suc, _+_, _≤_, _<_, zero-le}
+use native.Mathlib.Nat.{add-zero, zero-add, le-refl}
 use native.Mathlib.Omega.{arith}
 use native.Mathlib.Numerals.{add-one}
 use lib.Dec.{eqb, ltb, leb}
@@ -139,6 +139,14 @@ pub all-same : (P Q : ℕ → Bool) (n m : ℕ) → (((j : ℕ) → j < n → P 
     → (((j : ℕ) → j < m → Q j ≡ true) → (j : ℕ) → j < n → P j ≡ true) → allBelow P n ≡ allBelow Q m
 all-same P Q n m h k = same-test _ _ (λ e. all-yes Q m (h (λ j l. all-at P n j l e))) (λ e. all-yes P n (k (λ j l. all-at Q m j l e)))
 
+-- every number from n on passes
+pub all-rest : (P : ℕ → Bool) (n m : ℕ) → n ≤ m → ((j : ℕ) → n ≤ j → j < m → P j ≡ true) → allBelow P n ≡ allBelow P m
+all-rest P n m l h = all-same P P n m (λ k j b. go k j b (told (ltb j n))) (λ k j b. k j (omega arith))
+  where
+    go : ((j : ℕ) → j < n → P j ≡ true) → (j : ℕ) → j < m → Told (ltb j n) → P j ≡ true
+    go k j b (yea t) = k j (ltb-true j n t)
+    go k j b (nay t) = h j (ltb-false j n t) b
+
 -- ---- some number below n
 
 pub any-ext : (P Q : ℕ → Bool) (n : ℕ) → ((j : ℕ) → j < n → P j ≡ Q j) → anyBelow P n ≡ anyBelow Q n
@@ -173,6 +181,16 @@ unfolding anyBelow
 any-no P zero h = refl
 any-no P (suc n) h = ap₂ _||_ (h n (omega arith)) (any-no P n (λ j l. h j (omega arith)))
 
+-- no number from n on passes
+pub any-rest : (P : ℕ → Bool) (n m : ℕ) → n ≤ m → ((j : ℕ) → n ≤ j → j < m → P j ≡ false) → anyBelow P n ≡ anyBelow P m
+unfolding anyBelow
+any-rest P n zero l h = let e : n ≡ 0 = omega arith in ap (anyBelow P) e
+any-rest P n (suc m) l h = go (eq? n (suc m)) (any-rest P n m)
+  where
+    go : (n ≡ suc m) ⊎ (n ≢ suc m) → (n ≤ m → ((j : ℕ) → n ≤ j → j < m → P j ≡ false) → anyBelow P n ≡ anyBelow P m) → anyBelow P n ≡ (P m || anyBelow P m)
+    go (inl e) r = ap (anyBelow P) e
+    go (inr q) r = r (omega arith) (λ j a b. h j a (omega arith)) ∙ sym (ap (λ (b : Bool). b || anyBelow P m) (h m (omega arith) (omega arith)))
+
 -- ---- how many below n
 
 pub count-ext : (P Q : ℕ → Bool) (n : ℕ) → ((j : ℕ) → j < n → P j ≡ Q j) → countBelow P n ≡ countBelow Q n
@@ -184,6 +202,24 @@ pub count-none : (P : ℕ → Bool) (n : ℕ) → ((j : ℕ) → j < n → P j �
 unfolding countBelow
 count-none P zero h = refl
 count-none P (suc n) h = ap₂ (λ (k : ℕ) (b : Bool). k + bit b) (count-none P n (λ j l. h j (omega arith))) (h n (omega arith))
+
+pub count-rest : (P : ℕ → Bool) (n m : ℕ) → n ≤ m → ((j : ℕ) → n ≤ j → j < m → P j ≡ false) → countBelow P n ≡ countBelow P m
+unfolding countBelow
+count-rest P n zero l h = let e : n ≡ 0 = omega arith in ap (countBelow P) e
+count-rest P n (suc m) l h = go (eq? n (suc m)) (count-rest P n m)
+  where
+    go : (n ≡ suc m) ⊎ (n ≢ suc m) → (n ≤ m → ((j : ℕ) → n ≤ j → j < m → P j ≡ false) → countBelow P n ≡ countBelow P m) → countBelow P n ≡ countBelow P m + bit (P m)
+    go (inl e) r = ap (countBelow P) e
+    go (inr q) r = r (omega arith) (λ j a b. h j a (omega arith)) ∙ sym (ap (λ (b : Bool). countBelow P m + bit b) (h m (omega arith) (omega arith)) ∙ add-zero (countBelow P m))
+
+pub count-le : (P : ℕ → Bool) (n m : ℕ) → n ≤ m → countBelow P n ≤ countBelow P m
+unfolding countBelow
+count-le P n zero l = let e : n ≡ 0 = omega arith in subst (λ (k : ℕ). countBelow P k ≤ 0) (sym e) zero-le
+count-le P n (suc m) l = go (eq? n (suc m)) (count-le P n m)
+  where
+    go : (n ≡ suc m) ⊎ (n ≢ suc m) → (n ≤ m → countBelow P n ≤ countBelow P m) → countBelow P n ≤ countBelow P m + bit (P m)
+    go (inl e) r = subst (λ (k : ℕ). countBelow P n ≤ countBelow P k) e (le-refl (countBelow P n))
+    go (inr q) r = let h = r (omega arith) in omega arith
 
 -- ---- tables
 

@@ -2,13 +2,13 @@
 -- Idea: an array of 64 is the table of its elements, a word that of its members; past 63 a bounded cell has nothing to lose.
 use mathlib.Core.Path.{_≡_, refl, sym, ap, _∙_, subst, fun-ext}
 use mathlib.Core.List.{List}
-use mathlib.Core.Bool.{Bool, false}
+use mathlib.Core.Bool.{Bool, true, false}
 use Prim.Native.Nat.{ℕ, _^_, _≤_, _<_}
 use lib.Dec.{ltb}
 use lib.ListN.{getD, length, set, List·getD-eq-default}
 use borrow.Author.Tests.{ltb-true, ltb-false}
 use Rattle.sets.specs.Word.{has, wordOf}
-use Rattle.sets.specs.WordLaws.{word-has, has-word, has-past, word-lt}
+use Rattle.sets.specs.WordLaws.{word-has, has-word, has-past, has-lt, word-lt}
 use Rattle.table.specs.Base.{tab, upd}
 use Rattle.table.specs.BaseLaws.{Told, yea, nay, told, tab-getD, getD-tab, length-tab, set-list, set-tab}
 use Rattle.table.specs.Cell.{noPlace, noAgent, Land, State, cellOf, tableOf}
@@ -71,6 +71,13 @@ module _ (t : Cell) (z : Sized t) where
     where
       past : {A : Type 0} (l : List A) (d : A) → length l ≡ 64 → (q : ℕ) → 64 ≤ q → getD l q d ≡ d
       past l d e q m = List·getD-eq-default l d (subst (λ (n : ℕ). n ≤ q) (sym e) m)
+
+  -- a place in use, and an agent given, is below 64
+  pub in-use : (q : ℕ) → has (t .used .bits) q ≡ true → q < 64
+  in-use q e = has-lt 64 (t .used .bits) q (z .used) e
+
+  pub is-given : (x : ℕ) → has (t .given .bits) x ≡ true → x < 64
+  is-given x e = has-lt 64 (t .given .bits) x (z .given) e
 
   -- ---- one element stored
   pub lock-set : (q v : ℕ) → q < 64 → set (t .locks) q v ≡ tab (upd (cellOf t .lock) q v) 64 0

@@ -6,3 +6,5 @@ pub mod Bounds
 pub mod CellLaws
 pub mod Sound
 pub mod Idle
+pub mod Pass
+pub mod SoundLaws

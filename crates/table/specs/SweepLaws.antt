@@ -4,7 +4,7 @@ use mathlib.Core.Path.{_≡_, sym, ap, _∙_}
 use mathlib.Core.Logic.{_≢_, _⊎_, inl, inr}
 use mathlib.Core.List.{List}
 use mathlib.Core.Bool.{true, cond}
-use Prim.Native.Nat.{ℕ, _+_, _<_, zero-le}
+use Prim.Native.Nat.{ℕ, _+_, _≤_, _<_, zero-le}
 use native.Mathlib.Omega.{arith}
 use lib.Dec.{ltb}
 use lib.ListN.{getD, set}
@@ -48,16 +48,18 @@ module _ {A : Type 0} (d : A) (f g : ℕ → A) where
       go j (inl t) = upd-at (below i) i j v t ∙ e ∙ sym (here i) ∙ ap (below (i + 1)) (sym t)
       go j (inr n) = upd-other (below i) i j v n ∙ step-to i j n
 
-  -- a turn that writes nothing, where f and g agree
-  pub sweep-miss : (l : List A) (i : ℕ) → g i ≡ f i → l ≡ tab (below i) 64 0 → l ≡ tab (below (i + 1)) 64 0
-  sweep-miss l i e q = q ∙ tab-ext d 64 (below i) (below (i + 1)) (λ j _. go j (eq? j i))
+  -- turns that write nothing, where f and g agree
+  pub sweep-skip : (l : List A) (i m : ℕ) → i ≤ m → ((j : ℕ) → i ≤ j → j < m → g j ≡ f j) → l ≡ tab (below i) 64 0 → l ≡ tab (below m) 64 0
+  unfolding below
+  sweep-skip l i m h e q = q ∙ tab-ext d 64 (below i) (below m) (λ j _. go j (told (ltb j i)) (told (ltb j m)))
     where
-      was : below i i ≡ f i
-      was = unfold below in rw (le-ltb i i (omega arith))
+      go : (j : ℕ) → Told (ltb j i) → Told (ltb j m) → below i j ≡ below m j
+      go j (yea s) t = rw (s, lt-ltb j m (omega (arith, ltb-true j i s)))
+      go j (nay s) (yea t) = rw (s, t) (sym (e j (ltb-false j i s) (ltb-true j m t)))
+      go j (nay s) (nay t) = rw (s, t)
 
-      go : (j : ℕ) → (j ≡ i) ⊎ (j ≢ i) → below i j ≡ below (i + 1) j
-      go j (inl t) = ap (below i) t ∙ was ∙ sym e ∙ sym (here i) ∙ ap (below (i + 1)) (sym t)
-      go j (inr n) = step-to i j n
+  pub sweep-miss : (l : List A) (i : ℕ) → g i ≡ f i → l ≡ tab (below i) 64 0 → l ≡ tab (below (i + 1)) 64 0
+  sweep-miss l i e q = sweep-skip l i (i + 1) (omega arith) (λ j h k. let n : j ≡ i = omega arith in ap g n ∙ e ∙ sym (ap f n)) q
 
   pub sweep-end : (l : List A) (i : ℕ) → i ≡ 64 → l ≡ tab (below i) 64 0 → l ≡ tab g 64 0
   unfolding below

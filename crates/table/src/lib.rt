@@ -1,4 +1,11 @@
+// The cell's table: places, locks and agents, and the reading of one element.
+mod sound;
+
 use sets::Set;
+pub use sound::is_sound;
+ghost use mathlib.Core.Path.{_≡_};
+ghost use Prim.Native.Nat.{_%_};
+ghost use Rattle.table.specs.Cell.{noPlace, noAction, freshAgent, bareTable, nextAction};
 
 // One place. Way 0: linked to its parent; otherwise on its way to it, or the floor.
 #[repr(C)]
@@ -32,4 +39,81 @@ pub struct Cell {
     pub agents: [Agent; 64],
     pub used: Set,
     pub given: Set,
+}
+
+// A place that is not in use.
+pub fn no_place() -> Place
+    ensures { λ r. ⌜ r ≡ noPlace ⌝ }
+{
+    Place {
+        name: 0,
+        parent: 0,
+        way: 0,
+    }
+}
+
+// No action: kind 0.
+pub fn no_action() -> Action
+    ensures { λ r. ⌜ r ≡ noAction ⌝ }
+{
+    Action { kind: 0, name: 0 }
+}
+
+// An agent that no record gave: on the floor, without actions, done.
+pub fn fresh_agent() -> Agent
+    ensures { λ r. ⌜ r ≡ freshAgent ⌝ }
+{
+    let x = no_action();
+    let row = [x; 16];
+    Agent {
+        home: 0,
+        stage: 8,
+        remembered: 0,
+        chosen: 0,
+        next: 0,
+        count: 0,
+        actions: row,
+    }
+}
+
+// The bare floor that a load starts from: one place, no lock held, no agents.
+pub fn bare() -> Cell
+    ensures { λ r. ⌜ r ≡ bareTable ⌝ }
+{
+    let x = no_place();
+    let mut ps = [x; 64];
+    ps[0] = Place {
+        name: 0,
+        parent: 0,
+        way: 1,
+    };
+    let a = fresh_agent();
+    let row = [a; 64];
+    let free: [u8; 64] = [64; 64];
+    Cell {
+        places: ps,
+        locks: free,
+        agents: row,
+        used: Set { bits: 1 },
+        given: Set::EMPTY,
+    }
+}
+
+// An index that every array of 64 has.
+pub fn at(q: u8) -> usize
+    ensures { λ r. ⌜ r ≡ q % 64 ⌝ }
+{
+    (q % 64) as usize
+}
+
+// The next action, or one of kind 0 where none is left.
+pub fn next_action(a: Agent) -> Action
+    ensures { λ r. ⌜ r ≡ nextAction a ⌝ }
+{
+    if a.next < a.count {
+        let k = a.next as usize;
+        if k < 16 { a.actions[k] } else { no_action() }
+    } else {
+        no_action()
+    }
 }
