@@ -23,6 +23,7 @@ pub record Below (f : ℕ → ℕ) (p q : ℕ) : Type 0 where
   pub many : ℕ
   pub leads : iter f (suc many) q ≡ p
 
+-- p is above itself, and so is what a place above p stands in
 pub above-self : (f : ℕ → ℕ) (p : ℕ) → Above f p p
 unfolding iter
 above-self f p = record { many = 0; leads = refl }
@@ -30,6 +31,7 @@ above-self f p = record { many = 0; leads = refl }
 pub above-next : {f : ℕ → ℕ} {p q : ℕ} → Above f p q → (s : ℕ) → f q ≡ s → Above f p s
 above-next {f} {p} {q} a s e = record { many = suc (a .many); leads = iter-out f (a .many) p ∙ ap f (a .leads) ∙ e }
 
+-- a place that stands in p is below it, and so is one that stands in a place below p
 pub below-one : {f : ℕ → ℕ} {p q : ℕ} → q ≢ 0 → f q ≡ p → Below f p q
 unfolding iter
 below-one d e = record { placed = d; many = 0; leads = e }
@@ -69,6 +71,7 @@ module _ (t : Tree) (w : Formed t) where
       go (yea l) k = absurd (r0 (later p q r (a .many) (b .many - suc (a .many)) (a .leads)
           (steps (t .parent) p (a .many + suc (b .many - suc (a .many))) (b .many) (omega (arith, ltb-true (a .many) (b .many) l)) ∙ b .leads) e))
       go (nay l) (yea k) = absurd (q0 (later p r q (b .many) (a .many - suc (b .many)) (b .leads)
-          (steps (t .parent) p (b .many + suc (a .many - suc (b .many))) (a .many) (omega (arith, ltb-true (b .many) (a .many) k)) ∙ a .leads) (sym e)))
+          (steps (t .parent) p (b .many + suc (a .many - suc (b .many))) (a .many) (omega (arith, ltb-true (b .many) (a .many) k)) ∙ a .leads)
+          (sym e)))
       go (nay l) (nay k) = sym (a .leads)
           ∙ steps (t .parent) p (a .many) (b .many) (omega (arith, ltb-false (a .many) (b .many) l, ltb-false (b .many) (a .many) k)) ∙ b .leads

@@ -8,7 +8,7 @@ use mathlib.Core.Bool.{true}
 use native.Mathlib.Omega.{arith}
 use borrow.Author.Tests.{eq-eqb, ne-eqb}
 use Rattle.table.specs.Base.{upd}
-use Rattle.table.specs.BaseLaws.{Told, yea, nay, told, eq?, upd-at, upd-other}
+use Rattle.table.specs.BaseLaws.{Told, yea, nay, told, eq?, upd-same, upd-at, upd-other, upd-all}
 use Rattle.table.specs.declared.Action.{Action}
 use Rattle.meaning.specs.Calculus.{Tree, firstOf, restOf, standsAt}
 use Rattle.calculus.specs.Formed.{Formed}
@@ -21,12 +21,14 @@ use Rattle.calculus.specs.Depth.{unfolds}
 
 -- ---- all that a place holds, and all but one or two
 
+-- the agents of p, and all but x
 abbrev pub agentsOf : Tree → ℕ → Term
 agentsOf t p = parallel (agentAt t p) 64
 
 abbrev pub agentsBut : Tree → ℕ → ℕ → Term
 agentsBut t p x = parallel (upd (agentAt t p) x nil) 64
 
+-- the places in p, all but q, and all but q and r
 abbrev pub placesOf : Tree → ℕ → Term
 placesOf t p = parallel (placeAt t (held t) p) 64
 
@@ -36,15 +38,15 @@ placesBut t p q = parallel (upd (placeAt t (held t) p) q nil) 64
 abbrev pub placesButTwo : Tree → ℕ → ℕ → ℕ → Term
 placesButTwo t p q r = parallel (upd (upd (placeAt t (held t) p) q nil) r nil) 64
 
+-- what the home of agent x holds beside its row
+abbrev pub besideAgent : Tree → ℕ → Term
+besideAgent t x = agentsBut t (t .home x) x ∣ placesOf t (t .home x)
+
 -- ---- one number left out
 
 -- two rows that agree elsewhere are the same row without it
 pub upd-eq : (f g : ℕ → Term) (i : ℕ) → ((q : ℕ) → q ≢ i → f q ≡ g q) → (q : ℕ) → upd f i nil q ≡ upd g i nil q
-upd-eq f g i h q = go (eq? q i)
-  where
-    go : (q ≡ i) ⊎ (q ≢ i) → upd f i nil q ≡ upd g i nil q
-    go (inl e) = rw (upd-at f i q nil e, upd-at g i q nil e)
-    go (inr d) = rw (upd-other f i q nil d, upd-other g i q nil d) (h q d)
+upd-eq f g i h = upd-all f i nil (λ q v. v ≡ upd g i nil q) (sym (upd-same g i nil)) (λ q d. h q d ∙ sym (upd-other g i q nil d))
 
 -- a row without it is a row that has nothing there
 pub upd-drop : (f g : ℕ → Term) (i q : ℕ) → g i ≡ nil → (q ≢ i → f q ≡ g q) → upd f i nil q ≡ g q
@@ -62,6 +64,7 @@ unfolding row
 row-is [] k e = absurd (omega arith)
 row-is (x ∷ l) k e = rw e
 
+-- an agent that lives in p adds its row there, any other nothing
 pub agent-is : (t : Tree) (p x : ℕ) → t .home x ≡ p → agentAt t p x ≡ row (t .unused x)
 unfolding agentAt
 agent-is t p x e = rw (eq-eqb (t .home x) p e)
@@ -72,6 +75,7 @@ agent-not t p x d = rw (ne-eqb (t .home x) p d)
 
 -- ---- places
 
+-- a place that stands in p adds its ambient there, any other nothing
 pub place-is : (t : Tree) (g : ℕ → Term) (p q : ℕ) → Stands t q p → placeAt t g p q ≡ amb (t .name q) (g q)
 unfolding placeAt
 place-is t g p q i = rw (in-stands t q p i)
@@ -85,7 +89,8 @@ place-not t g p q n = go (told (standsAt t q p))
     go (nay e) = rw e
 
 -- a place adds the same to p in one tree and to r in another
-pub place-eq : (t u : Tree) (g h : ℕ → Term) (p r q : ℕ) → standsAt t q p ≡ standsAt u q r → (Stands t q p → t .name q ≡ u .name q) → (Stands t q p → g q ≡ h q)
+pub place-eq : (t u : Tree) (g h : ℕ → Term) (p r q : ℕ) → standsAt t q p ≡ standsAt u q r → (Stands t q p → t .name q ≡ u .name q)
+    → (Stands t q p → g q ≡ h q)
     → placeAt t g p q ≡ placeAt u h r q
 unfolding placeAt
 place-eq t u g h p r q e n k = go (told (standsAt t q p))
@@ -98,7 +103,7 @@ place-eq t u g h p r q e n k = go (told (standsAt t q p))
 
 module _ (t : Tree) (w : Formed t) where
   -- one agent first
-  pub agent-first : (x : ℕ) → x < 64 → held t (t .home x) ≅ row (t .unused x) ∣ (agentsBut t (t .home x) x ∣ placesOf t (t .home x))
+  pub agent-first : (x : ℕ) → x < 64 → held t (t .home x) ≅ row (t .unused x) ∣ besideAgent t x
   unfolding level
   agent-first x l =
       of-path (unfolds t w (t .home x) (w .homes x))

@@ -27,7 +27,8 @@ chain-floor f z (chain-more {n = suc n} d c) e = chain-floor f z c e
 -- only what a place in p holds matters
 place-same : (t : Tree) (g h : ℕ → Term) (p q : ℕ) → (Stands t q p → g q ≡ h q) → placeAt t g p q ≡ placeAt t h p q
 unfolding placeAt
-place-same t g h p q k = cond-cong (standsAt t q p) (amb (t .name q) (g q)) (amb (t .name q) (h q)) nil (λ e. ap (amb (t .name q)) (k (stands-in t q p e)))
+place-same t g h p q k = cond-cong (standsAt t q p) (amb (t .name q) (g q)) (amb (t .name q) (h q)) nil
+    (λ e. ap (amb (t .name q)) (k (stands-in t q p e)))
 
 module _ (t : Tree) (w : Formed t) where
   deep : (k d p : ℕ) → k + d ≡ 64 → t .used p ≡ true → Chain (t .parent) d p → contents t (suc k) p ≡ contents t k p

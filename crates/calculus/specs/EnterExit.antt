@@ -1,5 +1,6 @@
 -- An enter and an exit: what the place around the two places they touch holds before and after.
--- Idea: both take the agent's own place h from p or m and put it into m or p, where m stands in p; h and m are touched, all else below p is as it was.
+-- Idea: both take the agent's own place h from p or m and put it into m or p, where m stands in p; h and m are touched, all else below p is
+-- as it was.
 use mathlib.Core.Path.{_≡_, refl, sym, ap, _∙_, subst, fun-ext}
 use mathlib.Core.Logic.{_≢_, _⊎_, inl, inr}
 use Prim.Native.Nat.{ℕ, _<_}
@@ -14,7 +15,8 @@ use Rattle.calculus.specs.Terms.{amb, nil, _∣_, _≅_, struct-amb, str
 use Rattle.calculus.specs.TermLaws.{_⨾_, of-path, pars, struct-par-right}
 use Rattle.calculus.specs.TermOf.{row, parallel, agentAt, placeAt, level, held}
 use Rattle.calculus.specs.Depth.{unfolds}
-use Rattle.calculus.specs.Contents.{agentsOf, agentsBut, placesOf, placesBut, placesButTwo, upd-eq, upd-drop, place-not, place-eq, agent-first, place-first, places-first}
+use Rattle.calculus.specs.Contents.{agentsOf, besideAgent, placesBut, placesButTwo, upd-eq, upd-drop, place-not, place-eq}
+use Rattle.calculus.specs.Contents.{agent-first, place-first, places-first}
 use Rattle.calculus.specs.Near.{Local, low-same}
 
 -- ---- what the change leaves as it was
@@ -38,7 +40,11 @@ module _ (t : Tree) (a d : ℕ) where
 
   place-elsewhere : (s q : ℕ) → q ≡ t .home a → s ≢ t .parent (t .home a) → s ≢ d → standsAt t q s ≡ standsAt (putInto t a d) q s
   unfolding standsAt putInto
-  place-elsewhere s q e n k = rw (upd-at (t .parent) (t .home a) q d e, ne-eqb (t .parent q) s (λ z. n (sym z ∙ ap (t .parent) e)), ne-eqb d s (λ z. k (sym z)))
+  place-elsewhere s q e n k = rw (
+    upd-at (t .parent) (t .home a) q d e,
+    ne-eqb (t .parent q) s (λ z. n (sym z ∙ ap (t .parent) e)),
+    ne-eqb d s (λ z. k (sym z)),
+  )
 
 -- the two places that an enter or an exit touches
 abbrev pub Two : ℕ → ℕ → ℕ → Type 0
@@ -104,7 +110,8 @@ module _ (t : Tree) (w : Formed t) (a d m p : ℕ) (v : Formed (putInto t a d)) 
       low q (inr e) = subst (Below (t .parent) p) (sym e) other-below
 
   -- a place in p or below it that is not touched, and stands where it stood
-  place-still : (s q : ℕ) → (s ≡ p) ⊎ Below (t .parent) p s → standsAt t q s ≡ standsAt (putInto t a d) q s → (Stands t q s → q ≢ t .home a) → (Stands t q s → q ≢ m)
+  place-still : (s q : ℕ) → (s ≡ p) ⊎ Below (t .parent) p s → standsAt t q s ≡ standsAt (putInto t a d) q s → (Stands t q s → q ≢ t .home a)
+      → (Stands t q s → q ≢ m)
       → placeAt t (held t) s q ≡ placeAt (putInto t a d) (held (putInto t a d)) s q
   unfolding putInto
   place-still s q l e nh nm = place-eq t (putInto t a d) (held t) (held (putInto t a d)) s s q e (λ _. refl)
@@ -129,7 +136,7 @@ module _ (t : Tree) (w : Formed t) (a d m p : ℕ) (v : Formed (putInto t a d)) 
   agents-around x = agents-elsewhere t a d p x (λ e. own-not (sym e))
 
   -- the traveller itself: the agent's action is used up, all else is as it was
-  traveller : a < 64 → held (putInto t a d) (t .home a) ≅ row (restOf (t .unused a)) ∣ (agentsBut t (t .home a) a ∣ placesOf t (t .home a))
+  traveller : a < 64 → held (putInto t a d) (t .home a) ≅ row (restOf (t .unused a)) ∣ besideAgent t a
   unfolding putInto
   traveller l = agent-first (putInto t a d) v a l ⨾ pars (of-path (ap row (upd-same (t .unused) a (restOf (t .unused a)))))
       (of-path (λ j. parallel (fun-ext (λ x. sym (upd-eq _ _ a (λ y n. agents-but t a d (t .home a) y n) x)) j) 64
@@ -139,7 +146,8 @@ module _ (t : Tree) (w : Formed t) (a d m p : ℕ) (v : Formed (putInto t a d)) 
       self q i e = neither (t .home a) (t .parent (t .home a)) (y .from) own-not (λ z. y .apart (sym z)) (sym (i .parent) ∙ ap (t .parent) e)
 
       inside : (q : ℕ) → placeAt t (held t) (t .home a) q ≡ placeAt (putInto t a d) (held (putInto t a d)) (t .home a) q
-      inside q = place-still (t .home a) q (inr own-below) (places-elsewhere (t .home a) q own-not (λ e. y .apart (sym e))) (self q) (in-p (t .home a) q own-not)
+      inside q = place-still (t .home a) q (inr own-below) (places-elsewhere (t .home a) q own-not (λ e. y .apart (sym e))) (self q)
+          (in-p (t .home a) q own-not)
 
   -- where the two stand before and after
   own-before : (s : ℕ) → t .parent (t .home a) ≡ s → Stands t (t .home a) s
@@ -151,27 +159,37 @@ module _ (t : Tree) (w : Formed t) (a d m p : ℕ) (v : Formed (putInto t a d)) 
 
   other-after : Stands (putInto t a d) m p
   unfolding putInto
-  other-after = record { used = y .other .used; placed = y .other .placed; parent = upd-other (t .parent) (t .home a) m d (y .apart) ∙ y .other .parent }
+  other-after = record {
+    used = y .other .used;
+    placed = y .other .placed;
+    parent = upd-other (t .parent) (t .home a) m d (y .apart) ∙ y .other .parent;
+  }
 
 -- ---- enter: the home of a stands beside m in p, and goes into m
 
 module _ (t : Tree) (w : Formed t) (a m p : ℕ) (v : Formed (putInto t a m)) (y : Travel t a m m p) (hp : t .parent (t .home a) ≡ p) (l : a < 64) where
-  pub enter-before : held t p ≅ amb (t .name (t .home a)) (row (t .unused a) ∣ (agentsBut t (t .home a) a ∣ placesOf t (t .home a)))
+  -- what p holds before: n[enter m. P | Q] | m[R] beside the rest
+  pub enter-before : held t p
+      ≅ amb (t .name (t .home a)) (row (t .unused a) ∣ besideAgent t a)
       ∣ (amb (t .name m) (held t m) ∣ (agentsOf t p ∣ placesButTwo t p (t .home a) m))
-  enter-before = places-first t w p (t .home a) m (own-before t w a m m p v y p hp) (y .other) (y .apart) ⨾ struct-par (struct-amb (agent-first t w a l))
+  enter-before = places-first t w p (t .home a) m (own-before t w a m m p v y p hp) (y .other) (y .apart)
+      ⨾ struct-par (struct-amb (agent-first t w a l))
 
   -- m takes the traveller in
   taken-in : held (putInto t a m) m ≅ amb (t .name (t .home a)) (held (putInto t a m) (t .home a)) ∣ held t m
   unfolding level putInto
   taken-in = place-first (putInto t a m) v m (t .home a) (own-after t w a m m p v y) ⨾ struct-par-right (of-path
-      ((λ j. parallel (fun-ext (λ x. sym (agents-elsewhere t a m m x (y .apart))) j) 64 ∣ parallel (fun-ext rest j) 64) ∙ sym (unfolds t w m (y .other .used))))
+      ((λ j. parallel (fun-ext (λ x. sym (agents-elsewhere t a m m x (y .apart))) j) 64 ∣ parallel (fun-ext rest j) 64)
+      ∙ sym (unfolds t w m (y .other .used))))
     where
       rest : (q : ℕ) → upd (placeAt (putInto t a m) (held (putInto t a m)) m) (t .home a) nil q ≡ placeAt t (held t) m q
       rest q = upd-drop (placeAt (putInto t a m) (held (putInto t a m)) m) (placeAt t (held t) m) (t .home a) q
           (place-not t (held t) m (t .home a) (λ i. other-not t w a m m p v y (sym (i .parent) ∙ hp)))
           (λ n. sym (in-other t w a m m p v y q n))
 
-  pub enter-after : held (putInto t a m) p ≅ amb (t .name m) (amb (t .name (t .home a)) (row (restOf (t .unused a)) ∣ (agentsBut t (t .home a) a ∣ placesOf t (t .home a))) ∣ held t m)
+  -- and after: m[n[P | Q] | R] beside the same rest
+  pub enter-after : held (putInto t a m) p
+      ≅ amb (t .name m) (amb (t .name (t .home a)) (row (restOf (t .unused a)) ∣ besideAgent t a) ∣ held t m)
       ∣ (agentsOf t p ∣ placesButTwo t p (t .home a) m)
   unfolding putInto
   enter-after = place-first (putInto t a m) v p m (other-after t w a m m p v y)
@@ -180,14 +198,16 @@ module _ (t : Tree) (w : Formed t) (a m p : ℕ) (v : Formed (putInto t a m)) (y
     where
       rest : (q : ℕ) → upd (placeAt (putInto t a m) (held (putInto t a m)) p) m nil q ≡ upd (upd (placeAt t (held t) p) (t .home a) nil) m nil q
       rest = upd-eq _ _ m (λ q n. sym (upd-drop (placeAt t (held t) p) (placeAt (putInto t a m) (held (putInto t a m)) p) (t .home a) q
-          (place-not (putInto t a m) (held (putInto t a m)) p (t .home a) (λ i. other-not t w a m m p v y (sym (upd-same (t .parent) (t .home a) m) ∙ i .parent)))
+          (place-not (putInto t a m) (held (putInto t a m)) p (t .home a)
+          (λ i. other-not t w a m m p v y (sym (upd-same (t .parent) (t .home a) m) ∙ i .parent)))
           (λ k. in-around t w a m m p v y q k n)))
 
 -- ---- exit: the home of a stands in m, and m in p; it goes into p
 
 module _ (t : Tree) (w : Formed t) (a m p : ℕ) (v : Formed (putInto t a p)) (y : Travel t a p m p) (hm : t .parent (t .home a) ≡ m) (l : a < 64) where
-  pub exit-before : held t p ≅ amb (t .name m) (amb (t .name (t .home a)) (row (t .unused a) ∣ (agentsBut t (t .home a) a ∣ placesOf t (t .home a)))
-      ∣ (agentsOf t m ∣ placesBut t m (t .home a)))
+  -- what p holds before: m[n[exit m. P | Q] | R] beside the rest
+  pub exit-before : held t p
+      ≅ amb (t .name m) (amb (t .name (t .home a)) (row (t .unused a) ∣ besideAgent t a) ∣ (agentsOf t m ∣ placesBut t m (t .home a)))
       ∣ (agentsOf t p ∣ placesBut t p m)
   exit-before = place-first t w p m (y .other)
       ⨾ struct-par (struct-amb (place-first t w m (t .home a) (own-before t w a p m p v y m hm) ⨾ struct-par (struct-amb (agent-first t w a l))))
@@ -200,10 +220,13 @@ module _ (t : Tree) (w : Formed t) (a m p : ℕ) (v : Formed (putInto t a p)) (y
     where
       rest : (q : ℕ) → upd (placeAt t (held t) m) (t .home a) nil q ≡ placeAt (putInto t a p) (held (putInto t a p)) m q
       rest q = upd-drop (placeAt t (held t) m) (placeAt (putInto t a p) (held (putInto t a p)) m) (t .home a) q
-          (place-not (putInto t a p) (held (putInto t a p)) m (t .home a) (λ i. other-not t w a p m p v y (sym (i .parent) ∙ upd-same (t .parent) (t .home a) p)))
+          (place-not (putInto t a p) (held (putInto t a p)) m (t .home a)
+          (λ i. other-not t w a p m p v y (sym (i .parent) ∙ upd-same (t .parent) (t .home a) p)))
           (λ n. in-other t w a p m p v y q n)
 
-  pub exit-after : held (putInto t a p) p ≅ amb (t .name (t .home a)) (row (restOf (t .unused a)) ∣ (agentsBut t (t .home a) a ∣ placesOf t (t .home a)))
+  -- and after: n[P | Q] | m[R] beside the same rest
+  pub exit-after : held (putInto t a p) p
+      ≅ amb (t .name (t .home a)) (row (restOf (t .unused a)) ∣ besideAgent t a)
       ∣ (amb (t .name m) (agentsOf t m ∣ placesBut t m (t .home a)) ∣ (agentsOf t p ∣ placesBut t p m))
   unfolding putInto
   exit-after = places-first (putInto t a p) v p (t .home a) m (own-after t w a p m p v y) (other-after t w a p m p v y) (y .apart)

@@ -1,7 +1,9 @@
 -- Equivalent terms have the same parts at the top, up to equivalence within the parts and of what is left beside them.
 -- Idea: "part L stands at the top of P, and P′ is left" is an inductive relation; each rule of equivalence carries it across both ways.
 use Prim.Native.Nat.{ℕ}
-use Rattle.calculus.specs.Terms.{Term, amb, nil, _∣_, enter, exit, «open», _≅_, struct-refl, struct-symm, struct-trans, struct-par-zero, struct-par-comm, struct-par-assoc, struct-amb, struct-par, struct-enter, struct-exit, struct-open}
+use Rattle.calculus.specs.Terms.{Term, amb, nil, _∣_, enter, exit, «open», _≅_, struct-refl, struct-symm, struct-trans}
+use Rattle.calculus.specs.Terms.{struct-par-zero, struct-par-comm, struct-par-assoc, struct-amb, struct-par, struct-enter}
+use Rattle.calculus.specs.Terms.{struct-exit, struct-open}
 
 -- the part L stands at the top of P, and P′ is left
 pub data Takes : Term → Term → Term → Type 0 where

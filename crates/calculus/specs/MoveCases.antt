@@ -2,7 +2,7 @@
 -- The tests `permits` and `move` are opened once, here, by the three tests on the kind of the agent's next action.
 use mathlib.Core.Path.{_≡_, refl, sym, ap, _∙_, subst}
 use mathlib.Core.Logic.{_≢_}
-use mathlib.Core.Bool.{Bool, true, not, _&&_}
+use mathlib.Core.Bool.{Bool, true, false, not, _&&_, and-false}
 use Prim.Native.Nat.{ℕ, _≤_}
 use native.Mathlib.Omega.{arith}
 use lib.Dec.{eqb}
@@ -19,20 +19,26 @@ pub record Stands (t : Tree) (m p : ℕ) : Type 0 where
 -- what agent a's next action may do, with the tree it makes
 pub data MoveCase (t : Tree) (a : ℕ) : Tree → Type 0 where
   -- its own place goes into another place m that stands beside it
-  enters : (m : ℕ) → nextOf t a .kind ≡ 1 → t .home a ≢ 0 → Stands t m (t .parent (t .home a)) → m ≢ t .home a → t .name m ≡ nextOf t a .name
+  by-enter : (m : ℕ) → nextOf t a .kind ≡ 1 → t .home a ≢ 0 → Stands t m (t .parent (t .home a)) → m ≢ t .home a → t .name m ≡ nextOf t a .name
       → MoveCase t a (putInto t a m)
   -- its own place goes out of the place around it
-  exits : nextOf t a .kind ≡ 2 → t .home a ≢ 0 → t .name (t .parent (t .home a)) ≡ nextOf t a .name
+  by-exit : nextOf t a .kind ≡ 2 → t .home a ≢ 0 → t .name (t .parent (t .home a)) ≡ nextOf t a .name
       → MoveCase t a (putInto t a (t .parent (t .parent (t .home a))))
   -- a place m that stands in its own is opened
-  opens : (m : ℕ) → nextOf t a .kind ≡ 3 → Stands t m (t .home a) → t .name m ≡ nextOf t a .name
+  by-open : (m : ℕ) → nextOf t a .kind ≡ 3 → Stands t m (t .home a) → t .name m ≡ nextOf t a .name
       → MoveCase t a (openUp t a m)
 
 -- ---- tests and facts
 
-differ : (q p : ℕ) → not (eqb q p) ≡ true → q ≢ p
+-- a number that is not the other is another
+pub differ : (q p : ℕ) → not (eqb q p) ≡ true → q ≢ p
 differ q p e = eqb-false q p (not-true (eqb q p) e)
 
+-- a test with a last part that is false
+pub and-no : (b c : Bool) → b && (c && false) ≡ false
+and-no b c = ap (λ (d : Bool). b && d) (and-false c) ∙ and-false b
+
+-- both parts of a test
 both : (b c : Bool) → (b && c) ≡ true → (b ≡ true) × (c ≡ true)
 both b c e = (and-left b c e, and-right b c e)
 
@@ -65,20 +71,20 @@ module _ (t : Tree) (a m : ℕ) where
       let x = both off-floor (standsAt t m (t .parent (t .home a)) && (not (eqb m (t .home a)) && named)) e in
       let y = both (standsAt t m (t .parent (t .home a))) (not (eqb m (t .home a)) && named) (x .1) in
       let z = both (not (eqb m (t .home a))) named (y .1) in
-      enters m k (differ (t .home a) 0 (x .0)) (stands-in t m (t .parent (t .home a)) (y .0)) (differ m (t .home a) (z .0)) (name-is (z .1))
+      by-enter m k (differ (t .home a) 0 (x .0)) (stands-in t m (t .parent (t .home a)) (y .0)) (differ m (t .home a) (z .0)) (name-is (z .1))
 
   exit-case : nextOf t a .kind ≡ 2 → mayExit t a m ≡ true → MoveCase t a (putInto t a (t .parent (t .parent (t .home a))))
   unfolding mayExit
   exit-case k e =
       let x = both off-floor (eqb m (t .parent (t .home a)) && named) e in
       let y = both (eqb m (t .parent (t .home a))) named (x .1) in
-      exits k (differ (t .home a) 0 (x .0)) (ap (t .name) (sym (eqb-true m (t .parent (t .home a)) (y .0))) ∙ name-is (y .1))
+      by-exit k (differ (t .home a) 0 (x .0)) (ap (t .name) (sym (eqb-true m (t .parent (t .home a)) (y .0))) ∙ name-is (y .1))
 
   open-case : nextOf t a .kind ≡ 3 → mayOpen t a m ≡ true → MoveCase t a (openUp t a m)
   unfolding mayOpen
   open-case k e =
       let x = both (standsAt t m (t .home a)) named e in
-      opens m k (stands-in t m (t .home a) (x .0)) (name-is (x .1))
+      by-open m k (stands-in t m (t .home a) (x .0)) (name-is (x .1))
 
   permitted-case : permits t a m ≡ true → MoveCase t a (move t a m)
   unfolding permits move
@@ -99,17 +105,28 @@ move-case {t} {u} {a} v = subst (MoveCase t a) (sym (v .result)) (permitted-case
 -- an enter, an exit and an open are moves
 pub case-move : {t u : Tree} {a : ℕ} → MoveCase t a u → Move t a u
 unfolding permits move mayEnter mayExit mayOpen
-case-move {t} {a} (enters m k h s d n) = record {
+case-move {t} {a} (by-enter m k h s d n) = record {
   place = m;
-  permitted = rw (k, ne-eqb (t .home a) 0 h, in-stands t m (t .parent (t .home a)) s, ne-eqb m (t .home a) d, eq-eqb (t .name m) (nextOf t a .name) n);
+  permitted = rw (
+    k,
+    ne-eqb (t .home a) 0 h,
+    in-stands t m (t .parent (t .home a)) s,
+    ne-eqb m (t .home a) d,
+    eq-eqb (t .name m) (nextOf t a .name) n,
+  );
   result = rw k;
 }
-case-move {t} {a} (exits k h n) = record {
+case-move {t} {a} (by-exit k h n) = record {
   place = t .parent (t .home a);
-  permitted = rw (k, ne-eqb (t .home a) 0 h, eq-eqb (t .parent (t .home a)) (t .parent (t .home a)) refl, eq-eqb (t .name (t .parent (t .home a))) (nextOf t a .name) n);
+  permitted = rw (
+    k,
+    ne-eqb (t .home a) 0 h,
+    eq-eqb (t .parent (t .home a)) (t .parent (t .home a)) refl,
+    eq-eqb (t .name (t .parent (t .home a))) (nextOf t a .name) n,
+  );
   result = rw k;
 }
-case-move {t} {a} (opens m k s n) = record {
+case-move {t} {a} (by-open m k s n) = record {
   place = m;
   permitted = rw (k, in-stands t m (t .home a) s, eq-eqb (t .name m) (nextOf t a .name) n);
   result = rw k;
@@ -117,6 +134,6 @@ case-move {t} {a} (opens m k s n) = record {
 
 -- an agent that moves has an action left
 pub case-kind : {t u : Tree} {a : ℕ} → MoveCase t a u → 1 ≤ nextOf t a .kind
-case-kind (enters m k h s d n) = omega arith
-case-kind (exits k h n) = omega arith
-case-kind (opens m k s n) = omega arith
+case-kind (by-enter m k h s d n) = omega arith
+case-kind (by-exit k h n) = omega arith
+case-kind (by-open m k s n) = omega arith

@@ -15,16 +15,17 @@ use Rattle.table.specs.declared.Action.{Action}
 use Rattle.meaning.specs.Calculus.{Tree, firstOf, restOf, nextOf, putInto, openUp, Move}
 use Rattle.calculus.specs.Up.{Up, enter-up, exit-up, opened-up}
 use Rattle.calculus.specs.Formed.{Good, none, more, Formed}
-use Rattle.calculus.specs.MoveCases.{Stands, MoveCase, enters, exits, opens, move-case, case-kind}
+use Rattle.calculus.specs.MoveCases.{Stands, MoveCase, by-enter, by-exit, by-open, move-case, case-kind}
 use Rattle.calculus.specs.Above.{below-one, below-not}
 
 -- ---- rows of actions
 
-good-rest : {l : List Action} → Good l → Good (restOf l)
+-- a row in range without its first action is in range, and its first action has a name
+pub good-rest : {l : List Action} → Good l → Good (restOf l)
 good-rest none = none
 good-rest (more a b c g) = g
 
-good-first : {l : List Action} → Good l → 1 ≤ firstOf l .kind → 1 ≤ firstOf l .name
+pub good-first : {l : List Action} → Good l → 1 ≤ firstOf l .kind → 1 ≤ firstOf l .name
 good-first none k = k
 good-first (more a b c g) k = c
 
@@ -71,9 +72,11 @@ module _ (t : Tree) (w : Formed t) (a : ℕ) where
     few = spent-few;
   }
 
+  -- into a place beside its own
   pub enter-formed : (m : ℕ) → t .home a ≢ 0 → Stands t m (t .parent (t .home a)) → m ≢ t .home a → Formed (putInto t a m)
   enter-formed m h s d = put-formed m h (s .used) (enter-up (t .parent) (w .floor-parent) (t .home a) m h d (s .parent) (w .tree))
 
+  -- out of the place around it
   pub exit-formed : t .home a ≢ 0 → Formed (putInto t a (t .parent (t .parent (t .home a))))
   exit-formed h = put-formed _ h (w .parent-used _) (exit-up (t .parent) (w .floor-parent) (t .home a) h (w .tree))
 
@@ -102,6 +105,7 @@ module _ (t : Tree) (w : Formed t) (a : ℕ) where
         go (yea e) = rw e (still-used (t .home a) own-not (w .homes a))
         go (nay e) = rw e (still-used r (eqb-false r m e) u)
 
+    -- the tree after the opening is formed
     pub open-formed : Formed (openUp t a m)
     unfolding openUp
     open-formed = record {
@@ -123,9 +127,9 @@ module _ (t : Tree) (w : Formed t) (a : ℕ) where
 -- ---- any move
 
 case-formed : {t u : Tree} {a : ℕ} → Formed t → MoveCase t a u → Formed u
-case-formed {t} {a} w (enters m k h s d n) = enter-formed t w a m h s d
-case-formed {t} {a} w (exits k h n) = exit-formed t w a h
-case-formed {t} {a} w (opens m k s n) = open-formed t w a m s
+case-formed {t} {a} w (by-enter m k h s d n) = enter-formed t w a m h s d
+case-formed {t} {a} w (by-exit k h n) = exit-formed t w a h
+case-formed {t} {a} w (by-open m k s n) = open-formed t w a m s
 
 -- a move keeps a tree formed
 pub move-formed : {t u : Tree} {a : ℕ} → Formed t → Move t a u → Formed u

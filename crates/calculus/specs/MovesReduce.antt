@@ -1,12 +1,13 @@
 -- Every move of a tree is a reduction of its term.
--- Idea: the place where the two trees differ holds, before and after, the two sides of one rule beside the same rest; `ascends` carries this up to the floor.
+-- Idea: the place where the two trees differ holds, before and after, the two sides of one rule beside the same rest; `ascends` carries
+-- this up to the floor.
 use mathlib.Core.Path.{_≡_, refl, sym}
 use mathlib.Core.Logic.{_≢_, inl, inr}
 use Prim.Native.Nat.{ℕ}
 use native.Mathlib.Omega.{arith}
 use Rattle.meaning.specs.Calculus.{Tree, nextOf, putInto, openUp, Move}
 use Rattle.calculus.specs.Formed.{Formed}
-use Rattle.calculus.specs.MoveCases.{Stands, MoveCase, enters, exits, opens, move-case}
+use Rattle.calculus.specs.MoveCases.{Stands, MoveCase, by-enter, by-exit, by-open, move-case}
 use Rattle.calculus.specs.MoveFormed.{enter-formed, exit-formed, open-formed, exit-placed, acting-few}
 use Rattle.calculus.specs.Above.{above-self, below-one, below-not}
 use Rattle.calculus.specs.Terms.{struct-symm, struct-par-assoc, struct-amb, struct-par, _⟶_}
@@ -29,7 +30,8 @@ module _ (t : Tree) (w : Formed t) (a : ℕ) where
       let y : Travel t a m m p = record { own = h; other = s; apart = d; from = inl refl; to = inr refl } in
       ascends t (putInto t a m) w v p (Two (t .home a) m) (travel-local t w a m m p v y) (w .tree p) (w .parent-used _) (above-self (t .parent) p)
       (at-top rule-enter
-      (enter-before t w a m p v y refl l ⨾ pars (struct-amb (struct-par (of-path (row-is (t .unused a) 0 k)))) (struct-par (renamed n)) ⨾ struct-symm struct-par-assoc)
+      (enter-before t w a m p v y refl l ⨾ pars (struct-amb (struct-par (of-path (row-is (t .unused a) 0 k)))) (struct-par (renamed n))
+      ⨾ struct-symm struct-par-assoc)
       (enter-after t w a m p v y refl l ⨾ struct-par (renamed n)))
 
   exit-reduces : nextOf t a .kind ≡ 2 → t .home a ≢ 0 → t .name (t .parent (t .home a)) ≡ nextOf t a .name
@@ -41,10 +43,17 @@ module _ (t : Tree) (w : Formed t) (a : ℕ) where
       let m = t .parent (t .home a) in
       let p = t .parent (t .parent (t .home a)) in
       let s : Stands t m p = record { used = w .parent-used _; placed = exit-placed t w a k n; parent = refl } in
-      let y : Travel t a p m p = record { own = h; other = s; apart = λ e. below-not t w (below-one h refl) (sym e); from = inr refl; to = inl refl } in
+      let y : Travel t a p m p = record {
+        own = h;
+        other = s;
+        apart = λ e. below-not t w (below-one h refl) (sym e);
+        from = inr refl;
+        to = inl refl;
+      } in
       ascends t (putInto t a p) w v p (Two (t .home a) m) (travel-local t w a p m p v y) (w .tree p) (w .parent-used _) (above-self (t .parent) p)
       (at-top rule-exit
-      (exit-before t w a m p v y refl l ⨾ struct-par (renamed n ⨾ struct-amb (struct-par (struct-amb (struct-par (of-path (row-is (t .unused a) 1 k)))))))
+      (exit-before t w a m p v y refl l ⨾ struct-par
+      (renamed n ⨾ struct-amb (struct-par (struct-amb (struct-par (of-path (row-is (t .unused a) 1 k)))))))
       (exit-after t w a m p v y refl l ⨾ struct-par-right (struct-par (renamed n)) ⨾ struct-symm struct-par-assoc))
 
   open-reduces : (m : ℕ) → nextOf t a .kind ≡ 3 → Stands t m (t .home a) → t .name m ≡ nextOf t a .name → Spot (term t) (term (openUp t a m))
@@ -58,9 +67,9 @@ module _ (t : Tree) (w : Formed t) (a : ℕ) where
       (open-after t w a m v s l ⨾ struct-symm struct-par-assoc))
 
 case-reduces : {t u : Tree} {a : ℕ} → Formed t → MoveCase t a u → Spot (term t) (term u)
-case-reduces {t} {a} w (enters m k h s d n) = enter-reduces t w a m k h s d n
-case-reduces {t} {a} w (exits k h n) = exit-reduces t w a k h n
-case-reduces {t} {a} w (opens m k s n) = open-reduces t w a m k s n
+case-reduces {t} {a} w (by-enter m k h s d n) = enter-reduces t w a m k h s d n
+case-reduces {t} {a} w (by-exit k h n) = exit-reduces t w a k h n
+case-reduces {t} {a} w (by-open m k s n) = open-reduces t w a m k s n
 
 -- a move of an agent is a reduction of the term
 pub move-reduces : {t u : Tree} {a : ℕ} → Formed t → Move t a u → term t ⟶ term u

@@ -95,7 +95,8 @@ module _ (t u : Tree) (w : Formed t) (v : Formed u) (p : ℕ) (E : ℕ → Type 
   ascends base k a s = s
   ascends (up q y) k a s = go (eq? q 0) (λ b r. ascends y (w .parent-used q) b r)
     where
-      go : (q ≡ 0) ⊎ (q ≢ 0) → (Above (t .parent) p (t .parent q) → Spot (held t (t .parent q)) (held u (t .parent q)) → Spot (held t 0) (held u 0)) → Spot (held t 0) (held u 0)
+      go : (q ≡ 0) ⊎ (q ≢ 0) → (Above (t .parent) p (t .parent q) → Spot (held t (t .parent q)) (held u (t .parent q))
+          → Spot (held t 0) (held u 0)) → Spot (held t 0) (held u 0)
       go (inl e) f = subst (λ r. Spot (held t r) (held u r)) e s
       go (inr d) f =
           let i : Stands t q (t .parent q) = record { used = k; placed = d; parent = refl } in

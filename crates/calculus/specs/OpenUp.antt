@@ -3,14 +3,14 @@
 use mathlib.Core.Path.{_≡_, refl, sym, ap, _∙_, subst}
 use mathlib.Core.Logic.{_≢_, _⊎_, inl, inr}
 use Prim.Native.Nat.{ℕ, _<_}
-use mathlib.Core.Bool.{Bool, true, false, not, _&&_}
+use mathlib.Core.Bool.{true, false, not}
 use lib.Dec.{eqb}
 use borrow.Author.Tests.{eq-eqb, ne-eqb}
 use Rattle.table.specs.Base.{upd}
 use Rattle.table.specs.BaseLaws.{clash, eq?, upd-same, upd-at, upd-other}
 use Rattle.meaning.specs.Calculus.{Tree, restOf, standsAt, openUp}
 use Rattle.calculus.specs.Formed.{Formed}
-use Rattle.calculus.specs.MoveCases.{Stands}
+use Rattle.calculus.specs.MoveCases.{Stands, and-no}
 use Rattle.calculus.specs.Above.{Below, below-one, below-not}
 use Rattle.calculus.specs.Terms.{Term, amb, nil, _∣_, _≅_, struct-symm, struct-par-zero, struct-par-comm, struct-par-assoc, struct-par}
 use Rattle.calculus.specs.TermLaws.{_⨾_, of-path, zero-par, swap, swap-middle, pars, struct-par-right}
@@ -34,7 +34,7 @@ module _ (t : Tree) (w : Formed t) (a m : ℕ) (v : Formed (openUp t a m)) (mp :
   opened-not : m ≢ t .home a
   opened-not = below-not t w opened-below
 
-  -- ---- homes and parents after
+  -- ---- homes and names after
 
   home-moves : (x : ℕ) → t .home x ≡ m → openUp t a m .home x ≡ t .home a
   unfolding openUp
@@ -43,14 +43,6 @@ module _ (t : Tree) (w : Formed t) (a m : ℕ) (v : Formed (openUp t a m)) (mp :
   home-stays : (x : ℕ) → t .home x ≢ m → openUp t a m .home x ≡ t .home x
   unfolding openUp
   home-stays x d = rw (ne-eqb (t .home x) m d)
-
-  parent-moves : (q : ℕ) → q ≢ m → t .parent q ≡ m → openUp t a m .parent q ≡ t .home a
-  unfolding openUp
-  parent-moves q n e = rw (ne-eqb q m n, eq-eqb (t .parent q) m e)
-
-  parent-stays : (q : ℕ) → q ≢ m → t .parent q ≢ m → openUp t a m .parent q ≡ t .parent q
-  unfolding openUp
-  parent-stays q n d = rw (ne-eqb q m n, ne-eqb (t .parent q) m d)
 
   name-stays : (q : ℕ) → q ≢ m → t .name q ≡ openUp t a m .name q
   unfolding openUp
@@ -85,18 +77,23 @@ module _ (t : Tree) (w : Formed t) (a m : ℕ) (v : Formed (openUp t a m)) (mp :
   unfolding standsAt openUp
   place-moves q n e = rw (upd-other (t .used) m q false n, ne-eqb q m n, e, eq-eqb m m refl, eq-eqb (t .home a) (t .home a) refl)
 
-  and-no : (b c : Bool) → b && (c && false) ≡ false
-  and-no true true = refl
-  and-no true false = refl
-  and-no false c = refl
-
   places-elsewhere : (s q : ℕ) → s ≢ t .home a → s ≢ m → standsAt t q s ≡ standsAt (openUp t a m) q s
   unfolding standsAt openUp
   places-elsewhere s q sp sm = go (eq? q m) (eq? (t .parent q) m)
     where
       go : (q ≡ m) ⊎ (q ≢ m) → (t .parent q ≡ m) ⊎ (t .parent q ≢ m) → standsAt t q s ≡ standsAt (openUp t a m) q s
-      go (inl e) c = rw (upd-at (t .used) m q false e, ne-eqb (t .parent q) s (λ z. sp (sym z ∙ ap (t .parent) e ∙ mp .parent)), and-no (t .used q) (not (eqb q 0)))
-      go (inr n) (inl e) = rw (upd-other (t .used) m q false n, ne-eqb q m n, eq-eqb (t .parent q) m e, ne-eqb (t .parent q) s (λ z. sm (sym z ∙ e)), ne-eqb (t .home a) s (λ z. sp (sym z)))
+      go (inl e) c = rw (
+        upd-at (t .used) m q false e,
+        ne-eqb (t .parent q) s (λ z. sp (sym z ∙ ap (t .parent) e ∙ mp .parent)),
+        and-no (t .used q) (not (eqb q 0)),
+      )
+      go (inr n) (inl e) = rw (
+        upd-other (t .used) m q false n,
+        ne-eqb q m n,
+        eq-eqb (t .parent q) m e,
+        ne-eqb (t .parent q) s (λ z. sm (sym z ∙ e)),
+        ne-eqb (t .home a) s (λ z. sp (sym z)),
+      )
       go (inr n) (inr d) = place-stays s q n d
 
   -- the change is near the agent's own place
@@ -119,41 +116,54 @@ module _ (t : Tree) (w : Formed t) (a m : ℕ) (v : Formed (openUp t a m)) (mp :
           → agentAt (openUp t a m) (t .home a) x ≅ upd (agentAt t (t .home a)) a (row (restOf (t .unused a))) x ∣ agentAt t m x
       go (inl c) e =
           let n : t .home x ≢ m = λ z. opened-not (sym z ∙ ap (t .home) c) in
-          first-only (agent-is (openUp t a m) (t .home a) x (home-stays x n ∙ ap (t .home) c) ∙ ap row (upd-at (t .unused) a x (restOf (t .unused a)) c)
+          first-only (agent-is (openUp t a m) (t .home a) x (home-stays x n ∙ ap (t .home) c)
+          ∙ ap row (upd-at (t .unused) a x (restOf (t .unused a)) c)
           ∙ sym (upd-at (agentAt t (t .home a)) a x (row (restOf (t .unused a))) c)) (agent-not t m x n)
       go (inr c) (inl e) =
-          second-only (agent-is (openUp t a m) (t .home a) x (home-moves x e) ∙ ap row (upd-other (t .unused) a x (restOf (t .unused a)) c) ∙ sym (agent-is t m x e))
+          second-only (agent-is (openUp t a m) (t .home a) x (home-moves x e) ∙ ap row (upd-other (t .unused) a x (restOf (t .unused a)) c)
+          ∙ sym (agent-is t m x e))
           (upd-other (agentAt t (t .home a)) a x (row (restOf (t .unused a))) c ∙ agent-not t (t .home a) x (λ z. opened-not (sym e ∙ z)))
       go (inr c) (inr d) =
-          first-only (sym (agent-stays (t .home a) x c d) ∙ sym (upd-other (agentAt t (t .home a)) a x (row (restOf (t .unused a))) c)) (agent-not t m x d)
+          first-only (sym (agent-stays (t .home a) x c d) ∙ sym (upd-other (agentAt t (t .home a)) a x (row (restOf (t .unused a))) c))
+          (agent-not t m x d)
 
   -- a place that stood in m or beside it holds what it held
   inside-same : (s q : ℕ) → (s ≡ t .home a) ⊎ Below (t .parent) (t .home a) s → Stands t q s → q ≢ m → held t q ≡ held (openUp t a m) q
   inside-same s q l i n = low-same t (openUp t a m) w v (t .home a) (λ r. r ≡ m) open-local s q l i n
 
-  place-after : (q : ℕ) → placeAt (openUp t a m) (held (openUp t a m)) (t .home a) q ≅ upd (placeAt t (held t) (t .home a)) m nil q ∣ placeAt t (held t) m q
+  place-after : (q : ℕ) → placeAt (openUp t a m) (held (openUp t a m)) (t .home a) q ≅ upd (placeAt t (held t) (t .home a)) m nil q
+      ∣ placeAt t (held t) m q
   place-after q = go (eq? q m) (eq? (t .parent q) m)
     where
       go : (q ≡ m) ⊎ (q ≢ m) → (t .parent q ≡ m) ⊎ (t .parent q ≢ m)
           → placeAt (openUp t a m) (held (openUp t a m)) (t .home a) q ≅ upd (placeAt t (held t) (t .home a)) m nil q ∣ placeAt t (held t) m q
       go (inl e) c =
-          first-only (place-not (openUp t a m) (held (openUp t a m)) (t .home a) q (λ i. opened-gone (t .home a) (subst (λ r. Stands (openUp t a m) r (t .home a)) e i))
-          ∙ sym (upd-at (placeAt t (held t) (t .home a)) m q nil e)) (place-not t (held t) m q (λ i. opened-not (sym (i .parent) ∙ ap (t .parent) e ∙ mp .parent)))
+          first-only (place-not (openUp t a m) (held (openUp t a m)) (t .home a) q
+          (λ i. opened-gone (t .home a) (subst (λ r. Stands (openUp t a m) r (t .home a)) e i))
+          ∙ sym (upd-at (placeAt t (held t) (t .home a)) m q nil e))
+          (place-not t (held t) m q (λ i. opened-not (sym (i .parent) ∙ ap (t .parent) e ∙ mp .parent)))
       go (inr n) (inl e) =
-          second-only (sym (place-eq t (openUp t a m) (held t) (held (openUp t a m)) m (t .home a) q (place-moves q n e) (λ i. name-stays q n) (λ i. inside-same m q (inr opened-below) i n)))
+          second-only (sym (place-eq t (openUp t a m) (held t) (held (openUp t a m)) m (t .home a) q (place-moves q n e) (λ i. name-stays q n)
+          (λ i. inside-same m q (inr opened-below) i n)))
           (upd-other (placeAt t (held t) (t .home a)) m q nil n ∙ place-not t (held t) (t .home a) q (λ i. opened-not (sym e ∙ i .parent)))
       go (inr n) (inr d) =
-          first-only (sym (place-eq t (openUp t a m) (held t) (held (openUp t a m)) (t .home a) (t .home a) q (place-stays (t .home a) q n d) (λ i. name-stays q n)
+          first-only (sym (place-eq t (openUp t a m) (held t) (held (openUp t a m)) (t .home a) (t .home a) q (place-stays (t .home a) q n d)
+          (λ i. name-stays q n)
           (λ i. inside-same (t .home a) q (inl refl) i n))
           ∙ sym (upd-other (placeAt t (held t) (t .home a)) m q nil n)) (place-not t (held t) m q (λ i. d (i .parent)))
 
   -- ---- before and after
 
-  pub open-before : a < 64 → held t (t .home a) ≅ row (t .unused a) ∣ (amb (t .name m) (held t m) ∣ (agentsBut t (t .home a) a ∣ placesBut t (t .home a) m))
+  -- before: open n. P | n[Q] beside the rest
+  pub open-before : a < 64 → held t (t .home a) ≅ row (t .unused a)
+      ∣ (amb (t .name m) (held t m) ∣ (agentsBut t (t .home a) a ∣ placesBut t (t .home a) m))
   open-before l = agent-first t w a l
-      ⨾ struct-par-right (struct-par-right (parallel-first (placeAt t (held t) (t .home a)) m 64 (w .small m (mp .used)) ⨾ struct-par (of-path (place-is t (held t) (t .home a) m mp))) ⨾ swap)
+      ⨾ struct-par-right (struct-par-right (parallel-first (placeAt t (held t) (t .home a)) m 64 (w .small m (mp .used)) ⨾ struct-par
+      (of-path (place-is t (held t) (t .home a) m mp))) ⨾ swap)
 
-  pub open-after : a < 64 → held (openUp t a m) (t .home a) ≅ row (restOf (t .unused a)) ∣ (held t m ∣ (agentsBut t (t .home a) a ∣ placesBut t (t .home a) m))
+  -- after: P | Q beside the same rest
+  pub open-after : a < 64 → held (openUp t a m) (t .home a) ≅ row (restOf (t .unused a))
+      ∣ (held t m ∣ (agentsBut t (t .home a) a ∣ placesBut t (t .home a) m))
   unfolding level openUp
   open-after l =
       of-path (unfolds (openUp t a m) v (t .home a) own-used)
@@ -173,4 +183,5 @@ module _ (t : Tree) (w : Formed t) (a m : ℕ) (v : Formed (openUp t a m)) (mp :
       twice = upd-eq spent (agentAt t (t .home a)) a (λ x n. upd-other (agentAt t (t .home a)) a x (row (restOf (t .unused a))) n)
 
       first : parallel spent 64 ≅ row (restOf (t .unused a)) ∣ agentsBut t (t .home a) a
-      first = parallel-first spent a 64 l ⨾ pars (of-path (upd-same (agentAt t (t .home a)) a (row (restOf (t .unused a))))) (of-path (parallel-same 64 twice))
+      first = parallel-first spent a 64 l ⨾ pars (of-path (upd-same (agentAt t (t .home a)) a (row (restOf (t .unused a)))))
+          (of-path (parallel-same 64 twice))

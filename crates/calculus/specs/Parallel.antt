@@ -74,6 +74,7 @@ pub data Found (f g : ℕ → Term) (L R : Term) : Type 0 where
   in-first : {M Z : Term} (x : ℕ) → x < 64 → Takes (f x) M Z → Like M L → (Z ∣ parallel (upd f x nil) 64) ∣ parallel g 64 ≅ R → Found f g L R
   in-second : {M Z : Term} (x : ℕ) → x < 64 → Takes (g x) M Z → Like M L → parallel f 64 ∣ (Z ∣ parallel (upd g x nil) 64) ≅ R → Found f g L R
 
+-- every such part is found in one of them
 pub found : (f g : ℕ → Term) {L R : Term} → Takes L L nil → parallel f 64 ∣ parallel g 64 ≅ L ∣ R → Found f g L R
 found f g {L} {R} o e = go (k .takes) (k .like) (k .same ⨾ zero-par)
   where

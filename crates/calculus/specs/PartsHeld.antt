@@ -15,7 +15,8 @@ use Rattle.calculus.specs.Formed.{Good, none, more, Formed}
 use Rattle.calculus.specs.MoveCases.{Stands, stands-in}
 use Rattle.calculus.specs.Terms.{Term, amb, nil, _∣_, enter, exit, «open», _≅_, struct-symm, struct-par}
 use Rattle.calculus.specs.TermLaws.{_⨾_, of-path, zero-par, struct-par-right}
-use Rattle.calculus.specs.Equivalence.{Takes, take-amb, take-enter, take-exit, take-open, take-left, take-right, Like, like-amb, like-enter, like-exit, like-open}
+use Rattle.calculus.specs.Equivalence.{Takes, take-amb, take-enter, take-exit, take-open, take-left, take-right, Like, like-amb}
+use Rattle.calculus.specs.Equivalence.{like-enter, like-exit, like-open}
 use Rattle.calculus.specs.TermOf.{prefix, row, parallel, agentAt, placeAt, held}
 use Rattle.calculus.specs.Parallel.{Found, in-first, in-second, found}
 
@@ -123,13 +124,16 @@ like-place : {n m : ℕ} {P Q : Term} → Like (amb n P) (amb m Q) → (n ≡ m)
 like-place (like-amb e) = (refl, e)
 
 -- a row like `enter n. P`, `exit n. P` or `open n. P` has that action first
-pub acting-enter : {l : List Action} {M P : Term} {n : ℕ} → Acting l M → Like M (enter n P) → (firstOf l .kind ≡ 1) × (firstOf l .name ≡ n) × (row (restOf l) ≅ P)
+pub acting-enter : {l : List Action} {M P : Term} {n : ℕ} → Acting l M → Like M (enter n P)
+    → (firstOf l .kind ≡ 1) × (firstOf l .name ≡ n) × (row (restOf l) ≅ P)
 acting-enter (act-enter k) (like-enter e) = (k, refl, e)
 
-pub acting-exit : {l : List Action} {M P : Term} {n : ℕ} → Acting l M → Like M (exit n P) → (firstOf l .kind ≡ 2) × (firstOf l .name ≡ n) × (row (restOf l) ≅ P)
+pub acting-exit : {l : List Action} {M P : Term} {n : ℕ} → Acting l M → Like M (exit n P)
+    → (firstOf l .kind ≡ 2) × (firstOf l .name ≡ n) × (row (restOf l) ≅ P)
 acting-exit (act-exit k) (like-exit e) = (k, refl, e)
 
-pub acting-open : {l : List Action} {M P : Term} {n : ℕ} → Acting l M → Like M («open» n P) → (firstOf l .kind ≡ 3) × (firstOf l .name ≡ n) × (row (restOf l) ≅ P)
+pub acting-open : {l : List Action} {M P : Term} {n : ℕ} → Acting l M → Like M («open» n P)
+    → (firstOf l .kind ≡ 3) × (firstOf l .name ≡ n) × (row (restOf l) ≅ P)
 acting-open (act-open k) (like-open e) = (k, refl, e)
 
 -- ---- what a place holds, or some of it
@@ -139,6 +143,7 @@ pub record Some (t : Tree) (p : ℕ) (f g : ℕ → Term) : Type 0 where
   pub agents : (x : ℕ) {M Z : Term} → Takes (f x) M Z → Takes (agentAt t p x) M Z
   pub places : (q : ℕ) {M Z : Term} → Takes (g q) M Z → Takes (placeAt t (held t) p q) M Z
 
+-- all of them are some of them
 pub some-all : (t : Tree) (p : ℕ) → Some t p (agentAt t p) (placeAt t (held t) p)
 some-all t p = record { agents = λ x o. o; places = λ q o. o }
 

@@ -1,5 +1,6 @@
 -- The moves of a formed tree are the reductions of its term in the published calculus, both ways: `published`.
--- Idea: one move by MovesReduce and ReductionsMove; any number of them by (Red Struct), since the tree reached has the term reached up to equivalence.
+-- Idea: one move by MovesReduce and ReductionsMove; any number of them by (Red Struct), since the tree reached has the term reached up to
+-- equivalence.
 use Prim.Native.Nat.{ℕ, _<_}
 use Rattle.meaning.specs.Calculus.{Tree, Move}
 use Rattle.calculus.specs.Formed.{Formed}
@@ -69,5 +70,13 @@ pub record Published : Type 0 where
   -- each row of reductions is a row of moves
   pub reaches : {t : Tree} {P : Term} → Formed t → term t ⟶* P → Reached t P
 
+-- all of it is so
 pub published : Published
-published = record { formed = move-formed; mover = mover-below-64; reduces = published-reduces; moves = published-moves; run = published-run; reaches = published-reached }
+published = record {
+  formed = move-formed;
+  mover = mover-below-64;
+  reduces = published-reduces;
+  moves = published-moves;
+  run = published-run;
+  reaches = published-reached;
+}

@@ -10,7 +10,7 @@ use Rattle.table.specs.Base.{upd}
 use Rattle.table.specs.BaseLaws.{upd-at}
 use Rattle.meaning.specs.Calculus.{Tree, nextOf, restOf, putInto, openUp, Move}
 use Rattle.calculus.specs.Formed.{Formed}
-use Rattle.calculus.specs.MoveCases.{Stands, enters, exits, opens, case-move}
+use Rattle.calculus.specs.MoveCases.{Stands, by-enter, by-exit, by-open, case-move}
 use Rattle.calculus.specs.MoveFormed.{enter-formed, exit-formed, open-formed, move-formed}
 use Rattle.calculus.specs.Above.{Above, above-self, above-next, below-one, below-not}
 use Rattle.calculus.specs.Terms.{Term, amb, nil, _∣_, enter, exit, «open», _≅_, struct-refl, struct-symm, struct-par-assoc, struct-amb, _⟶_}
@@ -23,7 +23,8 @@ use Rattle.calculus.specs.Contents.{agentsOf, agentsBut, placesOf, place
 use Rattle.calculus.specs.Near.{Local, climbs}
 use Rattle.calculus.specs.EnterExit.{Two, Travel, travel-local, enter-after, exit-after}
 use Rattle.calculus.specs.OpenUp.{open-local, open-after}
-use Rattle.calculus.specs.PartsHeld.{head, some-all, some-places, some-agents, acting-enter, acting-exit, acting-open, FoundPlace, FoundAgent, found-place, found-agent}
+use Rattle.calculus.specs.PartsHeld.{head, some-all, some-places, some-agents, acting-enter, acting-exit, acting-open, FoundPlace}
+use Rattle.calculus.specs.PartsHeld.{FoundAgent, found-place, found-agent}
 
 -- a move near a place in s or below it, after which s holds Q
 record Answer (t : Tree) (s : ℕ) (Q : Term) : Type 1 where
@@ -84,7 +85,7 @@ module _ (t : Tree) (w : Formed t) where
       go y = record {
         who = a;
         after = putInto t a (y .which);
-        move = case-move (enters (y .which) k (x .stands .placed) other apart (y .name ∙ sym c));
+        move = case-move (by-enter (y .which) k (x .stands .placed) other apart (y .name ∙ sym c));
         place = s;
         touched = Two (t .home a) (y .which);
         change = travel-local t w a (y .which) (y .which) s v travel;
@@ -105,7 +106,8 @@ module _ (t : Tree) (w : Formed t) where
           travel : Travel t a (y .which) (y .which) s
           travel = record { own = x .stands .placed; other = y .stands; apart = apart; from = inl (x .stands .parent); to = inr refl }
 
-  enter-answer : (s : ℕ) {n m : ℕ} {P Q R R₀ : Term} → t .used s ≡ true → held t s ≅ (amb n (enter m P ∣ Q) ∣ amb m R) ∣ R₀ → Answer t s (amb m (amb n (P ∣ Q) ∣ R) ∣ R₀)
+  enter-answer : (s : ℕ) {n m : ℕ} {P Q R R₀ : Term} → t .used s ≡ true → held t s ≅ (amb n (enter m P ∣ Q) ∣ amb m R) ∣ R₀
+      → Answer t s (amb m (amb n (P ∣ Q) ∣ R) ∣ R₀)
   unfolding head
   enter-answer s {n} {m} {P} {Q} {R} {R₀} us e = go (place-in s us (e ⨾ struct-par-assoc))
     where
@@ -116,22 +118,25 @@ module _ (t : Tree) (w : Formed t) where
           at z =
               let k = acting-enter (z .acting) (z .like) in
               enter-at (z .who) s (z .less) (k .0) (k .1) (k .2)
-              (subst (λ h. EnterAt t (z .who) s h n (amb m R ∣ R₀) Q) (sym (z .home)) (record { stands = y .stands; name = y .name; left = y .left; inner = z .left }))
+              (subst (λ h. EnterAt t (z .who) s h n (amb m R ∣ R₀) Q) (sym (z .home))
+              (record { stands = y .stands; name = y .name; left = y .left; inner = z .left }))
 
   -- ---- Red Exit
 
   exit-at : (a : ℕ) {n m : ℕ} {P Q R R₀ : Term} → a < 64 → nextOf t a .kind ≡ 2 → nextOf t a .name ≡ m → row (restOf (t .unused a)) ≅ P
-      → ExitAt t a n m Q R R₀ (t .home a) (t .parent (t .home a)) (t .parent (t .parent (t .home a))) → Answer t (t .parent (t .parent (t .home a))) ((amb n (P ∣ Q) ∣ amb m R) ∣ R₀)
+      → ExitAt t a n m Q R R₀ (t .home a) (t .parent (t .home a)) (t .parent (t .parent (t .home a)))
+      → Answer t (t .parent (t .parent (t .home a))) ((amb n (P ∣ Q) ∣ amb m R) ∣ R₀)
   exit-at a l k c r x = record {
     who = a;
     after = putInto t a p;
-    move = case-move (exits k (x .stands .placed) (x .outer-name ∙ sym c));
+    move = case-move (by-exit k (x .stands .placed) (x .outer-name ∙ sym c));
     place = p;
     touched = Two (t .home a) m;
     change = travel-local t w a p m p v travel;
     above = above-self (t .parent) p;
     holds = exit-after t w a m p v travel refl l
-        ⨾ pars (renamed (x .name) ⨾ struct-amb (pars r (x .inner))) (pars (renamed (x .outer-name) ⨾ struct-amb (x .left)) (x .outer-left)) ⨾ struct-symm struct-par-assoc;
+        ⨾ pars (renamed (x .name) ⨾ struct-amb (pars r (x .inner))) (pars (renamed (x .outer-name) ⨾ struct-amb (x .left)) (x .outer-left))
+        ⨾ struct-symm struct-par-assoc;
   }
     where
       m : ℕ
@@ -144,9 +149,16 @@ module _ (t : Tree) (w : Formed t) where
       v = exit-formed t w a (x .stands .placed)
 
       travel : Travel t a p m p
-      travel = record { own = x .stands .placed; other = x .outer; apart = λ e. below-not t w (below-one (x .stands .placed) refl) (sym e); from = inr refl; to = inl refl }
+      travel = record {
+        own = x .stands .placed;
+        other = x .outer;
+        apart = λ e. below-not t w (below-one (x .stands .placed) refl) (sym e);
+        from = inr refl;
+        to = inl refl;
+      }
 
-  exit-answer : (s : ℕ) {n m : ℕ} {P Q R R₀ : Term} → t .used s ≡ true → held t s ≅ amb m (amb n (exit m P ∣ Q) ∣ R) ∣ R₀ → Answer t s ((amb n (P ∣ Q) ∣ amb m R) ∣ R₀)
+  exit-answer : (s : ℕ) {n m : ℕ} {P Q R R₀ : Term} → t .used s ≡ true → held t s ≅ amb m (amb n (exit m P ∣ Q) ∣ R) ∣ R₀
+      → Answer t s ((amb n (P ∣ Q) ∣ amb m R) ∣ R₀)
   unfolding head
   exit-answer s {n} {m} {P} {Q} {R} {R₀} us e = go (place-in s us e)
     where
@@ -163,7 +175,15 @@ module _ (t : Tree) (w : Formed t) where
                   let e₃ : t .parent (t .parent (t .home (z .who))) ≡ s = ap (t .parent) e₂ ∙ y .stands .parent in
                   subst (λ r. Answer t r ((amb n (P ∣ Q) ∣ amb m R) ∣ R₀)) e₃ (exit-at (z .who) (z .less) (k .0) (k .1) (k .2)
                   (subst₃ (ExitAt t (z .who) n m Q R R₀) (sym (z .home)) (sym e₂) (sym e₃)
-                  (record { outer = y .stands; stands = i .stands; name = i .name; outer-name = y .name; inner = z .left; left = i .left; outer-left = y .left })))
+                  (record {
+                    outer = y .stands;
+                    stands = i .stands;
+                    name = i .name;
+                    outer-name = y .name;
+                    inner = z .left;
+                    left = i .left;
+                    outer-left = y .left;
+                  })))
 
   -- ---- Red Open
 
@@ -178,7 +198,7 @@ module _ (t : Tree) (w : Formed t) where
           record {
             who = a;
             after = openUp t a (y .which);
-            move = case-move (opens (y .which) k (y .stands) (y .name ∙ sym c));
+            move = case-move (by-open (y .which) k (y .stands) (y .name ∙ sym c));
             place = t .home a;
             touched = λ r. r ≡ y .which;
             change = open-local t w a (y .which) v (y .stands);
@@ -200,7 +220,16 @@ module _ (t : Tree) (w : Formed t) where
 
   -- an answer for each equivalent term
   widen : {s : ℕ} {P Q : Term} → Answer t s P → P ≅ Q → Answer t s Q
-  widen a e = record { who = a .who; after = a .after; move = a .move; place = a .place; touched = a .touched; change = a .change; above = a .above; holds = a .holds ⨾ e }
+  widen a e = record {
+    who = a .who;
+    after = a .after;
+    move = a .move;
+    place = a .place;
+    touched = a .touched;
+    change = a .change;
+    above = a .above;
+    holds = a .holds ⨾ e;
+  }
 
   -- one ambient up
   rises : (s : ℕ) {n : ℕ} {S S′ R Q : Term} (y : PlaceIn t s n S R) → Answer t (y .which) S′ → Q ≅ amb n S′ ∣ R → Answer t s Q

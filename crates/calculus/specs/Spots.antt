@@ -1,7 +1,8 @@
 -- A reduction, by the spot where it happens: at the top beside a rest, or within an ambient beside a rest.
 -- Idea: a spot keeps the three rules that move something and takes up Red Par and Red Struct in its two equivalences.
 use Prim.Native.Nat.{ℕ}
-use Rattle.calculus.specs.Terms.{Term, amb, nil, _∣_, enter, exit, «open», _≅_, struct-symm, struct-par-zero, struct-par-assoc, struct-par, _⟶_, red-enter, red-exit, red-open, red-amb, red-par, red-struct}
+use Rattle.calculus.specs.Terms.{Term, amb, nil, _∣_, enter, exit, «open», _≅_, struct-symm, struct-par-zero, struct-par-assoc}
+use Rattle.calculus.specs.Terms.{struct-par, _⟶_, red-enter, red-exit, red-open, red-amb, red-par, red-struct}
 use Rattle.calculus.specs.TermLaws.{_⨾_}
 
 -- the three rules that move something

@@ -1,7 +1,8 @@
--- Small laws of equivalence and of reduction: chains, both sides of a parallel, and moving one part past another.
+-- Small laws of equivalence: chains, both sides of a parallel, and moving one part past another.
 use mathlib.Core.Path.{_≡_, ap, subst}
 use Prim.Native.Nat.{ℕ}
-use Rattle.calculus.specs.Terms.{Term, amb, nil, _∣_, _≅_, struct-refl, struct-symm, struct-trans, struct-par-zero, struct-par-comm, struct-par-assoc, struct-par, _⟶_, _⟶*_, red-none, red-then}
+use Rattle.calculus.specs.Terms.{Term, amb, nil, _∣_, _≅_, struct-refl, struct-symm, struct-trans, struct-par-zero, struct-par-comm}
+use Rattle.calculus.specs.Terms.{struct-par-assoc, struct-par}
 
 infixr 30 _⨾_
 -- (Struct Trans), to be written in a row
@@ -35,12 +36,3 @@ swap = struct-symm struct-par-assoc ⨾ struct-par struct-par-comm ⨾ struct-pa
 -- the middle two of four change places
 pub swap-middle : {P Q R S : Term} → (P ∣ Q) ∣ (R ∣ S) ≅ (P ∣ R) ∣ (Q ∣ S)
 swap-middle = struct-par-assoc ⨾ struct-par-right swap ⨾ struct-symm struct-par-assoc
-
--- one reduction is a chain of reductions
-pub red-one : {P Q : Term} → P ⟶ Q → P ⟶* Q
-red-one r = red-then r red-none
-
--- two chains of reductions make one
-pub red-chain : {P Q R : Term} → P ⟶* Q → Q ⟶* R → P ⟶* R
-red-chain red-none s = s
-red-chain (red-then r q) s = red-then r (red-chain q s)

@@ -102,6 +102,7 @@ module _ (f : ℕ → ℕ) (z : f 0 ≡ 0) where
       go (nay e) (yea g) r = (up q (rw (e, g) (subst (Up (opened t p)) (ap f (eqb-true (f q) t g) ∙ tp) (r .1))), r .0)
       go (nay e) (nay g) r = (up q (rw (e, g) (r .0)), r .0)
 
+  -- so every place still leads to the floor
   pub opened-up : (t p : ℕ) → f t ≡ p → ((q : ℕ) → Up f q) → (q : ℕ) → Up (opened t p) q
   opened-up t p tp us q = opened-both t p tp (us q) .0
 

@@ -15,6 +15,7 @@ use Rattle.table.specs.declared.Agent.{Agent}
 use Rattle.meaning.specs.Update.{useUp, atStage}
 use Rattle.meaning.specs.Calculus.{firstOf, restOf}
 use Rattle.calculus.specs.Formed.{Good, none, more}
+use Rattle.calculus.specs.MoveFormed.{good-rest, good-first}
 use Rattle.demands.specs.Facts.{Kind, kind-is}
 use Rattle.demands.specs.Invariant.{Fit}
 
@@ -53,9 +54,9 @@ first-unused a f = go (told (hasAction a))
   where
     go : Told (hasAction a) → firstOf (unused a) ≡ nextAction a
     go (yea e) =
-      let l = ltb-true (a .next) (a .count) e in
-      let few = f .few in
-      first-tab _ (a .count - a .next) (a .next) (omega arith) ∙ sym (rw (e, lt-ltb (a .next) 16 (omega arith)))
+        let l = ltb-true (a .next) (a .count) e in
+        let few = f .few in
+        first-tab _ (a .count - a .next) (a .next) (omega arith) ∙ sym (rw (e, lt-ltb (a .next) 16 (omega arith)))
     go (nay e) = ap firstOf (unused-none a e) ∙ sym (next-none a e)
 
 -- an action used up leaves the rest of the row
@@ -70,18 +71,10 @@ good-kind : {l : List Action} → Good l → firstOf l .kind ≤ 3
 good-kind none = omega arith
 good-kind (more a b n g) = b
 
-good-name : {l : List Action} → Good l → 1 ≤ firstOf l .kind → 1 ≤ firstOf l .name
-good-name none k = absurd (omega arith)
-good-name (more a b n g) k = n
-
 good-some : (f : ℕ → Action) (n k : ℕ) → 1 ≤ n → Good (tab f n k) → 1 ≤ firstOf (tab f n k) .kind
 unfolding tab
 good-some f zero k l g = absurd (omega arith)
 good-some f (suc n) k l (more a b w g) = a
-
-good-rest : {l : List Action} → Good l → Good (restOf l)
-good-rest none = none
-good-rest (more a b n g) = g
 
 -- the kind of the next action is 3 at most
 pub kind-small : (a : Agent) → Fit a → kindOf a ≤ 3
@@ -89,14 +82,14 @@ kind-small a f = subst (λ (n : ℕ). n ≤ 3) (ap (λ (x : Action). x .kind) (f
 
 -- and its name is not 0
 pub name-some : (a : Agent) → Fit a → 1 ≤ kindOf a → 1 ≤ nameOf a
-name-some a f k = subst (λ (x : Action). 1 ≤ x .kind → 1 ≤ x .name) (first-unused a f) (good-name (f .good)) k
+name-some a f k = subst (λ (x : Action). 1 ≤ x .kind → 1 ≤ x .name) (first-unused a f) (good-first (f .good)) k
 
 -- an action is left exactly if the next one has a kind
 pub kind-some : (a : Agent) → Fit a → hasAction a ≡ true → 1 ≤ kindOf a
 unfolding unused
 kind-some a f e =
-  let l = ltb-true (a .next) (a .count) e in
-  subst (λ (x : Action). 1 ≤ x .kind) (first-unused a f) (good-some _ (a .count - a .next) (a .next) (omega arith) (f .good))
+    let l = ltb-true (a .next) (a .count) e in
+    subst (λ (x : Action). 1 ≤ x .kind) (first-unused a f) (good-some _ (a .count - a .next) (a .next) (omega arith) (f .good))
 
 pub has-some : (a : Agent) → 1 ≤ kindOf a → hasAction a ≡ true
 has-some a k = go (told (hasAction a))
@@ -119,4 +112,4 @@ fit-stage a stage remembered chosen f = record { ordered = f .ordered; few = f .
 -- with an action used up
 pub fit-used : (a : Agent) → Fit a → hasAction a ≡ true → Fit (useUp a)
 fit-used a f e = let l = ltb-true (a .next) (a .count) e in
-  record { ordered = omega arith; few = f .few; good = subst Good (sym (rest-unused a)) (good-rest (f .good)) }
+    record { ordered = omega arith; few = f .few; good = subst Good (sym (rest-unused a)) (good-rest (f .good)) }

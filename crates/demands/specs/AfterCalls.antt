@@ -50,4 +50,4 @@ pub record AfterCalls (c : State) (calls : List Call) : Type 0 where
   pub goes-on : (x : ℕ) → cellOf (reached c calls) .given x ≡ true → rests (reached c calls) x ≡ false → (y : ℕ) × StepChanges (reached c calls) y
   -- when all agents are asleep or done, the calculus permits no move
   pub at-rest : ((x : ℕ) → cellOf (reached c calls) .given x ≡ true → rests (reached c calls) x ≡ true)
-    → (a : ℕ) (u : Tree) → Move (plainAfter c calls .tree) a u → ⊥
+      → (a : ℕ) (u : Tree) → Move (plainAfter c calls .tree) a u → ⊥

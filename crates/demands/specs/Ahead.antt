@@ -11,7 +11,8 @@ use Rattle.table.specs.Cell.{Land, State, none, linked, kindOf}
 use Rattle.table.specs.Sound.{secondPlace}
 use Rattle.table.specs.declared.Agent.{Agent}
 use Rattle.meaning.specs.Update.{atStage}
-use Rattle.meaning.specs.Step.{step, stepAt, look, lockFirst, hold, lockSecond, act, travel, take, release, turn, still, leave, dissolve, arrive, choice, stays, fires, destinationOf}
+use Rattle.meaning.specs.Step.{step, stepAt, look, lockFirst, hold, lockSecond, act, travel, take, release, turn, still, leave, dissolve}
+use Rattle.meaning.specs.Step.{arrive, choice, stays, fires, destinationOf}
 use Rattle.demands.specs.Reading.{parentIn}
 use Rattle.demands.specs.Facts.{parent-read}
 use Rattle.demands.specs.Ways.{goesOn, takesLock, givesBack}
@@ -28,13 +29,14 @@ module _ (c : State) (x w : ℕ) where
   unfolding step
   by-stage n d s e = ap (λ (k : ℕ). stepAt k c x own w .cell) s ∙ e
 
-  taken : (q stage remembered chosen : ℕ) → c .lock q ≡ none → take c x q (atStage own stage remembered chosen) .cell ≡ takesLock c x q stage remembered chosen
+  taken : (q stage remembered chosen : ℕ) → c .lock q ≡ none
+      → take c x q (atStage own stage remembered chosen) .cell ≡ takesLock c x q stage remembered chosen
   unfolding take still
   taken q stage remembered chosen e = rw (eq-eqb (c .lock q) none e)
 
   -- stage 0, with something to look at
   pub ahead-look : own .stage ≡ 0 → c .land .used (own .home) ≡ true → (kindOf own ≢ 3 → linked (c .land) (own .home) ≡ true)
-    → step c x w .cell ≡ goesOn c x 1 (looksAt (c .land) own) 0
+      → step c x w .cell ≡ goesOn c x 1 (looksAt (c .land) own) 0
   unfolding stepAt look turn still
   ahead-look s u f = by-stage 0 _ s (go (told (eqb (kindOf own) 3)))
     where
@@ -49,8 +51,8 @@ module _ (c : State) (x w : ℕ) where
 
   -- stage 2, with the second place free
   pub ahead-second : (q : ℕ) → own .stage ≡ 2 → stays (c .land) own ≡ true → choice (c .land) own w ≡ q → q < 64
-    → c .lock (secondPlace (kindOf own) (own .home) q) ≡ none
-    → step c x w .cell ≡ takesLock c x (secondPlace (kindOf own) (own .home) q) 3 (own .remembered) (cond (eqb (kindOf own) 2) 0 q)
+      → c .lock (secondPlace (kindOf own) (own .home) q) ≡ none
+      → step c x w .cell ≡ takesLock c x (secondPlace (kindOf own) (own .home) q) 3 (own .remembered) (cond (eqb (kindOf own) 2) 0 q)
   unfolding stepAt hold lockSecond
   ahead-second q s st e l f = by-stage 2 _ s (rw (st, e, lt-ltb q 64 l) (taken _ _ _ _ f))
 
@@ -60,11 +62,13 @@ module _ (c : State) (x w : ℕ) where
   ahead-back s st = by-stage 2 _ s (rw st)
 
   -- stage 3, the action fires
-  pub ahead-leave : own .stage ≡ 3 → kindOf own ≢ 3 → fires (c .land) own ≡ true → step c x w .cell ≡ leave c x own (destinationOf (c .land) own) .cell
+  pub ahead-leave : own .stage ≡ 3 → kindOf own ≢ 3 → fires (c .land) own ≡ true
+      → step c x w .cell ≡ leave c x own (destinationOf (c .land) own) .cell
   unfolding stepAt act
   ahead-leave s k f = by-stage 3 _ s (rw (f, ne-eqb (kindOf own) 3 k))
 
-  pub ahead-open : own .stage ≡ 3 → kindOf own ≡ 3 → fires (c .land) own ≡ true → step c x w .cell ≡ dissolve c x own (own .remembered) (own .chosen) .cell
+  pub ahead-open : own .stage ≡ 3 → kindOf own ≡ 3 → fires (c .land) own ≡ true
+      → step c x w .cell ≡ dissolve c x own (own .remembered) (own .chosen) .cell
   unfolding stepAt act
   ahead-open s k f = by-stage 3 _ s (rw (f, eq-eqb (kindOf own) 3 k))
 
@@ -74,9 +78,10 @@ module _ (c : State) (x w : ℕ) where
   ahead-own s e = by-stage 4 _ s (rw (ap (λ n. eqb n 4) s) (taken _ _ _ _ e))
 
   pub ahead-destination : own .stage ≡ 5 → c .land .used (own .home) ≡ true → c .lock (parentIn (c .land) (own .home)) ≡ none
-    → step c x w .cell ≡ takesLock c x (parentIn (c .land) (own .home)) 6 0 0
+      → step c x w .cell ≡ takesLock c x (parentIn (c .land) (own .home)) 6 0 0
   unfolding stepAt travel
-  ahead-destination s u e = by-stage 5 _ s (rw (ap (λ n. eqb n 4) s, ap (λ n. eqb n 5) s, sym (parent-read (c .land) (own .home) u)) (taken _ _ _ _ e))
+  ahead-destination s u e = by-stage 5 _ s (rw (ap (λ n. eqb n 4) s, ap (λ n. eqb n 5) s, sym (parent-read (c .land) (own .home) u))
+      (taken _ _ _ _ e))
 
   pub ahead-arrive : own .stage ≡ 6 → step c x w .cell ≡ arrive c x own (c .land .place (own .home) .parent) .cell
   unfolding stepAt travel

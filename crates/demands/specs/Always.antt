@@ -1,6 +1,7 @@
 -- Every step keeps a cell sound and gives every sleeper a reason to sleep, from every sound cell, and so does every list of calls on a table.
 -- Each way that a step can go has its own lemma; this file collects them, and goes from cells to tables by reading back.
-use mathlib.Core.Path.{_≡_}
+use mathlib.Core.Path.{_≡_, refl}
+use mathlib.Core.Logic.{inl}
 use mathlib.Core.Bool.{true}
 use mathlib.Core.List.{List, [], _∷_}
 use Prim.Native.Nat.{ℕ}
@@ -13,68 +14,69 @@ use Rattle.table.specs.declared.Cell.{Cell}
 use Rattle.meaning.specs.Step.{Outcome, still, step}
 use Rattle.meaning.specs.Run.{Call, stepOf, made, turnedAway, run}
 use Rattle.demands.specs.Invariant.{Sound, Inv}
-use Rattle.demands.specs.Ways.{Way, is-done, is-asleep, held-first, held-second, held-own, held-destination, looks-up, looks-home, sleeps-alone, takes-first, goes-back, sleeps-stuck, takes-second, gives-up, enters, exits, opens, takes-own, takes-destination, comes}
+use Rattle.demands.specs.Ways.{Way, is-done, is-asleep, held-first, held-second, held-own, held-destination, looks-up, looks-home}
+use Rattle.demands.specs.Ways.{sleeps-alone, takes-first, goes-back, sleeps-stuck, takes-second, gives-up, enters, exits, opens}
+use Rattle.demands.specs.Ways.{takes-own, takes-destination, comes}
 use Rattle.demands.specs.StepWays.{step-way}
 use Rattle.demands.specs.Change.{Keeps, keeps-inv}
-use Rattle.demands.specs.Quiet.{keep-look, keep-look-home, keep-sleep-alone, keep-take-first, keep-back, keep-sleep-stuck, keep-take-second, keep-give-up, keep-take-own, keep-take-destination}
+use Rattle.demands.specs.Quiet.{keep-look, keep-look-home, keep-sleep-alone, keep-take-first, keep-back, keep-sleep-stuck}
+use Rattle.demands.specs.Quiet.{keep-take-second, keep-give-up, keep-take-own, keep-take-destination}
 use Rattle.demands.specs.Leaving.{keep-enter, keep-exit}
 use Rattle.demands.specs.Coming.{keep-come}
 use Rattle.demands.specs.Opening.{open-keeps}
-use Rattle.demands.specs.ReadBack.{Within, bounded-within, sound-within, way-within, sound-back, inv-back}
+use Rattle.demands.specs.Within.{Within, bounded-within}
+use Rattle.demands.specs.ReadBack.{sound-within, sound-back, inv-back}
 use Rattle.demands.specs.SoundTest.{sound-true}
 
 -- ---- one step of a cell
 
 module _ (c : State) (i : Sound c) (x : ℕ) (g : c .given x ≡ true) where
   -- where nothing changes
-  same : Keeps c c
-  same = record { sound = i; sleep = λ s. s }
+  same : Keeps c x c
+  same = record { sound = i; sleep = λ s. s; given = λ y. refl; within = λ b. b; others = λ y n. inl refl }
 
   -- every way keeps the cell
-  pub way-kept : {wish : ℕ} {o : Outcome} → Way c x wish o → Keeps c (o .cell)
+  pub way-keeps : {wish : ℕ} {o : Outcome} → Way c x wish o → Keeps c x (o .cell)
   unfolding still
-  way-kept (is-done _) = same
-  way-kept (is-asleep _) = same
-  way-kept (held-first _ _) = same
-  way-kept (held-second _ _ _ _) = same
-  way-kept (held-own _ _) = same
-  way-kept (held-destination _ _) = same
-  way-kept (looks-up s k _) = keep-look c i x g s k
-  way-kept (looks-home s _) = keep-look-home c i x g s
-  way-kept (sleeps-alone s k e) = keep-sleep-alone c i x g s k e
-  way-kept (takes-first s e) = keep-take-first c i x g s e
-  way-kept (goes-back s _) = keep-back c i x g s
-  way-kept {wish} (sleeps-stuck s e l) = keep-sleep-stuck c i x g wish s e l
-  way-kept {wish} (takes-second q s e f l h) = keep-take-second c i x g wish q s e f l h
-  way-kept (gives-up s _) = keep-give-up c i x g s
-  way-kept (enters s k e) = keep-enter c i x g s k e
-  way-kept (exits s k _) = keep-exit c i x g s k
-  way-kept (opens s k e) = open-keeps c i x g s k e
-  way-kept (takes-own s e) = keep-take-own c i x g s e
-  way-kept (takes-destination s e) = keep-take-destination c i x g s e
-  way-kept (comes s) = keep-come c i x g s
+  way-keeps (is-done _) = same
+  way-keeps (is-asleep _) = same
+  way-keeps (held-first _ _) = same
+  way-keeps (held-second _ _ _ _) = same
+  way-keeps (held-own _ _) = same
+  way-keeps (held-destination _ _) = same
+  way-keeps (looks-up s k _) = keep-look c i x g s k
+  way-keeps (looks-home s _) = keep-look-home c i x g s
+  way-keeps (sleeps-alone s k e) = keep-sleep-alone c i x g s k e
+  way-keeps (takes-first s e) = keep-take-first c i x g s e
+  way-keeps (goes-back s _) = keep-back c i x g s
+  way-keeps {wish} (sleeps-stuck s e l) = keep-sleep-stuck c i x g wish s e l
+  way-keeps {wish} (takes-second q s e f l h) = keep-take-second c i x g wish q s e f l h
+  way-keeps (gives-up s _) = keep-give-up c i x g s
+  way-keeps (enters s k e) = keep-enter c i x g s k e
+  way-keeps (exits s k _) = keep-exit c i x g s k
+  way-keeps (opens s k e) = open-keeps c i x g s k e
+  way-keeps (takes-own s e) = keep-take-own c i x g s e
+  way-keeps (takes-destination s e) = keep-take-destination c i x g s e
+  way-keeps (comes s) = keep-come c i x g s
 
   -- so does every step
-  pub step-kept : (wish : ℕ) → Keeps c (step c x wish .cell)
-  step-kept wish = way-kept (step-way c i x g wish)
-
-  -- and it changes nothing past 64
-  pub step-within : Within c → (wish : ℕ) → Within (step c x wish .cell)
-  step-within b wish = way-within c i x g b (step-way c i x g wish)
+  pub step-keeps : (wish : ℕ) → Keeps c x (step c x wish .cell)
+  step-keeps wish = way-keeps (step-way c i x g wish)
 
 -- a step keeps a cell sound, reached or not
 pub step-sound : (c : State) → Sound c → (x : ℕ) → c .given x ≡ true → (wish : ℕ) → Sound (step c x wish .cell)
-step-sound c i x g wish = step-kept c i x g wish .sound
+step-sound c i x g wish = step-keeps c i x g wish .sound
 
 -- a step keeps the invariant
-pub step-keeps : (c : State) → Inv c → (x : ℕ) → c .given x ≡ true → (wish : ℕ) → Inv (step c x wish .cell)
-step-keeps c i x g wish = keeps-inv (step-kept c (i .sound) x g wish) i
+pub step-inv : (c : State) → Inv c → (x : ℕ) → c .given x ≡ true → (wish : ℕ) → Inv (step c x wish .cell)
+step-inv c i x g wish = keeps-inv (step-keeps c (i .sound) x g wish) i
 
 -- ---- step calls on a table
 
 -- what a step call leaves: the table as it was, or that of a step of a given agent in a sound cell
-stepped : (P : Cell → Type 0) (t : Cell) (x wish : ℕ) → P t → (sound (cellOf t) ≡ true → cellOf t .given x ≡ true → P (tableOf (step (cellOf t) x wish .cell)))
-  → P (stepOf t x wish .cell)
+stepped : (P : Cell → Type 0) (t : Cell) (x wish : ℕ) → P t
+    → (sound (cellOf t) ≡ true → cellOf t .given x ≡ true → P (tableOf (step (cellOf t) x wish .cell)))
+    → P (stepOf t x wish .cell)
 unfolding stepOf made turnedAway
 stepped P t x wish old new = go (told (sound (cellOf t))) (told (cellOf t .given x))
   where
@@ -90,7 +92,7 @@ sized-stepped t x wish z = stepped Sized t x wish z (λ _ _. sized-table _)
 -- and its cell the invariant
 pub inv-stepped : (t : Cell) (x wish : ℕ) → Sized t → Inv (cellOf t) → Inv (cellOf (stepOf t x wish .cell))
 inv-stepped t x wish z i = stepped (λ (u : Cell). Inv (cellOf u)) t x wish i
-  (λ _ g. inv-back _ (step-within (cellOf t) (i .sound) x g (bounded-within (bounded t z)) wish) (step-keeps (cellOf t) i x g wish))
+    (λ _ g. inv-back _ (step-keeps (cellOf t) (i .sound) x g wish .within (bounded-within (bounded t z))) (step-inv (cellOf t) i x g wish))
 
 -- so has every table after a list of calls
 pub sized-run : (t : Cell) (calls : List Call) → Sized t → Sized (run t calls)
@@ -98,6 +100,7 @@ unfolding run
 sized-run t [] z = z
 sized-run t (k ∷ calls) z = sized-run _ calls (sized-stepped t (k .agent) (k .wish) z)
 
+-- and its cell the invariant
 pub inv-run : (t : Cell) (calls : List Call) → Sized t → Inv (cellOf t) → Inv (cellOf (run t calls))
 unfolding run
 inv-run t [] z i = i
@@ -112,9 +115,9 @@ step-keeps-sound c b x g wish e = sound-true _ (step-sound c (sound-within c b e
 -- a step call on a table whose cell is sound leaves one, whatever it answers; the table has the sizes of the struct, as every value of it has
 pub sound-stepped : (t : Cell) (x wish : ℕ) → Sized t → sound (cellOf t) ≡ true → sound (cellOf (stepOf t x wish .cell)) ≡ true
 sound-stepped t x wish z e = stepped (λ (u : Cell). sound (cellOf u) ≡ true) t x wish e
-  (λ _ g. let b = bounded-within (bounded t z) in
+    (λ _ g. let b = bounded-within (bounded t z) in
     let i = sound-within (cellOf t) b e in
-    sound-true _ (sound-back _ (step-within (cellOf t) i x g b wish) (step-sound (cellOf t) i x g wish)))
+    sound-true _ (sound-back _ (step-keeps (cellOf t) i x g wish .within b) (step-sound (cellOf t) i x g wish)))
 
 -- so does every list of calls: a sound table is never turned away with 10
 pub sound-run : (t : Cell) (calls : List Call) → Sized t → sound (cellOf t) ≡ true → sound (cellOf (run t calls)) ≡ true

@@ -15,10 +15,11 @@ use Rattle.calculus.specs.MoveCases.{MoveCase, move-case, case-kind}
 use Rattle.demands.specs.Reading.{agentIn}
 use Rattle.demands.specs.ReadingLaws.{agent-given}
 use Rattle.demands.specs.Invariant.{Ok, ok0, ok1, ok2, ok3-move, ok3-open, ok4, ok5, ok6, ok7, ok8, Sleeper, alone, stuck, Sound, Inv}
+use Rattle.demands.specs.Facts.{Whole}
 use Rattle.demands.specs.Actions.{first-unused, kind-small}
 use Rattle.demands.specs.Stages.{fit-given, home-given}
-use Rattle.demands.specs.SameTree.{given-next}
-use Rattle.demands.specs.Permitted.{Whole, none-whole, looks-same, move-given, off-floor, Target, target}
+use Rattle.demands.specs.SameTree.{given-kind}
+use Rattle.demands.specs.Permitted.{none-whole, looks-same, move-given, off-floor, Target, target}
 
 -- where all agents are asleep or done, every place is linked: a place on its way has an agent at stages 4 to 6
 pub all-linked : (c : State) → Sound c → ((x : ℕ) → 7 ≤ agentIn c x .stage) → Whole c
@@ -47,16 +48,21 @@ module _ (c : State) (i : Inv c) (whole : Whole c) (a : ℕ) (rest : 7 ≤ agent
     where
       m : MoveCase (treeOf c) a u
       m = move-case v
+
       g : c .given a ≡ true
       g = move-given c m
+
       b : Agent
       b = c .agent a
+
       some : 1 ≤ kindOf b
-      some = subst (λ (x : Action). 1 ≤ x .kind) (given-next c a g (i .sound .fit a)) (case-kind m)
+      some = subst (λ (k : ℕ). 1 ≤ k) (given-kind c a g (i .sound .fit a)) (case-kind m)
+
       fires : Target c (i .sound) a g whole u
       fires = target c (i .sound) a g whole m
+
       go : Sleeper (c .land) b → ⊥
       go (alone k _ o) = clash (whole (b .home) (home-given c (i .sound) a g) (off-floor c (i .sound) a g m (λ e. omega arith))) o
       go (stuck o s f) = clash
-        (subst (λ (p : ℕ). qualifies (c .land) (kindOf b) (nameOf b) (b .home) p (fires .place) ≡ true)
+          (subst (λ (p : ℕ). qualifies (c .land) (kindOf b) (nameOf b) (b .home) p (fires .place) ≡ true)
           (sym (looks-same (c .land) b (kind-small b (fit-given c (i .sound) a g)) o s)) (fires .fits)) (f (fires .place))

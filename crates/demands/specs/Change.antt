@@ -11,12 +11,13 @@ use Rattle.table.specs.Cell.{Land, State, none, linked, nextAction, kindOf}
 use Rattle.table.specs.declared.Agent.{Agent}
 use Rattle.demands.specs.Reading.{parentIn, agentIn}
 use Rattle.demands.specs.ReadingLaws.{agent-given}
-use Rattle.demands.specs.Invariant.{Under, Places, Has, Fit, Away, Ok, ok0, Travels, Mover, Sleeper, Sound, Inv}
+use Rattle.demands.specs.Invariant.{Under, Places, Has, Fit, Away, Ok, ok0, Travels, Mover, Sleeper, Sound, Reasons, Inv}
 use Rattle.demands.specs.Invariant.{Holds, near, far, own, destination, Kept, free, kept}
 use Rattle.demands.specs.Facts.{Kind}
 use Rattle.demands.specs.Actions.{fit-stage, kind-of}
-use Rattle.demands.specs.Stages.{ok-at, travels-away, holds-awake, Returned}
-use Rattle.demands.specs.Frame.{ok-frame, Roused, woken, unchanged}
+use Rattle.demands.specs.Stages.{SameOrReset, same-between, ok-at, travels-away, holds-between, Returned}
+use Rattle.demands.specs.Within.{Within}
+use Rattle.demands.specs.Frame.{ok-frame, Roused, woken, unchanged, roused-home, roused-reset}
 
 -- a lock that no other agent has: it is free, or the agent that steps has it and says so by its stage
 pub data Mine (l : Land) (lock : ℕ → ℕ) (x : ℕ) (a : Agent) (q : ℕ) : Type 0 where
@@ -36,6 +37,7 @@ module _ {c : State} {x : ℕ} {lock′ : ℕ → ℕ} (r : Returned c x lock′
 pub record Change (c c′ : State) (x : ℕ) (quiet : ℕ → Type 0) : Type 0 where
   pub steps : c .given x ≡ true
   pub given : (y : ℕ) → c′ .given y ≡ c .given y
+  pub within : Within c → Within c′
   pub used : (q : ℕ) → c′ .land .used q ≡ c .land .used q
   pub new : Agent
   pub woke : ℕ → Agent
@@ -51,30 +53,23 @@ pub record Change (c c′ : State) (x : ℕ) (quiet : ℕ → Type 0) : Type 0 w
   pub has : (y q : ℕ) → y ≢ x → Has (c .lock) q y → Has (c′ .lock) q y
   pub under : (y : ℕ) → y ≢ x → (q p : ℕ) → Has (c .lock) p y → Under (c .land) q p → Under (c′ .land) q p
   pub way : (y : ℕ) → y ≢ x → Travels (agentIn c y) → Away (c .land) (agentIn c y)
-    → (linked (c′ .land) (agentIn c y .home) ≡ false) × (parentIn (c′ .land) (agentIn c y .home) ≡ parentIn (c .land) (agentIn c y .home))
+      → (linked (c′ .land) (agentIn c y .home) ≡ false) × (parentIn (c′ .land) (agentIn c y .home) ≡ parentIn (c .land) (agentIn c y .home))
   -- a lock that no other agent had is free or the agent's
   pub mine : (q : ℕ) → c .land .used q ≡ true → Mine (c .land) (c .lock) x (c .agent x) q → Mine (c′ .land) (c′ .lock) x new q
   -- no other place gets loose; where the agent's own is loose it travels, or it was loose by another
   pub loose : (q : ℕ) → q ≢ c .agent x .home → linked (c′ .land) q ≡ false → linked (c .land) q ≡ false
-  pub own-loose : linked (c′ .land) (c .agent x .home) ≡ false → Travels new ⊎ ((linked (c .land) (c .agent x .home) ≡ false) × (Travels (c .agent x) → ⊥))
+  pub own-loose : linked (c′ .land) (c .agent x .home) ≡ false
+      → Travels new ⊎ ((linked (c .land) (c .agent x .home) ≡ false) × (Travels (c .agent x) → ⊥))
   -- it travels alone
   pub lone : Travels new → (y : ℕ) → y ≢ x → Travels (agentIn c y) → agentIn c y .home ≢ c .agent x .home
 
 -- ---- waking
 
 module _ {quiet : ℕ → Type 0} {a : Agent} where
-  -- it stays at home, in order, and travels only if it did
-  roused-home : {b : Agent} → Roused quiet a b → b .home ≡ a .home
-  roused-home (woken s) = refl
-  roused-home (unchanged n) = refl
-
+  -- it stays in order, and is as it was if it was awake
   roused-fit : {b : Agent} → Roused quiet a b → Fit a → Fit b
   roused-fit (woken s) f = fit-stage a 0 0 0 f
   roused-fit (unchanged n) f = f
-
-  roused-travels : {b : Agent} → Roused quiet a b → Travels b → Travels a
-  roused-travels (woken s) t = absurd (omega arith)
-  roused-travels (unchanged n) t = t
 
   roused-awake : {b : Agent} → Roused quiet a b → a .stage ≢ 7 → b ≡ a
   roused-awake (woken s) n = absurd (n s)
@@ -87,7 +82,7 @@ module _ {quiet : ℕ → Type 0} {a : Agent} where
 
 -- ---- the cell after the change
 
-module _ {c c′ : State} {x : ℕ} {quiet : ℕ → Type 0} (s : Sound c) (m : Change c c′ x quiet) where
+module _ {c c′ : State} {x : ℕ} {quiet : ℕ → Type 0} (i : Sound c) (m : Change c c′ x quiet) where
   after : ℕ → Agent
   after = upd (m .woke) x (m .new)
 
@@ -101,7 +96,7 @@ module _ {c c′ : State} {x : ℕ} {quiet : ℕ → Type 0} (s : Sound c) (m : 
   same-home : (y : ℕ) → after y .home ≡ agentIn c y .home
   unfolding after
   same-home = upd-all (m .woke) x (m .new) (λ (y : ℕ) (b : Agent). b .home ≡ agentIn c y .home) (m .home ∙ sym (own-home x refl))
-    (λ y _. roused-home (m .roused y))
+      (λ y _. roused-home (m .roused y))
 
   -- agent x, and the others
   here : (y : ℕ) → y ≡ x → after y ≡ m .new
@@ -113,18 +108,20 @@ module _ {c c′ : State} {x : ℕ} {quiet : ℕ → Type 0} (s : Sound c) (m : 
   other y n = upd-other (m .woke) x y (m .new) n
 
   was : (y : ℕ) → y ≢ x → Travels (after y) → Travels (agentIn c y)
-  was y n t = roused-travels (m .roused y) (subst Travels (other y n) t)
+  was y n t =
+      let u = subst Travels (other y n) t in
+      subst Travels (same-between (roused-reset (m .roused y)) (omega (arith, u .from)) (omega (arith, u .to))) u
 
   kept-awake : (y : ℕ) → y ≢ x → agentIn c y .stage ≢ 7 → after y ≡ agentIn c y
   kept-awake y n a = other y n ∙ roused-awake (m .roused y) a
 
   -- each fact of a sound cell, of the agents after
   others-ok : (y : ℕ) → y ≢ x → Ok (c′ .land) (c′ .lock) y (m .woke y)
-  others-ok y n = roused-ok (m .roused y) (s .ok y)
-    (ok-frame (λ _ u. m .used _ ∙ u) (λ q. m .has y q n) (m .under y n) (m .way y n) (s .ok y))
+  others-ok y n = roused-ok (m .roused y) (i .ok y)
+      (ok-frame (i .homes y) (i .places .parent-used _) (λ _ u. m .used _ ∙ u) (λ q _. m .has y q n) (m .under y n) (m .way y n) (i .ok y))
 
   locks-kept : (q : ℕ) → c′ .land .used q ≡ true → Kept (c′ .land) (c′ .lock) after q
-  locks-kept q u = go (s .locks q v)
+  locks-kept q u = go (i .locks q v)
     where
       v : c .land .used q ≡ true
       v = sym (m .used q) ∙ u
@@ -138,8 +135,8 @@ module _ {c c′ : State} {x : ℕ} {quiet : ℕ → Type 0} (s : Sound c) (m : 
       holds y n (far lo e) = far lo e
       holds y n (own lo hi e) = own lo hi e
       holds y n (destination lo e) =
-        let t : Travels (agentIn c y) = record { from = omega arith; to = omega arith } in
-        destination lo (e ∙ sym (m .way y n t (travels-away t (s .ok y)) .1))
+          let t : Travels (agentIn c y) = record { from = omega arith; to = omega arith } in
+          destination lo (e ∙ sym (m .way y n t (travels-away t (i .ok y)) .1))
 
       go : Kept (c .land) (c .lock) (agentIn c) q → Kept (c′ .land) (c′ .lock) after q
       go (free e) = mine (m .mine q v (is-free e))
@@ -147,8 +144,9 @@ module _ {c c′ : State} {x : ℕ} {quiet : ℕ → Type 0} (s : Sound c) (m : 
         where
           at : (y ≡ x) ⊎ (y ≢ x) → Kept (c′ .land) (c′ .lock) after q
           at (inl e) = mine (m .mine q v (is-mine (subst (Has (c .lock) q) e h)
-            (subst (λ (a : Agent). Holds (c .land) a q) (ap (agentIn c) e ∙ before) k)))
-          at (inr n) = kept y (m .has y q n h) (subst (λ (b : Agent). Holds (c′ .land) b q) (sym (kept-awake y n (holds-awake k))) (holds y n k))
+              (subst (λ (a : Agent). Holds (c .land) a q) (ap (agentIn c) e ∙ before) k)))
+          at (inr n) = kept y (m .has y q n h) (subst (λ (b : Agent). Holds (c′ .land) b q)
+              (sym (kept-awake y n (λ e. omega (arith, holds-between k .1)))) (holds y n k))
 
   moved : (q : ℕ) → c′ .land .used q ≡ true → q ≢ 0 → linked (c′ .land) q ≡ false → Mover after q
   moved q u z b = go (eq? q (c .agent x .home))
@@ -158,10 +156,10 @@ module _ {c c′ : State} {x : ℕ} {quiet : ℕ → Type 0} (s : Sound c) (m : 
 
       old : linked (c .land) q ≡ false → ((y : ℕ) → y ≡ x → Travels (agentIn c y) → agentIn c y .home ≢ q) → Mover after q
       old l not-x =
-        let w = s .mover q (sym (m .used q) ∙ u) z l in
-        let n : w .who ≢ x = λ e. not-x (w .who) e (w .goes) (w .lives) in
-        let a : agentIn c (w .who) .stage ≢ 7 = λ e. let t = w .goes .to in omega arith in
-        record { who = w .who; lives = same-home (w .who) ∙ w .lives; goes = subst Travels (sym (kept-awake (w .who) n a)) (w .goes) }
+          let w = i .mover q (sym (m .used q) ∙ u) z l in
+          let n : w .who ≢ x = λ e. not-x (w .who) e (w .goes) (w .lives) in
+          let a : agentIn c (w .who) .stage ≢ 7 = λ e. let t = w .goes .to in omega arith in
+          record { who = w .who; lives = same-home (w .who) ∙ w .lives; goes = subst Travels (sym (kept-awake (w .who) n a)) (w .goes) }
 
       ours : q ≡ c .agent x .home → Travels (m .new) ⊎ ((linked (c .land) (c .agent x .home) ≡ false) × (Travels (c .agent x) → ⊥)) → Mover after q
       ours e (inl t) = record { who = x; lives = same-home x ∙ own-home x refl ∙ sym e; goes = mine t }
@@ -184,7 +182,7 @@ module _ {c c′ : State} {x : ℕ} {quiet : ℕ → Type 0} (s : Sound c) (m : 
       go (inl p) (inl q) = p ∙ sym q
       go (inl p) (inr n) = absurd (m .lone (mine y p t) z n (was z n u) (sym e′ ∙ own-home y p))
       go (inr n) (inl q) = absurd (m .lone (mine z q u) y n (was y n t) (e′ ∙ own-home z q))
-      go (inr n) (inr k) = s .single y z (was y n t) (was z k u) e′
+      go (inr n) (inr k) = i .single y z (was y n t) (was z k u) e′
 
   -- what holds of the agents after the change holds of those read
   read : (P : (ℕ → Agent) → Type 0) → P after → P (agentIn c′)
@@ -194,44 +192,58 @@ module _ {c c′ : State} {x : ℕ} {quiet : ℕ → Type 0} (s : Sound c) (m : 
   -- the cell stays sound
   changed-sound : Sound c′
   unfolding after
-  changed-sound = record
-    { places = m .places
-    ; homes = read (λ f. (y : ℕ) → c′ .land .used (f y .home) ≡ true)
-        (λ y. m .used _ ∙ ap (c .land .used) (same-home y) ∙ s .homes y)
-    ; fit = read (λ f. (y : ℕ) → Fit (f y))
-        (upd-all (m .woke) x (m .new) (λ (y : ℕ) (b : Agent). Fit b) (m .fit) (λ y _. roused-fit (m .roused y) (s .fit y)))
-    ; few = λ y g. s .few y (sym (m .given y) ∙ g)
-    ; ok = read (λ f. (y : ℕ) → Ok (c′ .land) (c′ .lock) y (f y)) (upd-all (m .woke) x (m .new) (Ok (c′ .land) (c′ .lock)) (m .ok) others-ok)
-    ; locks = read (λ f. (q : ℕ) → c′ .land .used q ≡ true → Kept (c′ .land) (c′ .lock) f q) locks-kept
-    ; mover = read (λ f. (q : ℕ) → c′ .land .used q ≡ true → q ≢ 0 → linked (c′ .land) q ≡ false → Mover f q) moved
-    ; single = read (λ f. (y z : ℕ) → Travels (f y) → Travels (f z) → f y .home ≡ f z .home → y ≡ z) single
-    }
+  changed-sound = record {
+    places = m .places;
+    homes = read (λ f. (y : ℕ) → c′ .land .used (f y .home) ≡ true)
+        (λ y. m .used _ ∙ ap (c .land .used) (same-home y) ∙ i .homes y);
+    fit = read (λ f. (y : ℕ) → Fit (f y))
+        (upd-all (m .woke) x (m .new) (λ (y : ℕ) (b : Agent). Fit b) (m .fit) (λ y _. roused-fit (m .roused y) (i .fit y)));
+    few = λ y g. i .few y (sym (m .given y) ∙ g);
+    ok = read (λ f. (y : ℕ) → Ok (c′ .land) (c′ .lock) y (f y)) (upd-all (m .woke) x (m .new) (Ok (c′ .land) (c′ .lock)) (m .ok) others-ok);
+    locks = read (λ f. (q : ℕ) → c′ .land .used q ≡ true → Kept (c′ .land) (c′ .lock) f q) locks-kept;
+    mover = read (λ f. (q : ℕ) → c′ .land .used q ≡ true → q ≢ 0 → linked (c′ .land) q ≡ false → Mover f q) moved;
+    single = read (λ f. (y z : ℕ) → Travels (f y) → Travels (f z) → f y .home ≡ f z .home → y ≡ z) single;
+  }
 
   -- sleepers that are not woken keep their reason, and the agent has one if it sleeps now
-  changed-sleep : ((y : ℕ) → agentIn c y .stage ≡ 7 → Sleeper (c .land) (agentIn c y))
-    → (m .new .stage ≡ 7 → Sleeper (c′ .land) (m .new))
-    → ((a : Agent) → Kind (kindOf a) → quiet (a .remembered) → Sleeper (c .land) a → Sleeper (c′ .land) a)
-    → (y : ℕ) → agentIn c′ y .stage ≡ 7 → Sleeper (c′ .land) (agentIn c′ y)
+  changed-sleep : (m .new .stage ≡ 7 → Sleeper (c′ .land) (m .new))
+      → ((a : Agent) → Kind (kindOf a) → quiet (a .remembered) → Sleeper (c .land) a → Sleeper (c′ .land) a)
+      → Reasons c → Reasons c′
   unfolding after
-  changed-sleep old mine calm = read (λ f. (y : ℕ) → f y .stage ≡ 7 → Sleeper (c′ .land) (f y))
-    (upd-all (m .woke) x (m .new) (λ (y : ℕ) (b : Agent). b .stage ≡ 7 → Sleeper (c′ .land) b) mine (λ y _. go y (m .roused y)))
+  changed-sleep mine calm old = read (λ f. (y : ℕ) → f y .stage ≡ 7 → Sleeper (c′ .land) (f y))
+      (upd-all (m .woke) x (m .new) (λ (y : ℕ) (b : Agent). b .stage ≡ 7 → Sleeper (c′ .land) b) mine (λ y _. go y (m .roused y)))
     where
       go : (y : ℕ) → {b : Agent} → Roused quiet (agentIn c y) b → b .stage ≡ 7 → Sleeper (c′ .land) b
       go y (woken e) z = absurd (omega arith)
-      go y (unchanged q) z = calm (agentIn c y) (kind-of _ (s .fit y) (ok-at 7 z (s .ok y) .0)) (q z) (old y z)
+      go y (unchanged q) z = calm (agentIn c y) (kind-of _ (i .fit y) (ok-at 7 z (i .ok y) .0)) (q z) (old y z)
+
+  -- other agents are as they were, or woken
+  changed-others : (y : ℕ) → y ≢ x → SameOrReset (agentIn c y) (agentIn c′ y)
+  changed-others y n = read (λ f. SameOrReset (agentIn c y) (f y))
+      (subst (SameOrReset (agentIn c y)) (sym (other y n)) (roused-reset (m .roused y)))
 
 -- ---- a step keeps the cell
 
--- the cell after is sound, and its sleepers have a reason if those before had one
-pub record Keeps (c c′ : State) : Type 0 where
+-- after a step of agent x the cell is sound, and its sleepers have a reason if those before had one; no agent comes or goes, nothing
+-- is put at or past 64, and every other agent is as it was, or at stage 0 or 8
+pub record Keeps (c : State) (x : ℕ) (c′ : State) : Type 0 where
   pub sound : Sound c′
-  pub sleep : ((y : ℕ) → agentIn c y .stage ≡ 7 → Sleeper (c .land) (agentIn c y)) → (y : ℕ) → agentIn c′ y .stage ≡ 7 → Sleeper (c′ .land) (agentIn c′ y)
+  pub sleep : Reasons c → Reasons c′
+  pub given : (y : ℕ) → c′ .given y ≡ c .given y
+  pub within : Within c → Within c′
+  pub others : (y : ℕ) → y ≢ x → SameOrReset (agentIn c y) (agentIn c′ y)
 
 -- so it keeps the invariant
-pub keeps-inv : {c c′ : State} → Keeps c c′ → Inv c → Inv c′
+pub keeps-inv : {c c′ : State} {x : ℕ} → Keeps c x c′ → Inv c → Inv c′
 keeps-inv k i = record { sound = k .sound; sleep = k .sleep (i .sleep) }
 
 -- a change keeps the cell, where the agent has a reason if it sleeps now and the others keep theirs on a quiet place
 pub keeps : {c c′ : State} {x : ℕ} {quiet : ℕ → Type 0} → Sound c → (m : Change c c′ x quiet) → (m .new .stage ≡ 7 → Sleeper (c′ .land) (m .new))
-  → ((a : Agent) → Kind (kindOf a) → quiet (a .remembered) → Sleeper (c .land) a → Sleeper (c′ .land) a) → Keeps c c′
-keeps s m mine calm = record { sound = changed-sound s m; sleep = λ old. changed-sleep s m old mine calm }
+    → ((a : Agent) → Kind (kindOf a) → quiet (a .remembered) → Sleeper (c .land) a → Sleeper (c′ .land) a) → Keeps c x c′
+keeps i m mine calm = record {
+  sound = changed-sound i m;
+  sleep = changed-sleep i m mine calm;
+  given = m .given;
+  within = m .within;
+  others = changed-others i m;
+}

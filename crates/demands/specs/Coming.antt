@@ -16,11 +16,12 @@ use Rattle.demands.specs.ReadingLaws.{linked-linked, parent-linked, name
 use Rattle.demands.specs.Invariant.{Under, Places, Away, Travels, Sound}
 use Rattle.demands.specs.Facts.{not-yes, Comes, awaited-yes, awaited-some, parent-read, link-used}
 use Rattle.demands.specs.Actions.{fit-stage}
-use Rattle.demands.specs.Stages.{ok-at, rest-ok, rest-stage, ok-given, fit-given, home-given, returned-six}
-use Rattle.demands.specs.Frame.{Calm, sleeper-frame, Apart, wakes}
+use Rattle.demands.specs.Stages.{ok-at, rest-ok, rest-stage, not-between, ok-given, fit-given, home-given, returned-six}
+use Rattle.demands.specs.Within.{woken-within}
+use Rattle.demands.specs.Frame.{Calm, sleeper-frame, Apart, rouses}
 use Rattle.demands.specs.Change.{is-free, returned-has, returned-free, Change, Keeps, keeps}
 
-module _ (c : State) (s : Sound c) (x : ℕ) (g : c .given x ≡ true) (e : c .agent x .stage ≡ 6) where
+module _ (c : State) (i : Sound c) (x : ℕ) (g : c .given x ≡ true) (e : c .agent x .stage ≡ 6) where
   abbrev l : Land
   l = c .land
 
@@ -38,14 +39,14 @@ module _ (c : State) (s : Sound c) (x : ℕ) (g : c .given x ≡ true) (e : c .a
   l′ = linkUp (c .land) (c .agent x .home)
 
   away : Away l a
-  away = ok-at 6 e (ok-given c s x g) .0
+  away = ok-at 6 e (ok-given c i x g) .0
 
   -- how a place reads after: all but the link of its own as before
   links : (q : ℕ) → q ≢ h → linked l′ q ≡ linked l q
-  links q n = ap (λ (f : ℕ → Bool). f q) (linked-linked l h (home-given c s x g)) ∙ upd-other (linked l) h q true n
+  links q n = ap (λ (f : ℕ → Bool). f q) (linked-linked l h (home-given c i x g)) ∙ upd-other (linked l) h q true n
 
   linked-now : (q : ℕ) → q ≡ h → linked l′ q ≡ true
-  linked-now q z = ap (λ (f : ℕ → Bool). f q) (linked-linked l h (home-given c s x g)) ∙ upd-at (linked l) h q true z
+  linked-now q z = ap (λ (f : ℕ → Bool). f q) (linked-linked l h (home-given c i x g)) ∙ upd-at (linked l) h q true z
 
   stands : (q : ℕ) → parentIn l′ q ≡ parentIn l q
   stands q = ap (λ (f : ℕ → ℕ). f q) (parent-linked l h)
@@ -55,16 +56,16 @@ module _ (c : State) (s : Sound c) (x : ℕ) (g : c .given x ≡ true) (e : c .a
   kept-under q p u = record { link = links q (λ z. clash (ap (linked l) (sym z) ∙ u .link) (away .loose)) ∙ u .link; parent = stands q ∙ u .parent }
 
   linked-places : Places l′
-  linked-places = record
-    { floor-used = s .places .floor-used
-    ; floor-parent = stands 0 ∙ s .places .floor-parent
-    ; floor-link = links 0 (λ z. away .placed (sym z)) ∙ s .places .floor-link
-    ; floor-name = ap (λ (f : ℕ → ℕ). f 0) (name-linked l h) ∙ s .places .floor-name
-    ; tree = subst (λ (f : ℕ → ℕ). (q : ℕ) → Up f q) (sym (parent-linked l h)) (s .places .tree)
-    ; parent-used = subst (λ (f : ℕ → ℕ). (q : ℕ) → l .used (f q) ≡ true) (sym (parent-linked l h)) (s .places .parent-used)
-    ; small = s .places .small
-    ; named = λ q u n. subst (λ (f : ℕ → ℕ). 1 ≤ f q) (sym (name-linked l h)) (s .places .named q u n)
-    }
+  linked-places = record {
+    floor-used = i .places .floor-used;
+    floor-parent = stands 0 ∙ i .places .floor-parent;
+    floor-link = links 0 (λ z. away .placed (sym z)) ∙ i .places .floor-link;
+    floor-name = ap (λ (f : ℕ → ℕ). f 0) (name-linked l h) ∙ i .places .floor-name;
+    tree = subst (λ (f : ℕ → ℕ). (q : ℕ) → Up f q) (sym (parent-linked l h)) (i .places .tree);
+    parent-used = subst (λ (f : ℕ → ℕ). (q : ℕ) → l .used (f q) ≡ true) (sym (parent-linked l h)) (i .places .parent-used);
+    small = i .places .small;
+    named = λ q u n. subst (λ (f : ℕ → ℕ). 1 ≤ f q) (sym (name-linked l h)) (i .places .named q u n);
+  }
 
   -- a destination that is linked to p
   beyond-linked : (p : ℕ) → Under l d p → p ≡ beyond l d
@@ -72,64 +73,60 @@ module _ (c : State) (s : Sound c) (x : ℕ) (g : c .given x ≡ true) (e : c .a
 
   -- a sleeper on another place than the three notices nothing
   calm : (b : Agent) → Apart h d (beyond l d) (b .remembered) → Calm l l′ b
-  calm b w = record
-    { loose = λ o z. links (b .home) (λ k. w .first (z ∙ k)) ∙ o
-    ; keeps = kept-under (b .home) (b .remembered)
-    ; child = under
-    ; names = λ q _. ap (λ (f : ℕ → ℕ). f q) (name-linked l h)
-    ; up = λ k. sym (links (b .remembered) (w .first)) ∙ k
-    ; awaits = λ q u k. not-yes _ (λ t. clash (still q (under q u) (awaited-some l q t)) k)
-    }
+  calm b w = record {
+    loose = λ o z. links (b .home) (λ k. w .first (z ∙ k)) ∙ o;
+    keeps = kept-under (b .home) (b .remembered);
+    child = under;
+    names = λ q _. ap (λ (f : ℕ → ℕ). f q) (name-linked l h);
+    up = λ k. sym (links (b .remembered) (w .first)) ∙ k;
+    awaits = λ q u k. not-yes _ (λ t. clash (still q (under q u) (awaited-some l q t)) k);
+  }
     where
       under : (q : ℕ) → Under l′ q (b .remembered) → Under l q (b .remembered)
       under q u =
-        let p = sym (stands q) ∙ u .parent in
-        record { link = sym (links q (λ z. w .second (sym p ∙ ap (parentIn l) z))) ∙ u .link; parent = p }
+          let p = sym (stands q) ∙ u .parent in
+          record { link = sym (links q (λ z. w .second (sym p ∙ ap (parentIn l) z))) ∙ u .link; parent = p }
 
       still : (q : ℕ) → Under l q (b .remembered) → (r : ℕ) × Comes l q r → awaited l′ q ≡ true
       still q u t = go (eq? (t .0) h)
         where
           go : (t .0 ≡ h) ⊎ (t .0 ≢ h) → awaited l′ q ≡ true
           go (inl z) = absurd (w .third (beyond-linked (b .remembered)
-            (subst (λ (r : ℕ). Under l r (b .remembered)) (sym (t .1 .parent) ∙ ap (parentIn l) z) u)))
-          go (inr n) = let r = t .1 in awaited-yes l′ q (t .0) (s .places .small (t .0) (r .used))
-            (record { used = r .used; placed = r .placed; loose = links (t .0) n ∙ r .loose; parent = stands (t .0) ∙ r .parent })
+              (subst (λ (r : ℕ). Under l r (b .remembered)) (sym (t .1 .parent) ∙ ap (parentIn l) z) u)))
+          go (inr n) = let r = t .1 in awaited-yes l′ q (t .0) (i .places .small (t .0) (r .used))
+              (record { used = r .used; placed = r .placed; loose = links (t .0) n ∙ r .loose; parent = stands (t .0) ∙ r .parent })
 
   -- stage 6: its place is linked to the destination
-  pub keep-come : Keeps c (arrive c x (c .agent x) (parentIn (c .land) (c .agent x .home)) .cell)
+  pub keep-come : Keeps c x (arrive c x (c .agent x) (parentIn (c .land) (c .agent x .home)) .cell)
   unfolding arrive agentIn
-  keep-come = keeps s change (λ z. absurd (up (rest-stage a) z)) (λ b k w o. sleeper-frame l l′ b k (calm b w) o)
+  keep-come = keeps i change (λ z. absurd (not-between (rest-stage a) (omega arith) (omega arith))) (λ b k w o. sleeper-frame l l′ b k (calm b w) o)
     where
-      up : (restStage a ≡ 0) ⊎ (restStage a ≡ 8) → restStage a ≡ 7 → ⊥
-      up (inl z) k = omega arith
-      up (inr z) k = omega arith
-
-      rests : (restStage a ≡ 0) ⊎ (restStage a ≡ 8) → Travels (atStage a (restStage a) 0 0) → ⊥
-      rests (inl z) t = omega (arith, t .from)
-      rests (inr z) t = omega (arith, t .to)
-
       -- others on their way are of other places
       apart : (y : ℕ) → y ≢ x → Travels (agentIn c y) → agentIn c y .home ≢ h
       apart y n t z =
-        let b = agent-given c x g in
-        let mine : Travels (agentIn c x) = subst Travels (sym b) (record { from = omega arith; to = omega arith }) in
-        n (s .single y x t mine (z ∙ ap (λ (v : Agent). v .home) (sym b)))
+          let b = agent-given c x g in
+          let mine : Travels (agentIn c x) = subst Travels (sym b) (record { from = omega arith; to = omega arith }) in
+          n (i .single y x t mine (z ∙ ap (λ (v : Agent). v .home) (sym b)))
 
       change : Change c (arrive c x (c .agent x) (parentIn (c .land) (c .agent x .home)) .cell) x (Apart h d (beyond l d))
-      change = record
-        { steps = g; given = λ y. refl; used = λ q. refl
-        ; new = atStage a (restStage a) 0 0
-        ; woke = λ y. wakeAgent h d (beyond l d) (agentIn c y)
-        ; reads = agent-woken c h d (beyond l d) x (atStage a (restStage a) 0 0) g
-        ; roused = λ y. wakes h d (beyond l d) (agentIn c y)
-        ; places = linked-places
-        ; home = refl
-        ; fit = fit-stage a (restStage a) 0 0 (fit-given c s x g)
-        ; ok = rest-ok a (fit-given c s x g)
-        ; has = λ y q n i. returned-has (returned-six c s x g e) n i
-        ; under = λ y n q p i u. kept-under q p u
-        ; way = λ y n t v. (links (agentIn c y .home) (apart y n t) ∙ v .loose, stands (agentIn c y .home))
-        ; mine = λ q u i. is-free (returned-free (returned-six c s x g e) (s .few x g) u i)
-        ; loose = λ q n z. sym (links q n) ∙ z
-        ; own-loose = λ z. clash (linked-now h refl) z
-        ; lone = λ t. absurd (rests (rest-stage a) t) }
+      change = record {
+        steps = g;
+        given = λ y. refl;
+        within = λ b. woken-within c i x g b _ _ _ _ _ _;
+        used = λ q. refl;
+        new = atStage a (restStage a) 0 0;
+        woke = λ y. wakeAgent h d (beyond l d) (agentIn c y);
+        reads = agent-woken c h d (beyond l d) x (atStage a (restStage a) 0 0) g;
+        roused = λ y. rouses h d (beyond l d) (agentIn c y);
+        places = linked-places;
+        home = refl;
+        fit = fit-stage a (restStage a) 0 0 (fit-given c i x g);
+        ok = rest-ok a (fit-given c i x g);
+        has = λ y q n k. returned-has (returned-six c i x g e) n k;
+        under = λ y n q p k u. kept-under q p u;
+        way = λ y n t v. (links (agentIn c y .home) (apart y n t) ∙ v .loose, stands (agentIn c y .home));
+        mine = λ q u k. is-free (returned-free (returned-six c i x g e) (i .few x g) u k);
+        loose = λ q n z. sym (links q n) ∙ z;
+        own-loose = λ z. clash (linked-now h refl) z;
+        lone = λ t. absurd (not-between (rest-stage a) (omega (arith, t .from)) (omega (arith, t .to)));
+      }

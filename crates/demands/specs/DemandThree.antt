@@ -1,22 +1,20 @@
 -- Demand 3: from every file that load accepts, after every list of calls, the cell is one tree and equals the plain tree, which came by the
 -- permitted moves; while not all are at rest some step changes the cell, and then no move is permitted.
 -- Idea: the calls keep the invariant and the plain tree beside the cell; the claims follow from these two, read off the table.
-use mathlib.Core.Path.{_≡_, refl, sym, ap, _∙_, subst}
-use mathlib.Core.Logic.{_≢_, _⊎_, inl, inr, _↔_}
+use mathlib.Core.Path.{_≡_, refl, sym, ap, _∙_, subst, fun-ext}
+use mathlib.Core.Logic.{_↔_}
 use mathlib.Core.List.{List}
 use mathlib.Core.Bool.{true, false}
 use Prim.Native.Nat.{ℕ, _≤_}
 use native.Mathlib.Omega.{arith}
-use lib.Dec.{eqb}
-use borrow.Author.Tests.{eqb-true, leb-true, leb-false, ne-eqb}
+use borrow.Author.Tests.{eqb-true, leb-true, leb-false}
 use Rattle.table.specs.Base.{iter}
-use Rattle.table.specs.BaseLaws.{Told, yea, nay, told, eq?, and-right}
-use Rattle.table.specs.Cell.{State, linked, travels, cellOf, tableOf}
+use Rattle.table.specs.BaseLaws.{Told, yea, nay, told}
+use Rattle.table.specs.Cell.{State, travels, cellOf, tableOf}
 use Rattle.table.specs.Bounds.{Sized}
-use Rattle.table.specs.CellLaws.{bounded, forth, sized-table}
+use Rattle.table.specs.CellLaws.{bounded, sized-table}
 use Rattle.table.specs.Sound.{sound}
 use Rattle.table.specs.Idle.{idle}
-use Rattle.table.specs.declared.Agent.{Agent}
 use Rattle.table.specs.declared.Cell.{Cell}
 use Rattle.meaning.specs.File.{load, accepted}
 use Rattle.meaning.specs.Step.{step}
@@ -26,14 +24,16 @@ use Rattle.meaning.specs.Plain.{treeOf, plainOf}
 use Rattle.demands.specs.Reading.{agentIn}
 use Rattle.demands.specs.ReadingLaws.{agent-given}
 use Rattle.demands.specs.Invariant.{Inv}
+use Rattle.demands.specs.Facts.{whole-still}
+use Rattle.demands.specs.Stages.{not-between}
 use Rattle.demands.specs.SoundTest.{leads-all}
-use Rattle.demands.specs.Always.{sized-run, inv-run}
-use Rattle.demands.specs.Fresh.{Starts, looks, done, Fresh}
+use Rattle.demands.specs.Always.{step-keeps, sized-run, inv-run}
+use Rattle.demands.specs.Fresh.{Fresh}
 use Rattle.demands.specs.Loading.{accepted-fresh}
-use Rattle.demands.specs.LoadingLaws.{fresh-inv}
+use Rattle.demands.specs.LoadingLaws.{fresh-stage, accepted-inv, accepted-forth}
 use Rattle.demands.specs.Live.{Goes, live}
-use Rattle.demands.specs.StepWays.{step-way}
-use Rattle.demands.specs.ReadBack.{bounded-within, way-within, read-back}
+use Rattle.demands.specs.ReadBack.{read-back}
+use Rattle.demands.specs.Within.{bounded-within}
 use Rattle.demands.specs.AtRest.{all-linked, no-move}
 use Rattle.demands.specs.AfterCalls.{EqualsPlain, StepChanges, reached, plainAfter, AfterCalls}
 use Rattle.demands.specs.SamePlain.{Same}
@@ -45,26 +45,22 @@ use Rattle.demands.specs.Resting.{rests-stage, any-wish, idle-all}
 -- a loaded cell and its plain tree: nothing travels, and nobody is at stage 3
 pub fresh-same : (c : State) → Fresh c → Same c (plainOf c)
 unfolding plainOf
-fresh-same c f = record { tree = refl; travels = λ q. sym (rested q (told (c .land .used q)) (eq? q 0)); pick = λ x s k. absurd (not-three x (told (c .given x)) s) }
-  where
-    rested : (q : ℕ) → Told (c .land .used q) → (q ≡ 0) ⊎ (q ≢ 0) → travels (c .land) q ≡ false
-    rested q (nay u) z = unfold travels in rw u
-    rested q (yea u) (inl z) = unfold travels in rw (u, z)
-    rested q (yea u) (inr z) = unfold travels in rw (u, ne-eqb q 0 z, there)
-      where
-        there : eqb (c .land .place q .way) 0 ≡ true
-        there = unfold linked in and-right (c .land .used q) (eqb (c .land .place q .way) 0) (f .settled q u z)
-    starts : {a : Agent} → Starts a → a .stage ≡ 3 → ⊥
-    starts (looks s k) e = absurd (omega arith)
-    starts (done s k) e = absurd (omega arith)
-    not-three : (x : ℕ) → Told (c .given x) → agentIn c x .stage ≡ 3 → ⊥
-    not-three x (yea g) e = starts (f .agents x g .starts) (sym (ap (λ a. a .stage) (agent-given c x g)) ∙ e)
-    not-three x (nay g) e = let s : agentIn c x .stage ≡ 8 = unfold agentIn in rw g in absurd (omega arith)
+fresh-same c f = record {
+  tree = refl;
+  travels = sym (fun-ext (whole-still c (f .whole)));
+  pick = λ x s k. absurd (not-between (fresh-stage c f x) (omega arith) (omega arith));
+}
 
 -- a cell equals its own tree
 equals-tree : (c : State) → EqualsPlain c (treeOf c)
 unfolding treeOf
-equals-tree c = record { used = λ q. refl; name = λ q u. sym (rw u); parent = λ q u. sym (rw u); home = λ x g. sym (rw g); actions = λ x g. sym (rw g) }
+equals-tree c = record {
+  used = λ q. refl;
+  name = λ q u. sym (rw u);
+  parent = λ q u. sym (rw u);
+  home = λ x g. sym (rw g);
+  actions = λ x g. sym (rw g);
+}
 
 -- ---- what the invariant says of a table
 
@@ -82,10 +78,10 @@ module _ (t : Cell) (z : Sized t) (i : Inv (cellOf t)) where
     where
       back : (wish : ℕ) → stepOf t (g .who) wish .cell ≡ t → step c (g .who) wish .cell .agent (g .who) .stage ≡ c .agent (g .who) .stage
       back wish e =
-        let d : State = step c (g .who) wish .cell in
-        let n = way-within c (i .sound) (g .who) (g .given) (bounded-within (bounded t z)) (step-way c (i .sound) (g .who) (g .given) wish) in
-        let m : tableOf d ≡ t = sym (ap (λ r. r .cell) (call-made t i (g .who) wish (g .given)) ∙ unfold made in refl) ∙ e in
-        ap (λ s. s .agent (g .who) .stage) (sym (read-back d n) ∙ ap cellOf m)
+          let d : State = step c (g .who) wish .cell in
+          let n = step-keeps c (i .sound) (g .who) (g .given) wish .within (bounded-within (bounded t z)) in
+          let m : tableOf d ≡ t = sym (ap (λ r. r .cell) (call-made t i (g .who) wish (g .given)) ∙ unfold made in refl) ∙ e in
+          ap (λ s. s .agent (g .who) .stage) (sym (read-back d n) ∙ ap cellOf m)
 
   goes-of : (x : ℕ) → c .given x ≡ true → rests t x ≡ false → (y : ℕ) × StepChanges t y
   goes-of x g r = changes-of (live c (i .sound) x g (let l = leb-false 7 (c .agent x .stage) (sym (rests-stage t i x g) ∙ r) in omega arith))
@@ -96,44 +92,42 @@ module _ (t : Cell) (z : Sized t) (i : Inv (cellOf t)) where
       go : (x : ℕ) → Told (c .given x) → 7 ≤ agentIn c x .stage
       go x (yea g) = subst (λ a. 7 ≤ a .stage) (sym (agent-given c x g)) (leb-true 7 (c .agent x .stage) (sym (rests-stage t i x g) ∙ r x g))
       go x (nay g) = let s : agentIn c x .stage ≡ 8 = unfold agentIn in rw g in omega arith
+
       stages : (x : ℕ) → 7 ≤ agentIn c x .stage
       stages x = go x (told (c .given x))
 
 -- ---- the demand
 
 module _ (s : List ℕ) (c : State) (e : load s ≡ accepted c) (calls : List Call) where
-  fresh : Fresh c
-  fresh = accepted-fresh s c e
-
-  -- the table of the loaded cell holds that cell
-  held : cellOf (tableOf c) ≡ c
-  held = forth c (fresh .bounds)
-
   loaded-inv : Inv (cellOf (tableOf c))
-  loaded-inv = subst Inv (sym held) (fresh-inv c fresh)
+  loaded-inv = subst Inv (sym (accepted-forth s c e)) (accepted-inv s c e)
 
-  -- the table reached has the sizes of the struct, and its cell the invariant
+  -- the table reached has the sizes of the struct
   pub reached-sized : Sized (reached c calls)
   reached-sized = sized-run (tableOf c) calls (sized-table c)
 
+  -- and its cell the invariant
   pub reached-inv : Inv (cellOf (reached c calls))
   reached-inv = inv-run (tableOf c) calls (sized-table c) loaded-inv
 
   -- the plain tree beside it
   beside : Beside (tableOf c) (plainOf c) calls
-  beside = run-keeps calls (tableOf c) (sized-table c) loaded-inv (plainOf c) (subst (λ d. Same d (plainOf c)) (sym held) (fresh-same c fresh))
+  beside = run-keeps calls (tableOf c) (sized-table c) loaded-inv (plainOf c)
+      (subst (λ d. Same d (plainOf c)) (sym (accepted-forth s c e)) (fresh-same c (accepted-fresh s c e)))
 
+  -- it has the tree of the cell reached
   pub reached-tree : plainAfter c calls .tree ≡ treeOf (cellOf (reached c calls))
   reached-tree = beside .same .tree
 
   -- demand 3
   pub demand-three : AfterCalls c calls
-  demand-three = record
-    { one-tree = tree-of (reached c calls) reached-sized reached-inv
-    ; equals = subst (EqualsPlain (cellOf (reached c calls))) (sym reached-tree) (equals-tree (cellOf (reached c calls)))
-    ; history = beside .history
-    ; goes-on = goes-of (reached c calls) reached-sized reached-inv
-    ; at-rest = λ r a u v. rest-of (reached c calls) reached-sized reached-inv r a u (subst (λ t. Move t a u) reached-tree v) }
+  demand-three = record {
+    one-tree = tree-of (reached c calls) reached-sized reached-inv;
+    equals = subst (EqualsPlain (cellOf (reached c calls))) (sym reached-tree) (equals-tree (cellOf (reached c calls)));
+    history = beside .history;
+    goes-on = goes-of (reached c calls) reached-sized reached-inv;
+    at-rest = λ r a u v. rest-of (reached c calls) reached-sized reached-inv r a u (subst (λ t. Move t a u) reached-tree v);
+  }
 
   -- whether an answer says asleep or done does not depend on the wish
   pub rests-any-wish : (x wish : ℕ) → saysRest (stepOf (reached c calls) x wish .answer) ≡ rests (reached c calls) x

@@ -17,5 +17,5 @@ use Rattle.demands.specs.Two.{reach}
 
 -- demand 2, of the cell c that a file s gives, a list of calls, an agent a and a tree u
 pub demand-two : (s : List ℕ) (c : State) → load s ≡ accepted c → (calls : List Call) → settled (cellOf (reached c calls)) ≡ true
-  → (a : ℕ) (u : Tree) → Move (treeOf (cellOf (reached c calls))) a u → Reaches 9 a (reached c calls) u
+    → (a : ℕ) (u : Tree) → Move (treeOf (cellOf (reached c calls))) a u → Reaches 9 a (reached c calls) u
 demand-two s c e calls f a u v = reach a (reached c calls) (reached-sized s c e calls) (reached-inv s c e calls) f v

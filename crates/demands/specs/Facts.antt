@@ -1,18 +1,19 @@
 -- What the tests of a step say of the places, in both directions. Assumes nothing.
 -- Idea: each test is a conjunction; told apart into its parts it is one of the propositions of the invariant, and back.
-use mathlib.Core.Path.{_≡_, refl, sym, ap, _∙_, subst}
+use mathlib.Core.Path.{_≡_, refl, sym, ap, _∙_}
 use mathlib.Core.Logic.{_≢_}
 use Prim.Native.Nat.{ℕ, zero, suc, _≤_, _<_}
-use mathlib.Core.Bool.{Bool, true, false, not, _&&_, _||_}
+use mathlib.Core.Bool.{Bool, true, false, not, _&&_, cond, or-true}
 use native.Mathlib.Omega.{arith}
 use lib.Dec.{ltb, eqb}
-use borrow.Author.Tests.{eqb-true, eqb-false, eq-eqb, ne-eqb, ltb-true, lt-ltb, not-true}
-use Rattle.sets.specs.Word.{lowestOf, upto, chosenOf}
-use Rattle.table.specs.BaseLaws.{Told, yea, nay, told, clash, and-left, and-right, any-at, any-found}
-use Rattle.table.specs.Cell.{Land, linked, linkedTo, travels, kindOf, nameOf}
+use borrow.Author.Tests.{eqb-true, eq-eqb, ne-eqb, ltb-true, ltb-false, not-true}
+use Rattle.table.specs.BaseLaws.{Told, yea, nay, told, clash, and-left, and-right, all-at, all-yes, any-at, any-found}
+use Rattle.table.specs.Cell.{Land, State, none, linked, linkedTo, travels, kindOf, nameOf}
 use Rattle.table.specs.Sound.{secondPlace}
 use Rattle.table.specs.declared.Agent.{Agent}
-use Rattle.meaning.specs.Step.{onWayTo, awaited, entersAt, exitsFrom, opensAt, qualifies, choose, choice, targetOf, fires, stays}
+use Rattle.meaning.specs.Step.{onWayTo, awaited, entersAt, exitsFrom, opensAt, qualifies, targetOf, fires, stays}
+use Rattle.meaning.specs.Run.{settled}
+use Rattle.calculus.specs.MoveCases.{differ}
 use Rattle.demands.specs.Reading.{parentIn, nameIn}
 use Rattle.demands.specs.Invariant.{Under}
 
@@ -21,50 +22,13 @@ pub not-yes : (b : Bool) → (b ≡ true → ⊥) → b ≡ false
 not-yes true f = absurd (f refl)
 not-yes false f = refl
 
--- ---- the choice
-
--- the lowest member is one, and where there is none no number is
-lowest-fits : (n : ℕ) (f : ℕ → Bool) → lowestOf n f < n → f (lowestOf n f) ≡ true
-unfolding lowestOf
-lowest-fits zero f l = absurd (omega arith)
-lowest-fits (suc n) f l = go (told (f 0)) (lowest-fits n (λ i. f (suc i)))
+-- a number in a set that has none at and past 64 is below 64
+pub below-64 : (f : ℕ → Bool) → ((j : ℕ) → 64 ≤ j → f j ≡ false) → (j : ℕ) → f j ≡ true → j < 64
+below-64 f past j e = go (told (ltb j 64))
   where
-    go : Told (f 0) → (lowestOf n (λ i. f (suc i)) < n → f (suc (lowestOf n (λ i. f (suc i)))) ≡ true) → f (lowestOf (suc n) f) ≡ true
-    go (yea e) r = rw (e, lowestOf) e
-    go (nay e) r = rw (e, lowestOf) (r (omega (arith, rw (e, lowestOf) at l)))
-
-lowest-none : (n : ℕ) (f : ℕ → Bool) → n ≤ lowestOf n f → (j : ℕ) → j < n → f j ≡ false
-unfolding lowestOf
-lowest-none zero f l j k = absurd (omega arith)
-lowest-none (suc n) f l j k = go (told (f 0)) j k (lowest-none n (λ i. f (suc i)))
-  where
-    go : Told (f 0) → (j : ℕ) → j < suc n → (n ≤ lowestOf n (λ i. f (suc i)) → (i : ℕ) → i < n → f (suc i) ≡ false) → f j ≡ false
-    go (yea e) j k r = absurd (omega (arith, rw (e, lowestOf) at l))
-    go (nay e) zero k r = e
-    go (nay e) (suc j) k r = r (omega (arith, rw (e, lowestOf) at l)) j (omega arith)
-
--- a choice below 64 is a member
-pub choose-fits : (f : ℕ → Bool) (wish : ℕ) → chosenOf (upto 64 f) wish < 64 → f (chosenOf (upto 64 f) wish) ≡ true
-unfolding chosenOf
-choose-fits f wish l = go (told (upto 64 f wish))
-  where
-    go : Told (upto 64 f wish) → f (chosenOf (upto 64 f) wish) ≡ true
-    go (yea e) = rw (e, chosenOf) (and-right (ltb wish 64) (f wish) e)
-    go (nay e) = rw (e, chosenOf) (and-right (ltb (lowestOf 64 (upto 64 f)) 64) _ (lowest-fits 64 (upto 64 f) (rw (e, chosenOf) at l)))
-
--- where the choice is none, nothing qualifies
-pub choose-none : (f : ℕ → Bool) (wish : ℕ) → 64 ≤ chosenOf (upto 64 f) wish → (q : ℕ) → q < 64 → f q ≡ false
-unfolding chosenOf
-choose-none f wish l q s = go (told (upto 64 f wish))
-  where
-    go : Told (upto 64 f wish) → f q ≡ false
-    go (yea e) = absurd (omega (arith, ltb-true wish 64 (and-left (ltb wish 64) (f wish) e), rw (e, chosenOf) at l))
-    go (nay e) = not-yes (f q) (λ t. clash (rw (lt-ltb q 64 s) t) (lowest-none 64 (upto 64 f) (rw (e, chosenOf) at l) q s))
-
--- a wish that qualifies is granted
-pub choose-wish : (f : ℕ → Bool) (wish : ℕ) → wish < 64 → f wish ≡ true → chosenOf (upto 64 f) wish ≡ wish
-unfolding chosenOf
-choose-wish f wish l e = rw (lt-ltb wish 64 l, e)
+    go : Told (ltb j 64) → j < 64
+    go (yea l) = ltb-true j 64 l
+    go (nay l) = clash e (past j (ltb-false j 64 l))
 
 -- ---- names, parents and links of places in use
 
@@ -87,19 +51,33 @@ module _ (l : Land) (q : ℕ) where
   pub under-fits : (p : ℕ) → linkedTo l q p ≡ true → Under l q p
   unfolding linkedTo linked
   under-fits p e =
-    let u : l .used q ≡ true = and-left (l .used q) _ e in
-    let r = and-right (l .used q) _ e in
-    record
-      { link = rw (u, and-left (eqb (l .place q .way) 0) _ r)
-      ; parent = parent-read u ∙ eqb-true _ p (and-right (eqb (l .place q .way) 0) _ r) }
+      let u : l .used q ≡ true = and-left (l .used q) _ e in
+      let r = and-right (l .used q) _ e in
+      record {
+        link = rw (u, and-left (eqb (l .place q .way) 0) _ r);
+        parent = parent-read u ∙ eqb-true _ p (and-right (eqb (l .place q .way) 0) _ r);
+      }
 
   pub under-of : (p : ℕ) → Under l q p → linkedTo l q p ≡ true
   unfolding linkedTo linked
   under-of p u =
-    let k : l .used q ≡ true = and-left (l .used q) _ (u .link) in
-    rw (k, and-right (l .used q) _ (u .link), eq-eqb (l .place q .parent) p (sym (parent-read k) ∙ u .parent))
+      let k : l .used q ≡ true = and-left (l .used q) _ (u .link) in
+      rw (k, and-right (l .used q) _ (u .link), eq-eqb (l .place q .parent) p (sym (parent-read k) ∙ u .parent))
 
 -- ---- what is on its way
+
+module _ (l : Land) (q : ℕ) where
+  -- q travels: the test, and what it says
+  pub travels-fits : travels l q ≡ true → (l .used q ≡ true) × (q ≢ 0) × (linked l q ≡ false)
+  unfolding travels linked
+  travels-fits e =
+      let u : l .used q ≡ true = and-left (l .used q) _ e in
+      let r = and-right (l .used q) _ e in
+      (u, differ q 0 (and-left (not (eqb q 0)) _ r), rw (u, not-true (eqb (l .place q .way) 0) (and-right (not (eqb q 0)) _ r)))
+
+  pub travels-of : l .used q ≡ true → q ≢ 0 → linked l q ≡ false → travels l q ≡ true
+  unfolding travels linked
+  travels-of u n e = rw (u, ne-eqb q 0 n, rw u at e)
 
 -- r is on its way to q
 pub record Comes (l : Land) (q r : ℕ) : Type 0 where
@@ -110,23 +88,15 @@ pub record Comes (l : Land) (q r : ℕ) : Type 0 where
 
 -- the test and the proposition
 pub comes-fits : (l : Land) (q r : ℕ) → onWayTo l q r ≡ true → Comes l q r
-unfolding onWayTo travels linked
+unfolding onWayTo
 comes-fits l q r e =
-  let t = and-left (travels l r) _ e in
-  let u : l .used r ≡ true = and-left (l .used r) _ t in
-  let w = and-right (l .used r) _ t in
-  record
-    { used = u
-    ; placed = eqb-false r 0 (not-true (eqb r 0) (and-left (not (eqb r 0)) _ w))
-    ; loose = rw (u, not-true (eqb (l .place r .way) 0) (and-right (not (eqb r 0)) _ w))
-    ; parent = parent-read l r u ∙ eqb-true _ q (and-right (travels l r) _ e) }
+    let t = travels-fits l r (and-left (travels l r) _ e) in
+    record { used = t .0; placed = t .1; loose = t .2; parent = parent-read l r (t .0) ∙ eqb-true _ q (and-right (travels l r) _ e) }
 
 pub comes-of : (l : Land) (q r : ℕ) → Comes l q r → onWayTo l q r ≡ true
-unfolding onWayTo travels linked
-comes-of l q r m = rw (m .used, ne-eqb r 0 (m .placed), not-zero, eq-eqb (l .place r .parent) q (sym (parent-read l r (m .used)) ∙ m .parent))
-  where
-    not-zero : eqb (l .place r .way) 0 ≡ false
-    not-zero = rw (m .used) at (m .loose)
+unfolding onWayTo
+comes-of l q r m =
+    rw (travels-of l r (m .used) (m .placed) (m .loose), eq-eqb (l .place r .parent) q (sym (parent-read l r (m .used)) ∙ m .parent))
 
 -- something is on its way to q exactly if some r is
 pub awaited-yes : (l : Land) (q r : ℕ) → r < 64 → Comes l q r → awaited l q ≡ true
@@ -136,6 +106,32 @@ awaited-yes l q r s m = any-at (onWayTo l q) 64 r s (comes-of l q r m)
 pub awaited-some : (l : Land) (q : ℕ) → awaited l q ≡ true → (r : ℕ) × Comes l q r
 unfolding awaited
 awaited-some l q e = let s = any-found (onWayTo l q) 64 e in (s .0, comes-fits l q (s .0) (s .1 .1))
+
+-- ---- a settled cell
+
+-- every place but the floor is linked
+abbrev pub Whole : State → Type 0
+Whole c = (q : ℕ) → c .land .used q ≡ true → q ≢ 0 → linked (c .land) q ≡ true
+
+-- so nothing travels
+pub whole-still : (c : State) → Whole c → (q : ℕ) → travels (c .land) q ≡ false
+whole-still c whole q = not-yes _ (λ t. let v = travels-fits (c .land) q t in clash (whole q (v .0) (v .1)) (v .2))
+
+-- a cell is settled where every lock of a place in use is free and every place is linked
+pub settled-of : (c : State) → ((q : ℕ) → q < 64 → c .land .used q ≡ true → c .lock q ≡ none) → Whole c → settled c ≡ true
+unfolding settled
+settled-of c free whole = all-yes _ 64 (λ q l. go q l (told (c .land .used q)))
+  where
+    go : (q : ℕ) → q < 64 → Told (c .land .used q) → cond (c .land .used q) (eqb (c .lock q) none && not (travels (c .land) q)) true ≡ true
+    go q l (yea u) = rw (whole-still c whole q, eq-eqb (c .lock q) none (free q l u), u)
+    go q l (nay e) = rw e
+
+-- a place in use of a settled cell is free and does not travel
+pub settled-at : (c : State) → settled c ≡ true → (q : ℕ) → q < 64 → c .land .used q ≡ true → (c .lock q ≡ none) × (travels (c .land) q ≡ false)
+unfolding settled
+settled-at c e q l u =
+    let f : eqb (c .lock q) none && not (travels (c .land) q) ≡ true = rw u at (all-at _ 64 q l e) in
+    (eqb-true (c .lock q) none (and-left (eqb (c .lock q) none) _ f), not-true _ (and-right (eqb (c .lock q) none) (not (travels (c .land) q)) f))
 
 -- ---- what qualifies, by the kind of the action
 
@@ -162,11 +158,12 @@ module _ (l : Land) (kind n home p q : ℕ) where
   -- the test of a child with one more condition, as enter and open have it
   child : (b : Bool) → linkedTo l q p && (eqb (l .place q .name) n && b) ≡ true → Child l p n q × (b ≡ true)
   child b e =
-    let t = and-left (linkedTo l q p) _ e in
-    let r = and-right (linkedTo l q p) _ e in
-    let u = under-fits l q p t in
-    (record { under = u; name = name-read l q (link-used l q (u .link)) ∙ eqb-true _ n (and-left (eqb (l .place q .name) n) b r) },
-      and-right (eqb (l .place q .name) n) b r)
+      let t = and-left (linkedTo l q p) _ e in
+      let r = and-right (linkedTo l q p) _ e in
+      let u = under-fits l q p t in (
+        record { under = u; name = name-read l q (link-used l q (u .link)) ∙ eqb-true _ n (and-left (eqb (l .place q .name) n) b r) },
+        and-right (eqb (l .place q .name) n) b r,
+      )
 
   child-of : (b : Bool) → Child l p n q → b ≡ true → linkedTo l q p && (eqb (l .place q .name) n && b) ≡ true
   child-of b c e = rw (under-of l q p (c .under), eq-eqb (l .place q .name) n (sym (name-read l q (link-used l q (c .under .link))) ∙ c .name), e)
@@ -174,15 +171,15 @@ module _ (l : Land) (kind n home p q : ℕ) where
   -- what each kind asks, told apart
   pub enters-fits : kind ≡ 1 → qualifies l kind n home p q ≡ true → Child l p n q × (q ≢ home)
   unfolding qualifies entersAt
-  enters-fits k e = let r = child (not (eqb q home)) (rw k at e) in (r .0, eqb-false q home (not-true (eqb q home) (r .1)))
+  enters-fits k e = let r = child (not (eqb q home)) (rw k at e) in (r .0, differ q home (r .1))
 
   pub exits-fits : kind ≡ 2 → qualifies l kind n home p q ≡ true → (q ≡ p) × (linked l p ≡ true) × (nameIn l p ≡ n)
   unfolding qualifies exitsFrom
   exits-fits k e =
-    let f : (eqb q p && (linked l p && eqb (l .place p .name) n)) ≡ true = rw k at e in
-    let r = and-right (eqb q p) _ f in
-    let u = and-left (linked l p) _ r in
-    (eqb-true q p (and-left (eqb q p) _ f), u, name-read l p (link-used l p u) ∙ eqb-true _ n (and-right (linked l p) _ r))
+      let f : (eqb q p && (linked l p && eqb (l .place p .name) n)) ≡ true = rw k at e in
+      let r = and-right (eqb q p) _ f in
+      let u = and-left (linked l p) _ r in
+      (eqb-true q p (and-left (eqb q p) _ f), u, name-read l p (link-used l p u) ∙ eqb-true _ n (and-right (linked l p) _ r))
 
   pub opens-fits : kind ≡ 3 → qualifies l kind n home p q ≡ true → Child l p n q × (awaited l q ≡ false)
   unfolding qualifies opensAt
@@ -207,26 +204,7 @@ module _ (l : Land) (kind n home p q : ℕ) where
   fits-linked (is-exit k) e = let f = exits-fits k e in ap (linked l) (f .0) ∙ f .1
   fits-linked (is-open k) e = opens-fits k e .0 .under .link
 
--- ---- an agent's choice, its second place, and whether it stays
-
--- the place that an agent chooses qualifies
-pub choice-fits : (l : Land) (a : Agent) (wish q : ℕ) → choice l a wish ≡ q → q < 64
-  → qualifies l (kindOf a) (nameOf a) (a .home) (a .remembered) q ≡ true
-unfolding choose
-choice-fits l a wish q e s = subst (λ r. qualifies l (kindOf a) (nameOf a) (a .home) (a .remembered) r ≡ true) e
-  (choose-fits (qualifies l (kindOf a) (nameOf a) (a .home) (a .remembered)) wish (subst (λ (r : ℕ). r < 64) (sym e) s))
-
--- where it chooses none, no place below 64 qualifies
-pub choice-none : (l : Land) (a : Agent) (wish : ℕ) → 64 ≤ choice l a wish → (q : ℕ) → q < 64
-  → qualifies l (kindOf a) (nameOf a) (a .home) (a .remembered) q ≡ false
-unfolding choose
-choice-none l a wish = choose-none (qualifies l (kindOf a) (nameOf a) (a .home) (a .remembered)) wish
-
--- a wish that qualifies is its choice
-pub choice-wish : (l : Land) (a : Agent) (wish : ℕ) → wish < 64
-  → qualifies l (kindOf a) (nameOf a) (a .home) (a .remembered) wish ≡ true → choice l a wish ≡ wish
-unfolding choose
-choice-wish l a wish = choose-wish (qualifies l (kindOf a) (nameOf a) (a .home) (a .remembered)) wish
+-- ---- an agent's target, its second place, and whether it stays
 
 -- an agent that fires at stage 3 qualifies on its target
 pub fires-target : (l : Land) (a : Agent) → fires l a ≡ qualifies l (kindOf a) (nameOf a) (a .home) (a .remembered) (targetOf a)
@@ -244,11 +222,7 @@ stays-under l a k e = under-fits l (a .home) (a .remembered) (rw (ne-eqb (kindOf
 
 pub stays-of : (l : Land) (a : Agent) → Under l (a .home) (a .remembered) → stays l a ≡ true
 unfolding stays
-stays-of l a u = rw (under-of l (a .home) (a .remembered) u) (go (eqb (kindOf a) 3))
-  where
-    go : (b : Bool) → (b || true) ≡ true
-    go true = refl
-    go false = refl
+stays-of l a u = rw (under-of l (a .home) (a .remembered) u) (or-true (eqb (kindOf a) 3))
 
 -- an opener stays
 pub stays-open : (l : Land) (a : Agent) → kindOf a ≡ 3 → stays l a ≡ true

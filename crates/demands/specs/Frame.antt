@@ -1,14 +1,14 @@
 -- What an agent keeps when places and locks change around it: the facts of its stage, and a sleeper its reason to sleep.
 -- By cases on what is known of it; each fact speaks of one or two places that the change leaves alone.
-use mathlib.Core.Path.{_≡_, sym, _∙_, subst}
-use mathlib.Core.Logic.{_≢_}
+use mathlib.Core.Path.{_≡_, refl, sym, _∙_, subst}
+use mathlib.Core.Logic.{_≢_, inl, inr}
 use Prim.Native.Nat.{ℕ, _≤_}
 use mathlib.Core.Bool.{true, false}
 use native.Mathlib.Omega.{arith}
 use lib.Dec.{eqb}
 use borrow.Author.Tests.{eqb-true, eqb-false}
 use Rattle.table.specs.BaseLaws.{Told, yea, nay, told, clash}
-use Rattle.table.specs.Cell.{Land, linked, kindOf, nameOf}
+use Rattle.table.specs.Cell.{Land, linked, kindOf, nameOf, unused}
 use Rattle.table.specs.declared.Agent.{Agent}
 use Rattle.meaning.specs.Update.{atStage}
 use Rattle.meaning.specs.Step.{awaited, qualifies, stays, asleepOn}
@@ -16,7 +16,8 @@ use Rattle.demands.specs.Reading.{parentIn, nameIn}
 use Rattle.demands.specs.ReadingLaws.{wakeAgent}
 use Rattle.demands.specs.Invariant.{Under, Has, Ready, Away, Travels, Sleeper, alone, stuck}
 use Rattle.demands.specs.Invariant.{Ok, ok0, ok1, ok2, ok3-move, ok3-open, ok4, ok5, ok6, ok7, ok8}
-use Rattle.demands.specs.Facts.{not-yes, Child, stays-under, stays-of, stays-open}
+use Rattle.demands.specs.Stages.{SameOrReset}
+use Rattle.demands.specs.Facts.{not-yes, link-used, Child, stays-under, stays-of, stays-open}
 use Rattle.demands.specs.Facts.{Kind, is-enter, is-exit, is-open, enters-fits, exits-fits, opens-fits, enters-of, exits-of, opens-of}
 
 -- ---- the facts of a stage
@@ -27,15 +28,15 @@ pub data Recalls (lock : ℕ → ℕ) (x : ℕ) (a : Agent) : Type 0 where
   sleeping : a .stage ≡ 7 → Recalls lock x a
   holding : 2 ≤ a .stage → a .stage ≤ 3 → Has lock (a .remembered) x → Recalls lock x a
 
--- an agent keeps its stage's facts where what it remembers stays in use, its locks stay, what is linked under a place that it holds
--- stays linked there, and its place stays on its way if it is
-pub ok-frame : {l l′ : Land} {lock lock′ : ℕ → ℕ} {x : ℕ} {a : Agent}
-  → (Recalls lock x a → l .used (a .remembered) ≡ true → l′ .used (a .remembered) ≡ true)
-  → ((q : ℕ) → Has lock q x → Has lock′ q x)
-  → ((q p : ℕ) → Has lock p x → Under l q p → Under l′ q p)
-  → (Travels a → Away l a → (linked l′ (a .home) ≡ false) × (parentIn l′ (a .home) ≡ parentIn l (a .home)))
-  → Ok l lock x a → Ok l′ lock′ x a
-ok-frame {l} {l′} {lock} {lock′} {x} {a} known has under way = go
+-- an agent keeps its stage's facts where what it remembers stays in use, its locks of places in use stay, what is linked under a place
+-- that it holds stays linked there, and its place stays on its way if it is
+pub ok-frame : {l l′ : Land} {lock lock′ : ℕ → ℕ} {x : ℕ} {a : Agent} → l .used (a .home) ≡ true → l .used (parentIn l (a .home)) ≡ true
+    → (Recalls lock x a → l .used (a .remembered) ≡ true → l′ .used (a .remembered) ≡ true)
+    → ((q : ℕ) → l .used q ≡ true → Has lock q x → Has lock′ q x)
+    → ((q p : ℕ) → Has lock p x → Under l q p → Under l′ q p)
+    → (Travels a → Away l a → (linked l′ (a .home) ≡ false) × (parentIn l′ (a .home) ≡ parentIn l (a .home)))
+    → Ok l lock x a → Ok l′ lock′ x a
+ok-frame {l} {l′} {lock} {lock′} {x} {a} home above known has under way = go
   where
     ready : Recalls lock x a → Ready l a → Ready l′ a
     ready m r = record { some = r .some; known = known m (r .known); opener = r .opener }
@@ -46,15 +47,17 @@ ok-frame {l} {l′} {lock} {lock′} {x} {a} known has under way = go
     go : Ok l lock x a → Ok l′ lock′ x a
     go (ok0 s k) = ok0 s k
     go (ok1 s r) = ok1 s (ready (found s) r)
-    go (ok2 s r h) = ok2 s (ready (holding (omega arith) (omega arith) h) r) (has _ h)
-    go (ok3-move s r k h₁ h₂ v t) = ok3-move s (ready (holding (omega arith) (omega arith) h₁) r) k (has _ h₁) (has _ h₂)
-      (under _ _ h₁ v) (λ e. under _ _ h₁ (t e))
-    go (ok3-open s r k h₁ h₂ v) = ok3-open s (ready (holding (omega arith) (omega arith) h₁) r) k (has _ h₁) (has _ h₂) (under _ _ h₁ v)
+    go (ok2 s r h) = ok2 s (ready (holding (omega arith) (omega arith) h) r) (has _ (r .known) h)
+    go (ok3-move s r k h₁ h₂ v t) = ok3-move s (ready (holding (omega arith) (omega arith) h₁) r) k (has _ (r .known) h₁) (has _ home h₂)
+        (under _ _ h₁ v) (λ e. under _ _ h₁ (t e))
+    go (ok3-open s r k h₁ h₂ v) = ok3-open s (ready (holding (omega arith) (omega arith) h₁) r) k (has _ (r .known) h₁)
+        (has _ (link-used l _ (v .link)) h₂)
+        (under _ _ h₁ v)
     go (ok4 s v) = ok4 s (away (record { from = omega arith; to = omega arith }) v)
-    go (ok5 s v h) = ok5 s (away (record { from = omega arith; to = omega arith }) v) (has _ h)
+    go (ok5 s v h) = ok5 s (away (record { from = omega arith; to = omega arith }) v) (has _ home h)
     go (ok6 s v h₁ h₂) =
-      let t : Travels a = record { from = omega arith; to = omega arith } in
-      ok6 s (away t v) (has _ h₁) (subst (λ (q : ℕ). Has lock′ q x) (sym (way t v .1)) (has _ h₂))
+        let t : Travels a = record { from = omega arith; to = omega arith } in
+        ok6 s (away t v) (has _ home h₁) (subst (λ (q : ℕ). Has lock′ q x) (sym (way t v .1)) (has _ above h₂))
     go (ok7 s k u) = ok7 s k (known (sleeping s) u)
     go (ok8 s e) = ok8 s e
 
@@ -69,7 +72,7 @@ pub record Calm (l l′ : Land) (a : Agent) : Type 0 where
   pub up : linked l′ (a .remembered) ≡ true → linked l (a .remembered) ≡ true
   pub awaits : (q : ℕ) → Under l′ q (a .remembered) → awaited l′ q ≡ false → awaited l q ≡ false
 
--- a sleeper that is not woken keeps its reason
+-- a sleeper that is not woken
 module _ (l l′ : Land) (a : Agent) (k : Kind (kindOf a)) (m : Calm l l′ a) where
   -- it stays, and what would qualify now would have before
   stays-frame : Kind (kindOf a) → stays l a ≡ true → stays l′ a ≡ true
@@ -81,11 +84,13 @@ module _ (l l′ : Land) (a : Agent) (k : Kind (kindOf a)) (m : Calm l l′ a) w
   child-frame n q c = record { under = m .child q (c .under); name = sym (m .names q (c .under .link)) ∙ c .name }
 
   fits-frame : (q : ℕ) → Kind (kindOf a) → qualifies l′ (kindOf a) (nameOf a) (a .home) (a .remembered) q ≡ true
-    → qualifies l (kindOf a) (nameOf a) (a .home) (a .remembered) q ≡ true
+      → qualifies l (kindOf a) (nameOf a) (a .home) (a .remembered) q ≡ true
   fits-frame q (is-enter k) e = let f = enters-fits l′ _ _ _ _ q k e in enters-of l _ _ _ _ q k (child-frame _ q (f .0)) (f .1)
   fits-frame q (is-exit k) e = let f = exits-fits l′ _ _ _ _ q k e in exits-of l _ _ _ _ q k (f .0) (m .up (f .1)) (sym (m .names _ (f .1)) ∙ f .2)
-  fits-frame q (is-open k) e = let f = opens-fits l′ _ _ _ _ q k e in opens-of l _ _ _ _ q k (child-frame _ q (f .0)) (m .awaits q (f .0 .under) (f .1))
+  fits-frame q (is-open k) e = let f = opens-fits l′ _ _ _ _ q k e in
+      opens-of l _ _ _ _ q k (child-frame _ q (f .0)) (m .awaits q (f .0 .under) (f .1))
 
+  -- so it keeps its reason
   pub sleeper-frame : Sleeper l a → Sleeper l′ a
   sleeper-frame (alone s e o) = alone s e (m .loose o e)
   sleeper-frame (stuck o s f) = stuck o (stays-frame k s) (λ q. not-yes _ (λ t. clash (fits-frame q k t) (f q)))
@@ -97,6 +102,21 @@ pub data Roused (quiet : ℕ → Type 0) (a : Agent) : Agent → Type 0 where
   woken : a .stage ≡ 7 → Roused quiet a (atStage a 0 0 0)
   unchanged : (a .stage ≡ 7 → quiet (a .remembered)) → Roused quiet a a
 
+module _ {quiet : ℕ → Type 0} {a : Agent} where
+  -- it keeps home and actions, and is as it was or at stage 0
+  pub roused-home : {b : Agent} → Roused quiet a b → b .home ≡ a .home
+  roused-home (woken s) = refl
+  roused-home (unchanged n) = refl
+
+  pub roused-unused : {b : Agent} → Roused quiet a b → unused b ≡ unused a
+  unfolding unused
+  roused-unused (woken s) = refl
+  roused-unused (unchanged n) = refl
+
+  pub roused-reset : {b : Agent} → Roused quiet a b → SameOrReset a b
+  roused-reset (woken s) = inr (inl refl)
+  roused-reset (unchanged n) = inl refl
+
 -- a place other than p, q and r
 pub record Apart (p q r m : ℕ) : Type 0 where
   pub first : m ≢ p
@@ -104,15 +124,15 @@ pub record Apart (p q r m : ℕ) : Type 0 where
   pub third : m ≢ r
 
 -- each agent once all asleep on p, q or r are woken
-pub wakes : (p q r : ℕ) (a : Agent) → Roused (Apart p q r) a (wakeAgent p q r a)
+pub rouses : (p q r : ℕ) (a : Agent) → Roused (Apart p q r) a (wakeAgent p q r a)
 unfolding wakeAgent asleepOn
-wakes p q r a = go (told (eqb (a .stage) 7)) (told (eqb (a .remembered) p)) (told (eqb (a .remembered) q)) (told (eqb (a .remembered) r))
+rouses p q r a = go (told (eqb (a .stage) 7)) (told (eqb (a .remembered) p)) (told (eqb (a .remembered) q)) (told (eqb (a .remembered) r))
   where
     go : Told (eqb (a .stage) 7) → Told (eqb (a .remembered) p) → Told (eqb (a .remembered) q) → Told (eqb (a .remembered) r)
-      → Roused (Apart p q r) a (wakeAgent p q r a)
+        → Roused (Apart p q r) a (wakeAgent p q r a)
     go (nay s) _ _ _ = rw s (unchanged (λ e. absurd (eqb-false _ _ s e)))
     go (yea s) (yea e) _ _ = rw (s, e) (woken (eqb-true _ _ s))
     go (yea s) (nay e) (yea f) _ = rw (s, e, f) (woken (eqb-true _ _ s))
     go (yea s) (nay e) (nay f) (yea g) = rw (s, e, f, g) (woken (eqb-true _ _ s))
     go (yea s) (nay e) (nay f) (nay g) =
-      rw (s, e, f, g) (unchanged (λ _. record { first = eqb-false _ _ e; second = eqb-false _ _ f; third = eqb-false _ _ g }))
+        rw (s, e, f, g) (unchanged (λ _. record { first = eqb-false _ _ e; second = eqb-false _ _ f; third = eqb-false _ _ g }))

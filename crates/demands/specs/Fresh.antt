@@ -1,14 +1,14 @@
 -- A cell right after an accepted load: one tree, nothing held, nothing on its way, every agent at the start of its row or done.
 use mathlib.Core.Path.{_≡_}
-use mathlib.Core.Logic.{_≢_}
 use mathlib.Core.List.{[]}
 use mathlib.Core.Bool.{true, false}
 use Prim.Native.Nat.{ℕ, _≤_, _<_}
 use lib.ListN.{length}
-use Rattle.table.specs.Cell.{State, none, noPlace, freshAgent, linked, kindOf, unused}
+use Rattle.table.specs.Cell.{State, none, noPlace, freshAgent, kindOf, unused}
 use Rattle.table.specs.Bounds.{Bounded}
 use Rattle.table.specs.declared.Agent.{Agent}
 use Rattle.demands.specs.Invariant.{Places, Fit}
+use Rattle.demands.specs.Facts.{Whole}
 
 -- "an agent loaded without actions is at 8, one loaded with some at 0"
 pub data Starts (a : Agent) : Type 0 where
@@ -27,7 +27,7 @@ pub record New (a : Agent) : Type 0 where
 -- a cell as it is loaded
 pub record Fresh (c : State) : Type 0 where
   pub places : Places (c .land)
-  pub settled : (q : ℕ) → c .land .used q ≡ true → q ≢ 0 → linked (c .land) q ≡ true
+  pub whole : Whole c
   pub free : (q : ℕ) → q < 64 → c .lock q ≡ none
   pub homes : (x : ℕ) → c .given x ≡ true → c .land .used (c .agent x .home) ≡ true
   pub agents : (x : ℕ) → c .given x ≡ true → New (c .agent x)

@@ -1,4 +1,6 @@
 -- What holds of a cell after every list of calls: it is sound, as a proposition, and no sleeper has anything to do.
+-- Names in the proofs: c is a cell, i says that it is sound, x is the agent that steps, g says that it is given; l are the places, t the
+-- table or the plain tree.
 use mathlib.Core.Path.{_≡_}
 use mathlib.Core.Logic.{_≢_}
 use mathlib.Core.List.{[]}
@@ -60,9 +62,9 @@ pub data Ok (l : Land) (lock : ℕ → ℕ) (x : ℕ) (a : Agent) : Type 0 where
   ok1 : a .stage ≡ 1 → Ready l a → Ok l lock x a
   ok2 : a .stage ≡ 2 → Ready l a → Has lock (a .remembered) x → Ok l lock x a
   ok3-move : a .stage ≡ 3 → Ready l a → kindOf a ≤ 2 → Has lock (a .remembered) x → Has lock (a .home) x
-    → Under l (a .home) (a .remembered) → (kindOf a ≡ 1 → Under l (a .chosen) (a .remembered)) → Ok l lock x a
+      → Under l (a .home) (a .remembered) → (kindOf a ≡ 1 → Under l (a .chosen) (a .remembered)) → Ok l lock x a
   ok3-open : a .stage ≡ 3 → Ready l a → kindOf a ≡ 3 → Has lock (a .remembered) x → Has lock (a .chosen) x
-    → Under l (a .chosen) (a .remembered) → Ok l lock x a
+      → Under l (a .chosen) (a .remembered) → Ok l lock x a
   ok4 : a .stage ≡ 4 → Away l a → Ok l lock x a
   ok5 : a .stage ≡ 5 → Away l a → Has lock (a .home) x → Ok l lock x a
   ok6 : a .stage ≡ 6 → Away l a → Has lock (a .home) x → Has lock (parentIn l (a .home)) x → Ok l lock x a
@@ -109,9 +111,13 @@ pub record Sound (c : State) : Type 0 where
 pub data Sleeper (l : Land) (a : Agent) : Type 0 where
   alone : kindOf a ≤ 2 → a .remembered ≡ a .home → linked l (a .home) ≡ false → Sleeper l a
   stuck : (kindOf a ≡ 3 → a .remembered ≡ a .home) → stays l a ≡ true
-    → ((q : ℕ) → qualifies l (kindOf a) (nameOf a) (a .home) (a .remembered) q ≡ false) → Sleeper l a
+      → ((q : ℕ) → qualifies l (kindOf a) (nameOf a) (a .home) (a .remembered) q ≡ false) → Sleeper l a
+
+-- each sleeper has a reason to sleep
+abbrev pub Reasons : State → Type 0
+Reasons c = (x : ℕ) → agentIn c x .stage ≡ 7 → Sleeper (c .land) (agentIn c x)
 
 -- the invariant: the cell is sound, and each sleeper has a reason to sleep
 pub record Inv (c : State) : Type 0 where
   pub sound : Sound c
-  pub sleep : (x : ℕ) → agentIn c x .stage ≡ 7 → Sleeper (c .land) (agentIn c x)
+  pub sleep : Reasons c

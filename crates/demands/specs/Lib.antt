@@ -11,20 +11,22 @@ pub mod Reading
 pub mod ReadingLaws
 pub mod Invariant
 pub mod Ways
+pub mod Given
 pub mod Facts
+pub mod Choice
 pub mod Actions
 pub mod Stages
 pub mod StepWays
 -- soundness as a test and as a proposition
 pub mod SoundTest
 pub mod SoundTestActions
-pub mod SoundTestGiven
 pub mod SoundTestCounts
 pub mod SoundTestStages
 pub mod SoundTestAgents
 pub mod SoundTestPlaces
 pub mod SoundTestTravellers
 -- every step keeps the invariant
+pub mod Within
 pub mod Frame
 pub mod Change
 pub mod Quiet

@@ -2,7 +2,7 @@
 -- An agent that waits leads to the holder of the lock. Holders at stage 2 lead down along links, those at stage 5 up along destinations;
 -- both ways end, and at the other stages nobody waits while it holds a lock.
 use mathlib.Core.Path.{_≡_, refl, sym, ap, _∙_, subst}
-use mathlib.Core.Logic.{_≢_, _⊎_, inl, inr}
+use mathlib.Core.Logic.{_≢_, _⊎_, inl, inr, ⊎-elim}
 use mathlib.Core.Bool.{Bool, true, false, not, _&&_}
 use Prim.Native.Nat.{ℕ, zero, suc, _+_, _≤_, _<_}
 use native.Mathlib.Omega.{arith}
@@ -14,15 +14,18 @@ use Rattle.table.specs.Cell.{Land, State, none, linked, linkedTo, kindOf}
 use Rattle.table.specs.Sound.{secondPlace}
 use Rattle.table.specs.declared.Agent.{Agent}
 use Rattle.meaning.specs.Update.{useUp}
-use Rattle.meaning.specs.Step.{Outcome, step, still, leave, dissolve, arrive, restStage, choice, stays}
+use Rattle.meaning.specs.Step.{Outcome, step, still, leave, dissolve, arrive, choice, stays}
 use Rattle.calculus.specs.Up.{Up, base, up, sixty-three}
 use Rattle.demands.specs.Reading.{parentIn, agentIn}
 use Rattle.demands.specs.ReadingLaws.{agent-given}
-use Rattle.demands.specs.Invariant.{Under, Ok, ok0, ok1, ok2, ok3-move, ok3-open, ok4, ok5, ok6, ok7, ok8, Holds, near, far, own, destination, Kept, free, kept, Sound}
-use Rattle.demands.specs.Facts.{link-used, under-fits, under-of, choice-fits, opens-fits, stays-under, second-move, second-open}
-use Rattle.demands.specs.Stages.{ok-at, rest-stage, ok-given, home-given}
-use Rattle.demands.specs.SoundTestGiven.{stage-given}
-use Rattle.demands.specs.Ways.{Way, is-done, is-asleep, held-first, held-second, held-own, held-destination, looks-up, looks-home, sleeps-alone, takes-first, goes-back, sleeps-stuck, takes-second, gives-up, enters, exits, opens, takes-own, takes-destination, comes}
+use Rattle.demands.specs.Invariant.{Under, Ok, ok0, ok1, ok2, ok3-move, ok3-open, ok4, ok5, ok6, ok7, ok8, Holds, near, far, own}
+use Rattle.demands.specs.Invariant.{destination, Kept, free, kept, Sound}
+use Rattle.demands.specs.Facts.{link-used, under-fits, under-of, opens-fits, stays-under, second-move, second-open}
+use Rattle.demands.specs.Choice.{choice-fits}
+use Rattle.demands.specs.Stages.{ok-at, rest-stage, not-between, holds-given, ok-given, home-given}
+use Rattle.demands.specs.Ways.{Way, is-done, is-asleep, held-first, held-second, held-own, held-destination, looks-up, looks-home}
+use Rattle.demands.specs.Ways.{sleeps-alone, takes-first, goes-back, sleeps-stuck, takes-second, gives-up, enters, exits, opens}
+use Rattle.demands.specs.Ways.{takes-own, takes-destination, comes}
 use Rattle.demands.specs.StepWays.{kind-given, step-way}
 
 -- an agent whose step changes its stage, whatever its wish
@@ -31,25 +34,6 @@ pub record Goes (c : State) : Type 0 where
   pub given : c .given who ≡ true
   pub awake : c .agent who .stage ≤ 6
   pub changes : (w : ℕ) → step c who w .cell .agent who .stage ≢ c .agent who .stage
-
--- so its step changes the cell
-pub goes-changes : (c : State) (g : Goes c) (w : ℕ) → step c (g .who) w .cell ≢ c
-goes-changes c g w e = g .changes w (ap (λ d. d .agent (g .who) .stage) e)
-
--- an agent that holds a lock is at stages 2 to 6
-pub holds-between : {l : Land} {a : Agent} {q : ℕ} → Holds l a q → (2 ≤ a .stage) × (a .stage ≤ 6)
-holds-between (near lo hi e) = (lo, omega arith)
-holds-between (far s e) = (omega arith, omega arith)
-holds-between (own lo hi e) = (omega arith, hi)
-holds-between (destination s e) = (omega arith, omega arith)
-
--- the stage after opened or came is none of 1 to 7
-rest-differs : (s : ℕ) (a : Agent) → 1 ≤ s → s ≤ 7 → s ≢ restStage a
-rest-differs s a lo hi e = go (rest-stage a)
-  where
-    go : (restStage a ≡ 0) ⊎ (restStage a ≡ 8) → ⊥
-    go (inl z) = omega arith
-    go (inr z) = omega arith
 
 -- the lock of q is the next that an agent at this stage needs
 abbrev pub Needs : Land → Agent → ℕ → ℕ → Type 0
@@ -72,19 +56,22 @@ module _ (c : State) (i : Sound c) (x : ℕ) (g : c .given x ≡ true) where
 
   -- the second place is linked to the remembered one
   pub second-under : (w : ℕ) → stays (c .land) (c .agent x) ≡ true → choice (c .land) (c .agent x) w < 64
-    → Under (c .land) (secondPlace (kindOf (c .agent x)) (c .agent x .home) (choice (c .land) (c .agent x) w)) (c .agent x .remembered)
+      → Under (c .land) (secondPlace (kindOf (c .agent x)) (c .agent x .home) (choice (c .land) (c .agent x) w)) (c .agent x .remembered)
   second-under w st l = go (eq? (kindOf (c .agent x)) 3)
     where
       q : ℕ
       q = choice (c .land) (c .agent x) w
+
       to : (r : ℕ) → secondPlace (kindOf (c .agent x)) (c .agent x .home) q ≡ r → Under (c .land) r (c .agent x .remembered)
-        → Under (c .land) (secondPlace (kindOf (c .agent x)) (c .agent x .home) q) (c .agent x .remembered)
+          → Under (c .land) (secondPlace (kindOf (c .agent x)) (c .agent x .home) q) (c .agent x .remembered)
       to r e = subst (λ (n : ℕ). Under (c .land) n (c .agent x .remembered)) (sym e)
-      go : (kindOf (c .agent x) ≡ 3) ⊎ (kindOf (c .agent x) ≢ 3) → Under (c .land) (secondPlace (kindOf (c .agent x)) (c .agent x .home) q) (c .agent x .remembered)
+
+      go : (kindOf (c .agent x) ≡ 3) ⊎ (kindOf (c .agent x) ≢ 3)
+          → Under (c .land) (secondPlace (kindOf (c .agent x)) (c .agent x .home) q) (c .agent x .remembered)
       go (inl k) = to q (second-open _ _ q k) (opens-fits (c .land) _ _ _ _ q k (choice-fits (c .land) (c .agent x) w q refl l) .0 .under)
       go (inr n) =
-        let k : kindOf (c .agent x) ≤ 2 = omega (arith, kind-given c i x g) in
-        to (c .agent x .home) (second-move _ _ q k) (stays-under (c .land) (c .agent x) k st)
+          let k : kindOf (c .agent x) ≤ 2 = omega (arith, kind-given c i x g) in
+          to (c .agent x .home) (second-move _ _ q k) (stays-under (c .land) (c .agent x) k st)
 
   -- a step changes the agent's stage, or the agent waits
   change : {w : ℕ} {o : Outcome} → Way c x w o → (o .cell .agent x .stage ≢ c .agent x .stage) ⊎ Waits c x
@@ -105,10 +92,10 @@ module _ (c : State) (i : Sound c) (x : ℕ) (g : c .given x ≡ true) where
   change (gives-up s e) = inl (other-stage 3 0 _ _ s refl (omega arith))
   change (enters s k e) = inl (other-stage 3 4 _ _ s refl (omega arith))
   change (exits s k e) = inl (other-stage 3 4 _ _ s refl (omega arith))
-  change (opens s k e) = inl (other-stage 3 _ _ _ s refl (rest-differs 3 (useUp (c .agent x)) (omega arith) (omega arith)))
+  change (opens s k e) = inl (other-stage 3 _ _ _ s refl (λ z. not-between (rest-stage (useUp (c .agent x))) (omega arith) (omega arith)))
   change (takes-own s e) = inl (other-stage 4 5 _ _ s refl (omega arith))
   change (takes-destination s e) = inl (other-stage 5 6 _ _ s refl (omega arith))
-  change (comes s) = inl (other-stage 6 _ _ _ s refl (rest-differs 6 (c .agent x) (omega arith) (omega arith)))
+  change (comes s) = inl (other-stage 6 _ _ _ s refl (λ z. not-between (rest-stage (c .agent x)) (omega arith) (omega arith)))
 
   -- an agent at stage n whose locks are free goes
   free-to : (n : ℕ) → c .agent x .stage ≡ n → n ≤ 6 → ((q : ℕ) → Needs (c .land) (c .agent x) q n → c .lock q ≡ none) → Goes c
@@ -120,6 +107,13 @@ module _ (c : State) (i : Sound c) (x : ℕ) (g : c .given x ≡ true) where
       go w (inr (waits q m t k h)) = absurd (h (f q (subst (Needs (c .land) (c .agent x) q) (sym t ∙ s) k)))
 
 module _ (c : State) (i : Sound c) where
+  -- an agent that holds both places needs no lock
+  third : (x : ℕ) → c .given x ≡ true → c .agent x .stage ≡ 3 → Goes c
+  third x g s = free-to c i x g 3 s (omega arith) (λ r z. absurd z)
+
+  sixth : (x : ℕ) → c .given x ≡ true → c .agent x .stage ≡ 6 → Goes c
+  sixth x g s = free-to c i x g 6 s (omega arith) (λ r z. absurd z)
+
   -- the holder of the lock of q: its step changes the cell, or it is at stage 2 or 5
   data Holder (q : ℕ) : Type 0 where
     goes : Goes c → Holder q
@@ -130,23 +124,16 @@ module _ (c : State) (i : Sound c) where
   holder q u n = go (i .locks q u)
     where
       by : (y : ℕ) → c .given y ≡ true → Holds (c .land) (c .agent y) q → Holder q
-      by y g (near lo hi f) = two (eq? (c .agent y .stage) 2)
-        where
-          two : (c .agent y .stage ≡ 2) ⊎ (c .agent y .stage ≢ 2) → Holder q
-          two (inl e) = at-two y g e f
-          two (inr e) = goes (free-to c i y g 3 (omega arith) (omega arith) (λ r z. absurd z))
-      by y g (far s f) = goes (free-to c i y g 3 s (omega arith) (λ r z. absurd z))
-      by y g (own lo hi f) = five (eq? (c .agent y .stage) 5)
-        where
-          five : (c .agent y .stage ≡ 5) ⊎ (c .agent y .stage ≢ 5) → Holder q
-          five (inl e) = at-five y g e f
-          five (inr e) = goes (free-to c i y g 6 (omega arith) (omega arith) (λ r z. absurd z))
-      by y g (destination s f) = goes (free-to c i y g 6 s (omega arith) (λ r z. absurd z))
+      by y g (near lo hi f) = ⊎-elim (λ e. at-two y g e f) (λ e. goes (third y g (omega arith))) (eq? (c .agent y .stage) 2)
+      by y g (far s f) = goes (third y g s)
+      by y g (own lo hi f) = ⊎-elim (λ e. at-five y g e f) (λ e. goes (sixth y g (omega arith))) (eq? (c .agent y .stage) 5)
+      by y g (destination s f) = goes (sixth y g s)
+
       go : Kept (c .land) (c .lock) (agentIn c) q → Holder q
       go (free f) = absurd (n f)
       go (kept y h r) =
-        let g = stage-given c y (λ z. omega (arith, holds-between r .1)) in
-        by y g (subst (λ (a : Agent). Holds (c .land) a q) (agent-given c y g) r)
+          let g = holds-given c y r in
+          by y g (subst (λ (a : Agent). Holds (c .land) a q) (agent-given c y g) r)
 
   -- ---- stage 2: down along links
 
@@ -163,7 +150,7 @@ module _ (c : State) (i : Sound c) where
   too-deep : (p : ℕ) → c .land .used p ≡ true → Deep 64 p → ⊥
   unfolding Deep
   too-deep p u d = d (sixty-three (parentIn (c .land)) (i .places .floor-parent) (λ q _. i .places .small _ (i .places .parent-used q))
-    (i .places .small p u) (i .places .tree p))
+      (i .places .small p u) (i .places .tree p))
 
   -- a place linked to p is locked
   lockedUnder : ℕ → ℕ → Bool
@@ -175,29 +162,34 @@ module _ (c : State) (i : Sound c) where
 
   down : (n k : ℕ) → k + n ≡ 64 → (x : ℕ) → c .given x ≡ true → c .agent x .stage ≡ 2 → Deep k (c .agent x .remembered) → Goes c
   unfolding lockedUnder
-  down zero k e x g s d = absurd (too-deep _ (ok-at 2 s (ok-given c i x g) .0 .known) (subst (λ (j : ℕ). Deep j (c .agent x .remembered)) (omega arith) d))
+  down zero k e x g s d = absurd (too-deep _ (ok-at 2 s (ok-given c i x g) .0 .known)
+      (subst (λ (j : ℕ). Deep j (c .agent x .remembered)) (omega arith) d))
   down (suc n) k e x g s d = go (told (anyBelow (lockedUnder p) 64)) (λ y h t. down n (suc k) (omega arith) y h t)
     where
       p : ℕ
       p = c .agent x .remembered
+
       clear : anyBelow (lockedUnder p) 64 ≡ false → (q : ℕ) → Under (c .land) q p → c .lock q ≡ none
       clear f q u = at (eq? (c .lock q) none)
         where
           at : (c .lock q ≡ none) ⊎ (c .lock q ≢ none) → c .lock q ≡ none
           at (inl e) = e
-          at (inr h) = clash (any-at (lockedUnder p) 64 q (i .places .small q (link-used (c .land) q (u .link))) (rw (under-of (c .land) q p u, ne-eqb (c .lock q) none h))) f
+          at (inr h) = clash (any-at (lockedUnder p) 64 q (i .places .small q (link-used (c .land) q (u .link)))
+              (rw (under-of (c .land) q p u, ne-eqb (c .lock q) none h))) f
+
       on : (q : ℕ) → Under (c .land) q p → Holder q → Deeper k → Goes c
       on q u (goes r) more = r
       on q u (at-two y h t f) more = more y h t (subst (Deep (suc k)) f (deeper k p q d u))
       on q u (at-five y h t f) more = clash (u .link) (ap (linked (c .land)) f ∙ ok-at 5 t (ok-given c i y h) .0 .loose)
+
       go : Told (anyBelow (lockedUnder p) 64) → Deeper k → Goes c
       go (nay f) more = free-to c i x g 2 s (omega arith) (clear f)
       go (yea f) more =
-        let t = any-found (lockedUnder p) 64 f in
-        let q = t .0 in
-        let u = under-fits (c .land) q p (and-left (linkedTo (c .land) q p) (not (eqb (c .lock q) none)) (t .1 .1)) in
-        let h = eqb-false (c .lock q) none (not-true _ (and-right (linkedTo (c .land) q p) (not (eqb (c .lock q) none)) (t .1 .1))) in
-        on q u (holder q (link-used (c .land) q (u .link)) h) more
+          let t = any-found (lockedUnder p) 64 f in
+          let q = t .0 in
+          let u = under-fits (c .land) q p (and-left (linkedTo (c .land) q p) (not (eqb (c .lock q) none)) (t .1 .1)) in
+          let h = eqb-false (c .lock q) none (not-true _ (and-right (linkedTo (c .land) q p) (not (eqb (c .lock q) none)) (t .1 .1))) in
+          on q u (holder q (link-used (c .land) q (u .link)) h) more
 
   second-stage : (x : ℕ) → c .given x ≡ true → c .agent x .stage ≡ 2 → Goes c
   unfolding Deep
@@ -215,10 +207,12 @@ module _ (c : State) (i : Sound c) where
     where
       d : ℕ
       d = parentIn (c .land) (c .agent x .home)
+
       on : Holder d → Higher (parentIn (c .land) q) → Goes c
       on (goes r) more = r
       on (at-two y h t f) more = second-stage y h t
       on (at-five y h t f) more = more y h (ap (parentIn (c .land)) e ∙ f) t
+
       go : (c .lock d ≡ none) ⊎ (c .lock d ≢ none) → Higher (parentIn (c .land) q) → Goes c
       go (inl f) more = free-to c i x g 5 s (omega arith) (λ r z. ap (c .lock) z ∙ f)
       go (inr n) more = on (holder d (i .places .parent-used _) n) more
@@ -230,13 +224,14 @@ module _ (c : State) (i : Sound c) where
 
   -- an agent goes, or the lock of q, which it needs, has a holder
   either : (x n q : ℕ) → c .given x ≡ true → c .agent x .stage ≡ n → n ≤ 6 → c .land .used q ≡ true
-    → ((r : ℕ) → Needs (c .land) (c .agent x) r n → r ≡ q) → Goes c
+      → ((r : ℕ) → Needs (c .land) (c .agent x) r n → r ≡ q) → Goes c
   either x n q g s l u only = go (eq? (c .lock q) none)
     where
       on : Holder q → Goes c
       on (goes r) = r
       on (at-two y h t f) = second-stage y h t
       on (at-five y h t f) = fifth-stage y h t
+
       go : (c .lock q ≡ none) ⊎ (c .lock q ≢ none) → Goes c
       go (inl e) = free-to c i x g n s l (λ r z. ap (c .lock) (only r z) ∙ e)
       go (inr h) = on (holder q u h)
@@ -249,10 +244,10 @@ module _ (c : State) (i : Sound c) where
       go (ok0 s k) = free-to c i x g 0 s (omega arith) (λ r z. absurd z)
       go (ok1 s r) = either x 1 (c .agent x .remembered) g s (omega arith) (r .known) (λ r z. z)
       go (ok2 s r h) = second-stage x g s
-      go (ok3-move s r k h₁ h₂ u v) = free-to c i x g 3 s (omega arith) (λ r z. absurd z)
-      go (ok3-open s r k h₁ h₂ u) = free-to c i x g 3 s (omega arith) (λ r z. absurd z)
+      go (ok3-move s r k h₁ h₂ u v) = third x g s
+      go (ok3-open s r k h₁ h₂ u) = third x g s
       go (ok4 s v) = either x 4 (c .agent x .home) g s (omega arith) (home-given c i x g) (λ r z. z)
       go (ok5 s v h) = fifth-stage x g s
-      go (ok6 s v h₁ h₂) = free-to c i x g 6 s (omega arith) (λ r z. absurd z)
+      go (ok6 s v h₁ h₂) = sixth x g s
       go (ok7 s k u) = absurd (omega arith)
       go (ok8 s e) = absurd (omega arith)

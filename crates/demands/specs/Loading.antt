@@ -10,20 +10,23 @@ use native.Mathlib.Omega.{arith}
 use lib.Dec.{ltb, eqb}
 use lib.ListN.{length, getD, set, length-set}
 use lib.Seq.{getD-set-same, getD-set-other}
-use borrow.Author.Tests.{eqb-true, ne-eqb, lt-ltb, leb-false}
+use borrow.Author.Tests.{eqb-true, eq-eqb, ne-eqb, lt-ltb, leb-false}
 use Rattle.sets.specs.Word.{has}
 use Rattle.table.specs.Base.{upd}
 use Rattle.table.specs.BaseLaws.{Told, yea, nay, told, clash, eq?, upd-same, upd-at, upd-other, upd-all}
 use Rattle.table.specs.Cell.{Land, State, noPlace, noAction, freshAgent, linked, cellOf, bareTable}
+use Rattle.table.specs.declared.Place.{Place}
 use Rattle.table.specs.declared.Action.{Action}
 use Rattle.table.specs.declared.Agent.{Agent}
 use Rattle.meaning.specs.declared.Record.{Record}
 use Rattle.meaning.specs.declared.Record.the-variants.{PlaceRecord, AgentRecord, ActionRecord, EndRecord, Faulty}
 use Rattle.meaning.specs.Update.{linkedPlace, withHome, withAgent, withGiven}
 use Rattle.meaning.specs.File.{recordAt, addPlace, addAgent, withAction, addAction, isFull, Load, accepted, refused, loadRecord, loadFrom, load}
-use Rattle.meaning.specs.FileLaws.{Fits, place, agent, action, end, faulty, record-fits, bare-bounded, bare-used, bare-given, bare-lock, bare-agent, bare-place}
+use Rattle.meaning.specs.FileLaws.{Fits, place, agent, action, end, faulty, record-fits, bare-bounded, bare-used, bare-given, bare-lock}
+use Rattle.meaning.specs.FileLaws.{bare-agent, bare-place}
 use Rattle.calculus.specs.Up.{Up, base, up, Off, off0, offs, move-up}
 use Rattle.demands.specs.Reading.{parentIn, nameIn}
+use Rattle.demands.specs.ReadingLaws.{readUsed, readParent, readName, readLinked, upd-self, written}
 use Rattle.demands.specs.Invariant.{Places, Fit}
 use Rattle.demands.specs.Actions.{kind-some, unused-none}
 use Rattle.demands.specs.SoundTestActions.{InRange, fit-at, fit-from, fit-empty}
@@ -33,20 +36,24 @@ use Rattle.demands.specs.Fresh.{looks, done, New, Fresh}
 
 or-upd : (g : ℕ → Bool) (n : ℕ) → (λ j. eqb j n || g j) ≡ upd g n true
 unfolding upd
-or-upd g n = fun-ext λ j. go j (told (eqb j n))
+or-upd g n = fun-ext λ j. go (eqb j n) (g j)
   where
-    go : (j : ℕ) → Told (eqb j n) → (eqb j n || g j) ≡ upd g n true j
-    go j (yea e) = rw (e, upd)
-    go j (nay e) = rw (e, upd)
+    go : (b d : Bool) → (b || d) ≡ cond b true d
+    go true d = refl
+    go false d = refl
 
 -- ---- the bare floor
 
 -- an agent without actions is new, wherever it lives
 new-agent : (home : ℕ) → New (withHome freshAgent home)
-new-agent home = record
-  { fit = fit-empty (withHome freshAgent home) refl refl
-  ; starts = done refl (unused-none (withHome freshAgent home) refl)
-  ; next = refl; row = refl; remembered = refl; chosen = refl }
+new-agent home = record {
+  fit = fit-empty (withHome freshAgent home) refl refl;
+  starts = done refl (unused-none (withHome freshAgent home) refl);
+  next = refl;
+  row = refl;
+  remembered = refl;
+  chosen = refl;
+}
 
 only-floor : (q : ℕ) → cellOf bareTable .land .used q ≡ true → q ≡ 0
 only-floor q e = eqb-true q 0 (sym (bare-used q) ∙ e)
@@ -59,60 +66,57 @@ bare-parent q = go (eq? q 0)
     go (inr n) = unfold parentIn in rw (bare-used q, ne-eqb q 0 n)
 
 bare-fresh : Fresh (cellOf bareTable)
-bare-fresh = record
-  { places = record
-    { floor-used = bare-used 0
-    ; floor-parent = bare-parent 0
-    ; floor-link = unfold linked in unfold cellOf in unfold bareTable in unfold has in refl
-    ; floor-name = unfold nameIn in unfold cellOf in unfold bareTable in unfold has in refl
-    ; tree = λ q. up q (rw (bare-parent q) base)
-    ; parent-used = λ q. ap (cellOf bareTable .land .used) (bare-parent q) ∙ bare-used 0
-    ; small = λ q e. let z = only-floor q e in omega arith
-    ; named = λ q e n. absurd (n (only-floor q e)) }
-  ; settled = λ q e n. absurd (n (only-floor q e))
-  ; free = bare-lock
-  ; homes = λ x g. clash g (bare-given x)
-  ; agents = λ x g. clash g (bare-given x)
-  ; no-agents = λ x l _. bare-agent x l
-  ; no-places = λ q e. bare-place q (λ z. clash (ap (cellOf bareTable .land .used) z ∙ bare-used 0) e)
-  ; bounds = bare-bounded }
+bare-fresh = record {
+  places = record {
+    floor-used = bare-used 0;
+    floor-parent = bare-parent 0;
+    floor-link = unfold linked in unfold cellOf in unfold bareTable in unfold has in refl;
+    floor-name = unfold nameIn in unfold cellOf in unfold bareTable in unfold has in refl;
+    tree = λ q. up q (rw (bare-parent q) base);
+    parent-used = λ q. ap (cellOf bareTable .land .used) (bare-parent q) ∙ bare-used 0;
+    small = λ q e. let z = only-floor q e in omega arith;
+    named = λ q e n. absurd (n (only-floor q e));
+  };
+  whole = λ q e n. absurd (n (only-floor q e));
+  free = bare-lock;
+  homes = λ x g. clash g (bare-given x);
+  agents = λ x g. clash g (bare-given x);
+  no-agents = λ x l _. bare-agent x l;
+  no-places = λ q e. bare-place q (λ z. clash (ap (cellOf bareTable .land .used) z ∙ bare-used 0) e);
+  bounds = bare-bounded;
+}
 
 -- ---- a place record
 
-module _ (c : State) (f : Fresh c) (n p m : ℕ) (n0 : n ≢ 0) (n64 : n < 64) (new : c .land .used n ≡ false) (old : c .land .used p ≡ true) (m1 : 1 ≤ m) where
+module _ (c : State) (f : Fresh c) (n p m : ℕ) (n0 : n ≢ 0) (n64 : n < 64) (new : c .land .used n ≡ false) (old : c .land .used p ≡ true)
+    (m1 : 1 ≤ m) where
   abbrev was : Land
   was = c .land
 
   abbrev grown : Land
   grown = addPlace c n p m .land
 
-  used-added : grown .used ≡ upd (was .used) n true
+  -- what is read of places: one value changed
+  added : {A : Type 0} (read : ℕ → Bool → Place → A)
+      → (λ q. read q (grown .used q) (grown .place q)) ≡ upd (λ q. read q (was .used q) (was .place q)) n (read n true (linkedPlace m p))
   unfolding addPlace
-  used-added = or-upd (was .used) n
+  added read = written read was _ n (linkedPlace m p) (λ q d. rw (ne-eqb q n d))
+      ∙ ap (λ (u : Bool). upd (λ q. read q (was .used q) (was .place q)) n (read n u (linkedPlace m p))) (rw (eq-eqb n n refl))
+
+  used-added : grown .used ≡ upd (was .used) n true
+  used-added = added readUsed
 
   parent-added : parentIn grown ≡ upd (parentIn was) n p
-  unfolding addPlace parentIn upd
-  parent-added = fun-ext λ q. go q (told (eqb q n))
-    where
-      go : (q : ℕ) → Told (eqb q n) → parentIn grown q ≡ upd (parentIn was) n p q
-      go q (yea e) = rw (e, upd)
-      go q (nay e) = rw (e, upd)
+  unfolding parentIn
+  parent-added = added readParent
 
   name-added : nameIn grown ≡ upd (nameIn was) n m
-  unfolding addPlace nameIn upd
-  name-added = fun-ext λ q. go q (told (eqb q n))
-    where
-      go : (q : ℕ) → Told (eqb q n) → nameIn grown q ≡ upd (nameIn was) n m q
-      go q (yea e) = rw (e, upd)
-      go q (nay e) = rw (e, upd)
+  unfolding nameIn
+  name-added = added readName
 
   linked-added : linked grown ≡ upd (linked was) n true
-  unfolding addPlace linked upd
-  linked-added = fun-ext λ q. go q (told (eqb q n))
-    where
-      go : (q : ℕ) → Told (eqb q n) → linked grown q ≡ upd (linked was) n true q
-      go q (yea e) = rw (e, upd)
-      go q (nay e) = rw (e, upd)
+  unfolding linked
+  linked-added = added readLinked
 
   -- a place given earlier is another one
   other : (q : ℕ) → was .used q ≡ true → q ≢ n
@@ -129,16 +133,17 @@ module _ (c : State) (f : Fresh c) (n p m : ℕ) (n0 : n ≢ 0) (n64 : n < 64) (
   way-off u (up q v) = offs q (other q u) (way-off (f .places .parent-used q) v)
 
   add-places : Places grown
-  add-places = record
-    { floor-used = still-used 0 (f .places .floor-used)
-    ; floor-parent = rw parent-added (upd-other (parentIn was) n 0 p (λ e. n0 (sym e)) ∙ f .places .floor-parent)
-    ; floor-link = rw linked-added (upd-other (linked was) n 0 true (λ e. n0 (sym e)) ∙ f .places .floor-link)
-    ; floor-name = rw name-added (upd-other (nameIn was) n 0 m (λ e. n0 (sym e)) ∙ f .places .floor-name)
-    ; tree = λ q. rw parent-added (move-up (parentIn was) (f .places .floor-parent) n p n0 (way-off old (f .places .tree p)) (f .places .tree q))
-    ; parent-used = λ q. rw parent-added
-        (upd-all (parentIn was) n p (λ _ v. grown .used v ≡ true) (still-used p old) (λ r _. still-used _ (f .places .parent-used r)) q)
-    ; small = λ q u. small q u (eq? q n)
-    ; named = λ q u z. rw name-added (named q u z (eq? q n)) }
+  add-places = record {
+    floor-used = still-used 0 (f .places .floor-used);
+    floor-parent = rw parent-added (upd-other (parentIn was) n 0 p (λ e. n0 (sym e)) ∙ f .places .floor-parent);
+    floor-link = rw linked-added (upd-other (linked was) n 0 true (λ e. n0 (sym e)) ∙ f .places .floor-link);
+    floor-name = rw name-added (upd-other (nameIn was) n 0 m (λ e. n0 (sym e)) ∙ f .places .floor-name);
+    tree = λ q. rw parent-added (move-up (parentIn was) (f .places .floor-parent) n p n0 (way-off old (f .places .tree p)) (f .places .tree q));
+    parent-used = λ q. rw parent-added
+        (upd-all (parentIn was) n p (λ _ v. grown .used v ≡ true) (still-used p old) (λ r _. still-used _ (f .places .parent-used r)) q);
+    small = λ q u. small q u (eq? q n);
+    named = λ q u z. rw name-added (named q u z (eq? q n));
+  }
     where
       small : (q : ℕ) → grown .used q ≡ true → (q ≡ n) ⊎ (q ≢ n) → q < 64
       small q u (inl e) = omega arith
@@ -149,50 +154,54 @@ module _ (c : State) (f : Fresh c) (n p m : ℕ) (n0 : n ≢ 0) (n64 : n < 64) (
       named q u z (inr d) = rw (upd-other (nameIn was) n q m d) (f .places .named q (used-before q d u) z)
 
   add-place : Fresh (addPlace c n p m)
-  add-place = record
-    { places = add-places
-    ; settled = λ q u z. rw linked-added (link q u z (eq? q n))
-    ; free = unfold addPlace in f .free
-    ; homes = unfold addPlace in λ x g. still-used _ (f .homes x g)
-    ; agents = unfold addPlace in f .agents
-    ; no-agents = unfold addPlace in f .no-agents
-    ; no-places = λ q e. empty q e (eq? q n)
-    ; bounds = record
-      { place = unfold addPlace in λ q l. upd-other (was .place) n q (linkedPlace m p) (λ z. absurd (omega arith)) ∙ f .bounds .place q l
-      ; used = λ q l. rw used-added (upd-other (was .used) n q true (λ z. absurd (omega arith)) ∙ f .bounds .used q l)
-      ; lock = unfold addPlace in f .bounds .lock
-      ; agent = unfold addPlace in f .bounds .agent
-      ; given = unfold addPlace in f .bounds .given } }
+  add-place = record {
+    places = add-places;
+    whole = λ q u z. rw linked-added (link q u z (eq? q n));
+    free = unfold addPlace in f .free;
+    homes = unfold addPlace in λ x g. still-used _ (f .homes x g);
+    agents = unfold addPlace in f .agents;
+    no-agents = unfold addPlace in f .no-agents;
+    no-places = λ q e. empty q e (eq? q n);
+    bounds = record {
+      place = unfold addPlace in λ q l. upd-other (was .place) n q (linkedPlace m p) (λ z. absurd (omega arith)) ∙ f .bounds .place q l;
+      used = λ q l. rw used-added (upd-other (was .used) n q true (λ z. absurd (omega arith)) ∙ f .bounds .used q l);
+      lock = unfold addPlace in f .bounds .lock;
+      agent = unfold addPlace in f .bounds .agent;
+      given = unfold addPlace in f .bounds .given;
+    };
+  }
     where
       link : (q : ℕ) → grown .used q ≡ true → q ≢ 0 → (q ≡ n) ⊎ (q ≢ n) → upd (linked was) n true q ≡ true
       link q u z (inl e) = upd-at (linked was) n q true e
-      link q u z (inr d) = upd-other (linked was) n q true d ∙ f .settled q (used-before q d u) z
+      link q u z (inr d) = upd-other (linked was) n q true d ∙ f .whole q (used-before q d u) z
 
       empty : (q : ℕ) → grown .used q ≡ false → (q ≡ n) ⊎ (q ≢ n) → grown .place q ≡ noPlace
       empty q e (inl z) = clash (rw used-added (upd-at (was .used) n q true z)) e
       empty q e (inr d) = unfold addPlace in upd-other (was .place) n q (linkedPlace m p) d
-        ∙ f .no-places q (sym (ap (λ (g : ℕ → Bool). g q) used-added ∙ upd-other (was .used) n q true d) ∙ e)
+          ∙ f .no-places q (sym (ap (λ (g : ℕ → Bool). g q) used-added ∙ upd-other (was .used) n q true d) ∙ e)
 
 -- ---- an agent or an action record
 
 -- agent n becomes a, which is new, and is given
 with-agent : (c : State) → Fresh c → (n : ℕ) (a : Agent) (given : ℕ → Bool) → n < 64 → given ≡ upd (c .given) n true
-  → c .land .used (a .home) ≡ true → New a → Fresh (withGiven (withAgent c n a) given)
-with-agent c f n a given l g home new = record
-  { places = f .places
-  ; settled = f .settled
-  ; free = f .free
-  ; homes = upd-all (c .agent) n a (λ x b. given x ≡ true → c .land .used (b .home) ≡ true) (λ _. home) (λ x d e. f .homes x (same x d ∙ e))
-  ; agents = upd-all (c .agent) n a (λ x b. given x ≡ true → New b) (λ _. new) (λ x d e. f .agents x (same x d ∙ e))
-  ; no-agents = upd-all (c .agent) n a (λ x b. x < 64 → given x ≡ false → b ≡ freshAgent)
-      (λ _ e. clash (ap (λ (h : ℕ → Bool). h n) g ∙ upd-same (c .given) n true) e) (λ x d k e. f .no-agents x k (same x d ∙ e))
-  ; no-places = f .no-places
-  ; bounds = record
-    { place = f .bounds .place
-    ; used = f .bounds .used
-    ; lock = f .bounds .lock
-    ; agent = λ x k. upd-other (c .agent) n x a (λ z. absurd (omega arith)) ∙ f .bounds .agent x k
-    ; given = λ x k. sym (same x (λ z. absurd (omega arith))) ∙ f .bounds .given x k } }
+    → c .land .used (a .home) ≡ true → New a → Fresh (withGiven (withAgent c n a) given)
+with-agent c f n a given l g home new = record {
+  places = f .places;
+  whole = f .whole;
+  free = f .free;
+  homes = upd-all (c .agent) n a (λ x b. given x ≡ true → c .land .used (b .home) ≡ true) (λ _. home) (λ x d e. f .homes x (same x d ∙ e));
+  agents = upd-all (c .agent) n a (λ x b. given x ≡ true → New b) (λ _. new) (λ x d e. f .agents x (same x d ∙ e));
+  no-agents = upd-all (c .agent) n a (λ x b. x < 64 → given x ≡ false → b ≡ freshAgent)
+      (λ _ e. clash (ap (λ (h : ℕ → Bool). h n) g ∙ upd-same (c .given) n true) e) (λ x d k e. f .no-agents x k (same x d ∙ e));
+  no-places = f .no-places;
+  bounds = record {
+    place = f .bounds .place;
+    used = f .bounds .used;
+    lock = f .bounds .lock;
+    agent = λ x k. upd-other (c .agent) n x a (λ z. absurd (omega arith)) ∙ f .bounds .agent x k;
+    given = λ x k. sym (same x (λ z. absurd (omega arith))) ∙ f .bounds .given x k;
+  };
+}
   where
     same : (x : ℕ) → x ≢ n → c .given x ≡ given x
     same x d = sym (ap (λ (h : ℕ → Bool). h x) g ∙ upd-other (c .given) n x true d)
@@ -200,44 +209,38 @@ with-agent c f n a given l g home new = record
 add-agent : (c : State) → Fresh c → (n home : ℕ) → n < 64 → c .given n ≡ false → c .land .used home ≡ true → Fresh (addAgent c n home)
 unfolding addAgent
 add-agent c f n home l new known =
-  with-agent c f n (withHome (c .agent n) home) (λ j. eqb j n || c .given j) l (or-upd (c .given) n) known
+    with-agent c f n (withHome (c .agent n) home) (λ j. eqb j n || c .given j) l (or-upd (c .given) n) known
     (rw (f .no-agents n l new) (new-agent home))
-
--- an agent that is given stays given
-given-still : (g : ℕ → Bool) (n : ℕ) → g n ≡ true → g ≡ upd g n true
-given-still g n e = fun-ext λ j. go j (eq? j n)
-  where
-    go : (j : ℕ) → (j ≡ n) ⊎ (j ≢ n) → g j ≡ upd g n true j
-    go j (inl z) = ap g z ∙ e ∙ sym (upd-at g n j true z)
-    go j (inr d) = sym (upd-other g n j true d)
 
 -- a row with an action more
 new-action : (a : Agent) (kind name : ℕ) → New a → a .count < 16 → 1 ≤ kind → kind ≤ 3 → 1 ≤ name → New (withAction a kind name)
 unfolding withAction
-new-action a kind name w room low high named = record
-  { fit = fits
-  ; starts = looks refl (kind-some (withAction a kind name) fits (lt-ltb (a .next) (a .count + 1) (omega (arith, w .next))))
-  ; next = w .next
-  ; row = length-set (a .actions) (a .count) x ∙ w .row
-  ; remembered = w .remembered
-  ; chosen = w .chosen }
+new-action a kind name w room low high named = record {
+  fit = fits;
+  starts = looks refl (kind-some (withAction a kind name) fits (lt-ltb (a .next) (a .count + 1) (omega (arith, w .next))));
+  next = w .next;
+  row = length-set (a .actions) (a .count) x ∙ w .row;
+  remembered = w .remembered;
+  chosen = w .chosen;
+}
   where
     x : Action
     x = record { kind = kind; name = name }
 
     at : (j : ℕ) → j < a .count + 1 → (j ≡ a .count) ⊎ (j ≢ a .count) → InRange (getD (set (a .actions) (a .count) x) j noAction)
     at j l (inl e) = rw (e, getD-set-same (a .actions) (a .count) x noAction (subst (λ (k : ℕ). a .count < k) (sym (w .row)) room))
-      (record { low = low; high = high; named = named })
+        (record { low = low; high = high; named = named })
     at j l (inr d) = rw (getD-set-other (a .actions) (a .count) j x noAction d) (fit-at a (w .fit) j (omega (arith, w .next)) (omega arith))
 
     fits : Fit (withAction a kind name)
     fits = fit-from (withAction a kind name) (omega (arith, w .next)) (omega arith) (λ j l m. at j m (eq? j (a .count)))
 
 add-action : (c : State) → Fresh c → (n kind name : ℕ) → n < 64 → c .given n ≡ true → isFull c n ≡ false → 1 ≤ kind → kind ≤ 3 → 1 ≤ name
-  → Fresh (addAction c n kind name)
+    → Fresh (addAction c n kind name)
 unfolding addAction
 add-action c f n kind name l known room low high named =
-  with-agent c f n (withAction (c .agent n) kind name) (c .given) l (given-still (c .given) n known) (unfold withAction in f .homes n known)
+    with-agent c f n (withAction (c .agent n) kind name) (c .given) l (sym (upd-self (c .given) n true (sym known)))
+    (unfold withAction in f .homes n known)
     (new-action (c .agent n) kind name (f .agents n known) (leb-false 16 (c .agent n .count) room) low high named)
 
 -- ---- the whole file
@@ -250,15 +253,16 @@ data Freshly : Load → Type 0 where
 load-from : (turns : ℕ) (c : State) (s : List ℕ) (at : ℕ) → Fresh c → Freshly (loadFrom turns c s at)
 unfolding loadFrom
 load-from zero c s at f = away
-load-from (suc turns) c s at f = go (told (ltb at (length s))) (record-fits (c .land .used) (c .given) (isFull c) s at) (λ d i g. load-from turns d s i g)
+load-from (suc turns) c s at f = go (told (ltb at (length s))) (record-fits (c .land .used) (c .given) (isFull c) s at)
+    (λ d i g. load-from turns d s i g)
   where
     rest : ((d : State) (i : ℕ) → Fresh d → Freshly (loadFrom turns d s i)) → (r : Record) → Fits (c .land .used) (c .given) (isFull c) r
-      → Freshly (loadRecord (λ d i. loadFrom turns d s i) c s at r)
+        → Freshly (loadRecord (λ d i. loadFrom turns d s i) c s at r)
     rest h (PlaceRecord n p m) (place one low under new known named) =
-      unfold loadRecord in h (addPlace c n p m) (at + 5) (add-place c f n p m (λ z. absurd (omega arith)) low new known named)
+        unfold loadRecord in h (addPlace c n p m) (at + 5) (add-place c f n p m (λ z. absurd (omega arith)) low new known named)
     rest h (AgentRecord n home) (agent low under new known) = unfold loadRecord in h (addAgent c n home) (at + 3) (add-agent c f n home low new known)
     rest h (ActionRecord n k m) (action low known room one three named) =
-      unfold loadRecord in h (addAction c n k m) (at + 5) (add-action c f n k m low known room one three named)
+        unfold loadRecord in h (addAction c n k m) (at + 5) (add-action c f n k m low known room one three named)
     rest h EndRecord end = unfold loadRecord in last (told (ltb (at + 1) (length s)))
       where
         last : Told (ltb (at + 1) (length s)) → Freshly (cond (ltb (at + 1) (length s)) (refused 9 (at + 1)) (accepted c))
@@ -267,7 +271,7 @@ load-from (suc turns) c s at f = go (told (ltb at (length s))) (record-fits (c .
     rest h (Faulty n) faulty = unfold loadRecord in away
 
     go : Told (ltb at (length s)) → Fits (c .land .used) (c .given) (isFull c) (recordAt (c .land .used) (c .given) (isFull c) s at)
-      → ((d : State) (i : ℕ) → Fresh d → Freshly (loadFrom turns d s i)) → Freshly (loadFrom (suc turns) c s at)
+        → ((d : State) (i : ℕ) → Fresh d → Freshly (loadFrom turns d s i)) → Freshly (loadFrom (suc turns) c s at)
     go (yea e) t h = rw e (rest h _ t)
     go (nay e) t h = rw e away
 

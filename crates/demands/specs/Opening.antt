@@ -14,16 +14,20 @@ use Rattle.meaning.specs.Update.{atStage, useUp, released}
 use Rattle.meaning.specs.Step.{awaited, fires, dissolve, dissolveLand, dissolveLock, dissolveAgent, restStage}
 use Rattle.demands.specs.Reading.{parentIn, agentIn}
 use Rattle.demands.specs.ReadingLaws.{agent-given, agent-dissolved}
-use Rattle.demands.specs.Invariant.{Under, Has, Fit, Ok, ok0, ok1, ok2, ok3-move, ok3-open, ok4, ok5, ok6, ok7, ok8, Kept, Travels, Mover, Sound, Sleeper}
+use Rattle.demands.specs.Invariant.{Under, Has, Fit, Ok, ok0, ok1, ok2, ok3-move, ok3-open, ok4, ok5, ok6, ok7, ok8, Kept, Travels}
+use Rattle.demands.specs.Invariant.{Mover, Sound, Sleeper, Reasons}
 use Rattle.demands.specs.Facts.{not-yes, Comes, awaited-yes, awaited-some, opens-fits, fires-target, target-chosen}
 use Rattle.demands.specs.Actions.{kind-of, has-some, unused-none, fit-stage, fit-used}
-use Rattle.demands.specs.Stages.{ok-at, rest-ok, rest-stage, fit-given}
+use Rattle.demands.specs.Stages.{ok-at, rest-ok, rest-stage, not-between, SameOrReset, same-between, fit-given}
+use Rattle.demands.specs.Within.{opened-within}
 use Rattle.demands.specs.Frame.{Recalls, found, sleeping, holding, ok-frame, Calm, sleeper-frame}
 use Rattle.demands.specs.Change.{Keeps}
-use Rattle.demands.specs.SoundTestGiven.{agent-fresh}
-use Rattle.demands.specs.OpeningAgents.{Dissolved, moves, moves-done, forgets, wakes, goes-on, sleeps-on, dissolved, travels-before, home-after, fit-same}
-use Rattle.demands.specs.OpeningPlaces.{linked-not-floor, used-same, used-before, linked-same, linked-before, name-same, parent-same, parent-up, parent-kept, places-dissolved, away-same}
-use Rattle.demands.specs.OpeningLocks.{Opener, opener, others, has-same, unmoved, away-kept, locks-kept}
+use Rattle.demands.specs.Given.{agent-fresh}
+use Rattle.demands.specs.OpeningAgents.{Dissolved, moves, moves-done, forgets, wakes, goes-on, sleeps-on, dissolved, dissolved-reset}
+use Rattle.demands.specs.OpeningAgents.{home-after, fit-same}
+use Rattle.demands.specs.OpeningPlaces.{linked-not-floor, used-same, used-before, linked-same, linked-before, name-same, parent-same}
+use Rattle.demands.specs.OpeningPlaces.{parent-up, parent-kept, places-dissolved, away-same}
+use Rattle.demands.specs.OpeningLocks.{Opener, opener, others, has-same, elsewhere-same, away-kept, locks-kept}
 
 -- an agent of a linked place that is not done has an action left
 linked-some : {l : Land} {lock : ℕ → ℕ} {x : ℕ} {a : Agent} → linked l (a .home) ≡ true → a .stage ≢ 8 → Ok l lock x a → 1 ≤ kindOf a
@@ -39,7 +43,7 @@ linked-some u n (ok7 s k e) = k
 linked-some u n (ok8 s e) = absurd (n s)
 
 module _ (c : State) (i : Sound c) (x : ℕ) (g : c .given x ≡ true) (s : c .agent x .stage ≡ 3) (k : kindOf (c .agent x) ≡ 3)
-  (p t : ℕ) (o : Opener c x p t) (w : awaited (c .land) t ≡ false) where
+    (p t : ℕ) (o : Opener c x p t) (w : awaited (c .land) t ≡ false) where
   abbrev before : Land
   before = c .land
 
@@ -69,19 +73,22 @@ module _ (c : State) (i : Sound c) (x : ℕ) (g : c .given x ≡ true) (s : c .a
   -- what is linked to a place that it holds stays so
   under-kept : {y : ℕ} → y ≢ x → (q r : ℕ) → Has (c .lock) r y → Under before q r → Under after q r
   under-kept n q r h u =
-    let d = others i o n h in
-    let m : q ≢ t = λ e. d .0 (sym (u .parent) ∙ ap (parentIn (c .land)) e ∙ o .under .parent) in
-    record { link = linked-same (i .places) (o .under) q m ∙ u .link
-           ; parent = parent-same (i .places) (o .under) q m (λ e. d .1 (sym (u .parent) ∙ e)) ∙ u .parent }
+      let d = others i o n h in
+      let m : q ≢ t = λ e. d .0 (sym (u .parent) ∙ ap (parentIn (c .land)) e ∙ o .under .parent) in
+      record {
+        link = linked-same (i .places) (o .under) q m ∙ u .link;
+        parent = parent-same (i .places) (o .under) q m (λ e. d .1 (sym (u .parent) ∙ e)) ∙ u .parent;
+      }
 
   -- one that lives elsewhere and is as it was keeps what its stage says
-  ok-kept : {y : ℕ} → y ≢ x → agentIn c y .home ≢ t → (Recalls (c .lock) y (agentIn c y) → agentIn c y .remembered ≢ t) → Ok after locks y (agentIn c y)
+  ok-kept : {y : ℕ} → y ≢ x → agentIn c y .home ≢ t → (Recalls (c .lock) y (agentIn c y) → agentIn c y .remembered ≢ t)
+      → Ok after locks y (agentIn c y)
   ok-kept {y} n h m = go (told (c .given y))
     where
       go : Told (c .given y) → Ok after locks y (agentIn c y)
-      go (yea e) = ok-frame (λ r u. used-same (i .places) (o .under) _ (m r) ∙ u)
-        (λ q. has-same i o n (λ z. h (ap (λ (a : Agent). a .home) (agent-given c y e) ∙ z))) (under-kept n)
-        (λ v _. away-kept i o w agents others-are y v) (i .ok y)
+      go (yea e) = ok-frame (i .homes y) (i .places .parent-used _) (λ r u. used-same (i .places) (o .under) _ (m r) ∙ u)
+          (λ q _. has-same i o n (λ z. h (ap (λ (a : Agent). a .home) (agent-given c y e) ∙ z))) (under-kept n)
+          (λ v _. away-kept i o w agents others-are y v) (i .ok y)
       go (nay e) = subst (Ok after locks y) (sym (agent-fresh c y e)) (ok8 refl (unused-none freshAgent refl))
 
   ok-other : {y : ℕ} → y ≢ x → {a : Agent} → Dissolved p t (agentIn c y) a → Ok after locks y a
@@ -111,30 +118,28 @@ module _ (c : State) (i : Sound c) (x : ℕ) (g : c .given x ≡ true) (s : c .a
   fit-opener : Fit (useUp (c .agent x))
   fit-opener = fit-used (c .agent x) (fit-given c i x g) (has-some (c .agent x) (omega arith))
 
-  rested-up : (n : ℕ) → 1 ≤ n → n ≤ 7 → restStage (useUp (c .agent x)) ≢ n
-  rested-up n lo hi e = go (rest-stage (useUp (c .agent x)))
-    where
-      go : (restStage (useUp (c .agent x)) ≡ 0) ⊎ (restStage (useUp (c .agent x)) ≡ 8) → ⊥
-      go (inl z) = omega arith
-      go (inr z) = omega arith
+  rested-up : 1 ≤ restStage (useUp (c .agent x)) → restStage (useUp (c .agent x)) ≤ 7 → ⊥
+  rested-up = not-between (rest-stage (useUp (c .agent x)))
 
   -- ---- who is on its way
 
   -- an agent on its way was so before
   went : (y : ℕ) → Travels (agents y) → agents y ≡ agentIn c y
   went = upd-all (λ y. dissolveAgent p t (agentIn c y)) x rested (λ y a. Travels a → a ≡ agentIn c y)
-    (λ v. absurd (rested-up _ (omega (arith, v .from)) (omega (arith, v .to)) refl)) (λ y n. travels-before (dissolved p t (agentIn c y)))
+      (λ v. absurd (rested-up (omega (arith, v .from)) (omega (arith, v .to))))
+      (λ y n v. same-between (dissolved-reset (dissolved p t (agentIn c y))) (omega (arith, v .from)) (omega (arith, v .to)))
 
   mover-kept : (q : ℕ) → after .used q ≡ true → q ≢ 0 → linked after q ≡ false → Mover agents q
   mover-kept q u z e =
-    let n = used-before (i .places) (o .under) q u in
-    let m = i .mover q (sym (used-same (i .places) (o .under) q n) ∙ u) z (sym (linked-same (i .places) (o .under) q n) ∙ e) in
-    let v = m .goes in
-    let r = unmoved i o w agents others-are (other v) (λ h. n (sym (m .lives) ∙ h)) (omega arith) (omega arith) in
-    record { who = m .who; lives = ap (λ (a : Agent). a .home) r ∙ m .lives; goes = subst Travels (sym r) v }
+      let n = used-before (i .places) (o .under) q u in
+      let m = i .mover q (sym (used-same (i .places) (o .under) q n) ∙ u) z (sym (linked-same (i .places) (o .under) q n) ∙ e) in
+      let v = m .goes in
+      let r = elsewhere-same i o w agents others-are (other v) (λ h. n (sym (m .lives) ∙ h)) (omega arith) (omega arith) in
+      record { who = m .who; lives = ap (λ (a : Agent). a .home) r ∙ m .lives; goes = subst Travels (sym r) v }
     where
       other : {y : ℕ} → Travels (agentIn c y) → y ≢ x
-      other v e = let z : agentIn c _ .stage ≡ 3 = ap (λ y. agentIn c y .stage) e ∙ ap (λ (a : Agent). a .stage) (agent-given c x g) ∙ s in omega (arith, v .from)
+      other v e = let z : agentIn c _ .stage ≡ 3 = ap (λ y. agentIn c y .stage) e ∙ ap (λ (a : Agent). a .stage) (agent-given c x g) ∙ s in
+          omega (arith, v .from)
 
   -- ---- the cell
 
@@ -144,34 +149,37 @@ module _ (c : State) (i : Sound c) (x : ℕ) (g : c .given x ≡ true) (s : c .a
 
   sound-opened : Sound (dissolve c x (c .agent x) p t .cell)
   unfolding dissolve
-  sound-opened = record
-    { places = places-dissolved (i .places) (o .under)
-    ; homes = read (λ f. (y : ℕ) → after .used (f y .home) ≡ true) (upd-all _ x rested (λ _ a. after .used (a .home) ≡ true)
-        (ap (after .used) (o .home) ∙ parent-kept (i .places) (o .under)) (λ y _. home-other y (dissolved p t (agentIn c y))))
-    ; fit = read (λ f. (y : ℕ) → Fit (f y)) (upd-all _ x rested (λ _ a. Fit a)
-        (fit-stage _ _ _ _ fit-opener) (λ y _. fit-same (dissolved p t (agentIn c y)) (i .fit y)))
-    ; few = i .few
-    ; ok = read (λ f. (y : ℕ) → Ok after locks y (f y)) (upd-all _ x rested (λ y a. Ok after locks y a)
-        (rest-ok (useUp (c .agent x)) fit-opener) (λ y n. ok-other n (dissolved p t (agentIn c y))))
-    ; locks = read (λ f. (q : ℕ) → after .used q ≡ true → Kept after locks f q) (locks-kept i o w agents others-are)
-    ; mover = read (λ f. (q : ℕ) → after .used q ≡ true → q ≢ 0 → linked after q ≡ false → Mover f q) mover-kept
-    ; single = read (λ f. (y z : ℕ) → Travels (f y) → Travels (f z) → f y .home ≡ f z .home → y ≡ z)
+  sound-opened = record {
+    places = places-dissolved (i .places) (o .under);
+    homes = read (λ f. (y : ℕ) → after .used (f y .home) ≡ true) (upd-all _ x rested (λ _ a. after .used (a .home) ≡ true)
+        (ap (after .used) (o .home) ∙ parent-kept (i .places) (o .under)) (λ y _. home-other y (dissolved p t (agentIn c y))));
+    fit = read (λ f. (y : ℕ) → Fit (f y)) (upd-all _ x rested (λ _ a. Fit a)
+        (fit-stage _ _ _ _ fit-opener) (λ y _. fit-same (dissolved p t (agentIn c y)) (i .fit y)));
+    few = i .few;
+    ok = read (λ f. (y : ℕ) → Ok after locks y (f y)) (upd-all _ x rested (λ y a. Ok after locks y a)
+        (rest-ok (useUp (c .agent x)) fit-opener) (λ y n. ok-other n (dissolved p t (agentIn c y))));
+    locks = read (λ f. (q : ℕ) → after .used q ≡ true → Kept after locks f q) (locks-kept i o w agents others-are);
+    mover = read (λ f. (q : ℕ) → after .used q ≡ true → q ≢ 0 → linked after q ≡ false → Mover f q) mover-kept;
+    single = read (λ f. (y z : ℕ) → Travels (f y) → Travels (f z) → f y .home ≡ f z .home → y ≡ z)
         (λ y z v u e. i .single y z (subst Travels (went y v) v) (subst Travels (went z u) u)
-          (ap (λ (a : Agent). a .home) (sym (went y v)) ∙ e ∙ ap (λ (a : Agent). a .home) (went z u)))
-    }
+        (ap (λ (a : Agent). a .home) (sym (went y v)) ∙ e ∙ ap (λ (a : Agent). a .home) (went z u)));
+  }
 
   -- ---- sleepers
 
   -- what a sleeper that is neither in t nor on p or t looks at does not change
   calm : (a : Agent) → a .home ≢ t → a .remembered ≢ p → a .remembered ≢ t → Calm before after a
-  calm a h mp mt = record
-    { loose = λ e _. linked-same (i .places) (o .under) _ h ∙ e
-    ; keeps = λ u. record { link = linked-same (i .places) (o .under) _ h ∙ u .link; parent = parent-same (i .places) (o .under) _ h (λ e. mt (sym (u .parent) ∙ e)) ∙ u .parent }
-    ; child = child
-    ; names = λ q e. name-same (i .places) (o .under) q (linked-before (i .places) (o .under) q e)
-    ; up = λ e. sym (linked-same (i .places) (o .under) _ mt) ∙ e
-    ; awaits = λ q u e. not-yes _ (λ b. clash (awaits q u (awaited-some before q b)) e)
-    }
+  calm a h mp mt = record {
+    loose = λ e _. linked-same (i .places) (o .under) _ h ∙ e;
+    keeps = λ u. record {
+      link = linked-same (i .places) (o .under) _ h ∙ u .link;
+      parent = parent-same (i .places) (o .under) _ h (λ e. mt (sym (u .parent) ∙ e)) ∙ u .parent;
+    };
+    child = child;
+    names = λ q e. name-same (i .places) (o .under) q (linked-before (i .places) (o .under) q e);
+    up = λ e. sym (linked-same (i .places) (o .under) _ mt) ∙ e;
+    awaits = λ q u e. not-yes _ (λ b. clash (awaits q u (awaited-some before q b)) e);
+  }
     where
       child : (q : ℕ) → Under after q (a .remembered) → Under before q (a .remembered)
       child q u = record { link = sym (linked-same (i .places) (o .under) q n) ∙ u .link; parent = go (eq? (parentIn (c .land) q) t) }
@@ -185,23 +193,30 @@ module _ (c : State) (i : Sound c) (x : ℕ) (g : c .given x ≡ true) (s : c .a
 
       awaits : (q : ℕ) → Under after q (a .remembered) → (r : ℕ) × Comes before q r → awaited after q ≡ true
       awaits q u (r, m) =
-        let e = away-same (i .places) (o .under) w r (m .used) (m .placed) (m .loose) in
-        let n : r ≢ t = λ z. clash (ap (linked (c .land)) z ∙ o .under .link) (m .loose) in
-        awaited-yes after q r (i .places .small r (m .used)) (record { used = used-same (i .places) (o .under) r n ∙ m .used; placed = m .placed; loose = e .0; parent = e .1 ∙ m .parent })
+          let e = away-same (i .places) (o .under) w r (m .used) (m .placed) (m .loose) in
+          let n : r ≢ t = λ z. clash (ap (linked (c .land)) z ∙ o .under .link) (m .loose) in
+          awaited-yes after q r (i .places .small r (m .used))
+          (record { used = used-same (i .places) (o .under) r n ∙ m .used; placed = m .placed; loose = e .0; parent = e .1 ∙ m .parent })
 
   -- a sleeper after was one before, and keeps its reason
-  sleeper-kept : ((y : ℕ) → agentIn c y .stage ≡ 7 → Sleeper before (agentIn c y)) → (y : ℕ) {a : Agent} → Dissolved p t (agentIn c y) a → a .stage ≡ 7 → Sleeper after a
+  sleeper-kept : Reasons c → (y : ℕ) {a : Agent} → Dissolved p t (agentIn c y) a → a .stage ≡ 7 → Sleeper after a
   sleeper-kept z y (moves h s) e = absurd (omega arith)
   sleeper-kept z y (moves-done h s) e = absurd (omega arith)
   sleeper-kept z y (forgets h s m) e = absurd (omega arith)
   sleeper-kept z y (wakes h s m) e = absurd (omega arith)
   sleeper-kept z y (goes-on h s m) e = absurd (s e)
-  sleeper-kept z y (sleeps-on h s m₁ m₂) e = sleeper-frame before after (agentIn c y) (kind-of _ (i .fit y) (ok-at 7 s (i .ok y) .0)) (calm (agentIn c y) h m₁ m₂) (z y s)
+  sleeper-kept z y (sleeps-on h s m₁ m₂) e = sleeper-frame before after (agentIn c y) (kind-of _ (i .fit y) (ok-at 7 s (i .ok y) .0))
+      (calm (agentIn c y) h m₁ m₂) (z y s)
 
-  sleep-opened : ((y : ℕ) → agentIn c y .stage ≡ 7 → Sleeper before (agentIn c y))
-    → (y : ℕ) → agentIn (dissolve c x (c .agent x) p t .cell) y .stage ≡ 7 → Sleeper after (agentIn (dissolve c x (c .agent x) p t .cell) y)
+  sleep-opened : Reasons c → Reasons (dissolve c x (c .agent x) p t .cell)
+  unfolding dissolve
   sleep-opened z = read (λ f. (y : ℕ) → f y .stage ≡ 7 → Sleeper after (f y)) (upd-all _ x rested (λ _ a. a .stage ≡ 7 → Sleeper after a)
-    (λ e. absurd (rested-up 7 (omega arith) (omega arith) e)) (λ y _. sleeper-kept z y (dissolved p t (agentIn c y))))
+      (λ e. absurd (rested-up (omega arith) (omega arith))) (λ y _. sleeper-kept z y (dissolved p t (agentIn c y))))
+
+  -- other agents are as they were, or at stage 0 or 8
+  others-opened : (y : ℕ) → y ≢ x → SameOrReset (agentIn c y) (agentIn (dissolve c x (c .agent x) p t .cell) y)
+  others-opened y n = read (λ f. SameOrReset (agentIn c y) (f y))
+      (subst (SameOrReset (agentIn c y)) (sym (others-are y n)) (dissolved-reset (dissolved p t (agentIn c y))))
 
 -- ---- the way "opens"
 
@@ -210,10 +225,17 @@ fires-awaited : (l : Land) (a : Agent) → kindOf a ≡ 3 → fires l a ≡ true
 fires-awaited l a k f = ap (awaited l) (sym (target-chosen a (λ e. omega arith))) ∙ opens-fits l _ _ _ _ _ k (sym (fires-target l a) ∙ f) .1
 
 -- opening keeps a cell sound, and every sleeper its reason to sleep
-pub open-keeps : (c : State) → Sound c → (x : ℕ) → c .given x ≡ true → c .agent x .stage ≡ 3 → kindOf (c .agent x) ≡ 3 → fires (c .land) (c .agent x) ≡ true
-  → Keeps c (dissolve c x (c .agent x) (c .agent x .remembered) (c .agent x .chosen) .cell)
+pub open-keeps : (c : State) → Sound c → (x : ℕ) → c .given x ≡ true → c .agent x .stage ≡ 3 → kindOf (c .agent x) ≡ 3
+    → fires (c .land) (c .agent x) ≡ true
+    → Keeps c x (dissolve c x (c .agent x) (c .agent x .remembered) (c .agent x .chosen) .cell)
 unfolding dissolve
 open-keeps c i x g s k f =
-  let o = opener c i x g s k in
-  let w = fires-awaited (c .land) (c .agent x) k f in
-  record { sound = sound-opened c i x g s k _ _ o w; sleep = sleep-opened c i x g s k _ _ o w }
+    let o = opener c i x g s k in
+    let w = fires-awaited (c .land) (c .agent x) k f in
+    record {
+      sound = sound-opened c i x g s k _ _ o w;
+      sleep = sleep-opened c i x g s k _ _ o w;
+      given = λ y. refl;
+      within = λ b. opened-within c i x g b _ _ (o .under .link);
+      others = others-opened c i x g s k _ _ o w;
+    }

@@ -4,7 +4,6 @@ use mathlib.Core.Path.{_≡_, refl}
 use mathlib.Core.Logic.{_≢_, _⊎_, inl, inr}
 use Prim.Native.Nat.{ℕ}
 use mathlib.Core.Bool.{_&&_, cond}
-use native.Mathlib.Omega.{arith}
 use lib.Dec.{eqb}
 use borrow.Author.Tests.{eqb-true, eqb-false, eq-eqb}
 use Rattle.table.specs.BaseLaws.{Told, yea, nay, told, clash, and-left, and-right}
@@ -12,7 +11,8 @@ use Rattle.table.specs.Cell.{unused}
 use Rattle.table.specs.declared.Agent.{Agent}
 use Rattle.meaning.specs.Update.{atStage, withHome}
 use Rattle.meaning.specs.Step.{asleepOn, dissolveAgent}
-use Rattle.demands.specs.Invariant.{Fit, Travels}
+use Rattle.demands.specs.Invariant.{Fit}
+use Rattle.demands.specs.Stages.{SameOrReset}
 use Rattle.demands.specs.Actions.{fit-stage}
 
 -- agent a before, and the agent it becomes
@@ -38,17 +38,18 @@ dissolved p t a = go (told (eqb (a .home) t))
     in-it h (nay e) = rw e (moves h (eqb-false _ _ e))
 
     asleep : a .home ≢ t → (a .stage ≡ 1 → a .remembered ≢ t) → Told (eqb (a .stage) 7) → Told (eqb (a .remembered) p) → Told (eqb (a .remembered) t)
-      → Dissolved p t a (cond (asleepOn p t t a) (atStage a 0 0 0) a)
+        → Dissolved p t a (cond (asleepOn p t t a) (atStage a 0 0 0) a)
     asleep h m (yea e) (yea f) _ = rw (e, f) (wakes h (eqb-true _ _ e) (inl (eqb-true _ _ f)))
     asleep h m (yea e) (nay f) (yea k) = rw (e, f, k) (wakes h (eqb-true _ _ e) (inr (eqb-true _ _ k)))
     asleep h m (yea e) (nay f) (nay k) = rw (e, f, k) (sleeps-on h (eqb-true _ _ e) (eqb-false _ _ f) (eqb-false _ _ k))
     asleep h m (nay e) _ _ = rw e (goes-on h (eqb-false _ _ e) m)
 
     out : a .home ≢ t → Told (eqb (a .stage) 1 && eqb (a .remembered) t)
-      → Dissolved p t a (cond (eqb (a .stage) 1 && eqb (a .remembered) t) (atStage a 0 0 0) (cond (asleepOn p t t a) (atStage a 0 0 0) a))
-    out h (yea e) = rw e (forgets h (eqb-true _ _ (and-left (eqb (a .stage) 1) (eqb (a .remembered) t) e)) (eqb-true _ _ (and-right (eqb (a .stage) 1) (eqb (a .remembered) t) e)))
+        → Dissolved p t a (cond (eqb (a .stage) 1 && eqb (a .remembered) t) (atStage a 0 0 0) (cond (asleepOn p t t a) (atStage a 0 0 0) a))
+    out h (yea e) = rw e (forgets h (eqb-true _ _ (and-left (eqb (a .stage) 1) (eqb (a .remembered) t) e))
+        (eqb-true _ _ (and-right (eqb (a .stage) 1) (eqb (a .remembered) t) e)))
     out h (nay e) = rw e (asleep h (λ s m. clash (rw (eq-eqb (a .stage) 1 s, eq-eqb (a .remembered) t m)) e)
-      (told (eqb (a .stage) 7)) (told (eqb (a .remembered) p)) (told (eqb (a .remembered) t)))
+        (told (eqb (a .stage) 7)) (told (eqb (a .remembered) p)) (told (eqb (a .remembered) t)))
 
     go : Told (eqb (a .home) t) → Dissolved p t a (dissolveAgent p t a)
     go (yea e) = rw e (in-it (eqb-true _ _ e) (told (eqb (a .stage) 8)))
@@ -64,14 +65,14 @@ module _ {p t : ℕ} {a : Agent} where
   not-dissolved (goes-on h s m) n e f = refl
   not-dissolved (sleeps-on h s m k) n e f = refl
 
-  -- an agent on its way was so before
-  pub travels-before : {b : Agent} → Dissolved p t a b → Travels b → b ≡ a
-  travels-before (moves h s) v = absurd (omega arith)
-  travels-before (moves-done h s) v = absurd (omega arith)
-  travels-before (forgets h s m) v = absurd (omega arith)
-  travels-before (wakes h s m) v = absurd (omega arith)
-  travels-before (goes-on h s m) v = refl
-  travels-before (sleeps-on h s m k) v = refl
+  -- it is as it was, or at stage 0 or 8
+  pub dissolved-reset : {b : Agent} → Dissolved p t a b → SameOrReset a b
+  dissolved-reset (moves h s) = inr (inl refl)
+  dissolved-reset (moves-done h s) = inr (inr refl)
+  dissolved-reset (forgets h s m) = inr (inl refl)
+  dissolved-reset (wakes h s m) = inr (inl refl)
+  dissolved-reset (goes-on h s m) = inl refl
+  dissolved-reset (sleeps-on h s m k) = inl refl
 
   -- it lives where it lived, or in p where that was t
   pub home-after : {b : Agent} → Dissolved p t a b → ((a .home ≡ t) × (b .home ≡ p)) ⊎ ((a .home ≢ t) × (b .home ≡ a .home))

@@ -9,18 +9,18 @@ use native.Mathlib.Omega.{arith}
 use lib.Dec.{ltb, eqb}
 use borrow.Author.Tests.{eq-eqb, ne-eqb, lt-ltb}
 use Rattle.table.specs.BaseLaws.{Told, yea, nay, told, clash, eq?, upd-at, upd-other}
-use Rattle.table.specs.Cell.{Land, State, none, linked, kindOf}
+use Rattle.table.specs.Cell.{State, none, linked, kindOf}
 use Rattle.table.specs.declared.Agent.{Agent}
 use Rattle.meaning.specs.Update.{released}
 use Rattle.meaning.specs.Step.{awaited, dissolveLand, dissolveLock, dissolveAgent}
 use Rattle.demands.specs.Reading.{parentIn, agentIn}
 use Rattle.demands.specs.ReadingLaws.{agent-given}
-use Rattle.demands.specs.Invariant.{Under, Has, Ok, ok0, ok1, ok2, ok3-move, ok3-open, ok4, ok5, ok6, ok7, ok8, Holds, near, far, own, destination, Kept, free, kept, Travels, Sound}
-use Rattle.demands.specs.SoundTestGiven.{stage-given}
+use Rattle.demands.specs.Invariant.{Under, Has, Ok, ok0, ok1, ok2, ok3-move, ok3-open, ok4, ok5, ok6, ok7, ok8, Holds, near, far}
+use Rattle.demands.specs.Invariant.{own, destination, Kept, free, kept, Travels, Sound}
 use Rattle.demands.specs.OpeningAgents.{dissolved, not-dissolved}
 use Rattle.demands.specs.OpeningPlaces.{used-same, used-before, away-same}
 use Rattle.demands.specs.Facts.{second-open}
-use Rattle.demands.specs.Stages.{BothMove, BothOpen, OkAt, ok-at, travels-away, holds-three, ok-given}
+use Rattle.demands.specs.Stages.{ok-at, travels-away, holds-between, holds-three, holds-given, ok-given, both-open}
 
 -- an opener at stage 3: it holds its home p and the place t, linked to p, that it opens, and no other
 pub record Opener (c : State) (x p t : ℕ) : Type 0 where
@@ -30,39 +30,22 @@ pub record Opener (c : State) (x p t : ℕ) : Type 0 where
   pub under : Under (c .land) t p
   pub both : (q : ℕ) → Holds (c .land) (agentIn c x) q → (q ≡ p) ⊎ (q ≡ t)
 
-module _ {l : Land} {a : Agent} {q : ℕ} where
-  -- an agent that holds a lock is at stages 2 to 6
-  holder-from : Holds l a q → 2 ≤ a .stage
-  holder-from (near e _ _) = e
-  holder-from (far e _) = omega arith
-  holder-from (own e _ _) = omega arith
-  holder-from (destination e _) = omega arith
-
-  holder-to : Holds l a q → a .stage ≤ 6
-  holder-to (near _ e _) = omega arith
-  holder-to (far e _) = omega arith
-  holder-to (own _ e _) = e
-  holder-to (destination e _) = omega arith
-
--- a holder of a lock is given
-holder-given : (c : State) (y : ℕ) {q : ℕ} → Holds (c .land) (agentIn c y) q → c .given y ≡ true
-holder-given c y h = stage-given c y (λ e. omega (arith, holder-to h))
-
 -- an agent at stage 3 of open is one
 pub opener : (c : State) → Sound c → (x : ℕ) → c .given x ≡ true → c .agent x .stage ≡ 3 → kindOf (c .agent x) ≡ 3
-  → Opener c x (c .agent x .remembered) (c .agent x .chosen)
-opener c i x g s k = go (r .2)
+    → Opener c x (c .agent x .remembered) (c .agent x .chosen)
+opener c i x g s k =
+    let r = ok-at 3 s (ok-given c i x g) in
+    let m = both-open c i x g s k in
+    record {
+      home = sym (r .0 .opener k);
+      first = r .1;
+      second = m .own;
+      under = m .under;
+      both = λ q h. both q (subst (λ (a : Agent). Holds (c .land) a q) (agent-given c x g) h);
+    }
   where
-    r : OkAt 3 (c .land) (c .lock) x (c .agent x)
-    r = ok-at 3 s (ok-given c i x g)
-
     both : (q : ℕ) → Holds (c .land) (c .agent x) q → (q ≡ c .agent x .remembered) ⊎ (q ≡ c .agent x .chosen)
     both q h = subst (λ (t : ℕ). (q ≡ c .agent x .remembered) ⊎ (q ≡ t)) (second-open _ _ _ k) (holds-three s h)
-
-    go : BothMove (c .land) (c .lock) x (c .agent x) ⊎ BothOpen (c .land) (c .lock) x (c .agent x) → Opener c x (c .agent x .remembered) (c .agent x .chosen)
-    go (inl m) = absurd (omega (arith, m .kind))
-    go (inr m) = record { home = sym (r .0 .opener k); first = r .1; second = m .own; under = m .under
-      ; both = λ q h. both q (subst (λ (a : Agent). Holds (c .land) a q) (agent-given c x g) h) }
 
 module _ {c : State} (i : Sound c) {x p t : ℕ} (o : Opener c x p t) where
   -- what another agent holds is neither p nor t
@@ -71,16 +54,16 @@ module _ {c : State} (i : Sound c) {x p t : ℕ} (o : Opener c x p t) where
 
   -- an agent of t that holds a lock is at stage 2
   held-at-two : {y q : ℕ} → y ≢ x → {a : Agent} → a .home ≡ t → Ok (c .land) (c .lock) y a → Holds (c .land) a q → a .stage ≡ 2
-  held-at-two n e (ok0 s _) h = absurd (omega (arith, holder-from h))
-  held-at-two n e (ok1 s _) h = absurd (omega (arith, holder-from h))
+  held-at-two n e (ok0 s _) h = absurd (omega (arith, holds-between h .0))
+  held-at-two n e (ok1 s _) h = absurd (omega (arith, holds-between h .0))
   held-at-two n e (ok2 s _ _) h = s
   held-at-two n e (ok3-move _ _ _ _ h₂ _ _) h = absurd (others n h₂ .1 e)
   held-at-two n e (ok3-open _ r k h₁ _ _) h = absurd (others n h₁ .1 (r .opener k ∙ e))
   held-at-two n e (ok4 _ v) h = clash (ap (linked (c .land)) e ∙ o .under .link) (v .loose)
   held-at-two n e (ok5 _ v _) h = clash (ap (linked (c .land)) e ∙ o .under .link) (v .loose)
   held-at-two n e (ok6 _ v _ _) h = clash (ap (linked (c .land)) e ∙ o .under .link) (v .loose)
-  held-at-two n e (ok7 s _ _) h = absurd (omega (arith, holder-to h))
-  held-at-two n e (ok8 s _) h = absurd (omega (arith, holder-to h))
+  held-at-two n e (ok7 s _ _) h = absurd (omega (arith, holds-between h .1))
+  held-at-two n e (ok8 s _) h = absurd (omega (arith, holds-between h .1))
 
   -- the locks after
   abbrev locks : ℕ → ℕ
@@ -93,19 +76,20 @@ module _ {c : State} (i : Sound c) {x p t : ℕ} (o : Opener c x p t) where
   pub has-same : {y q : ℕ} → y ≢ x → c .agent y .home ≢ t → Has (c .lock) q y → Has locks q y
   unfolding dissolveLock
   has-same {y} {q} n e h =
-    let r = others n h in
-    record { by = locks-at q (r .0) (r .1) ∙ rw (h .by, lt-ltb y 64 (h .small), ne-eqb (c .agent y .home) t e); small = h .small }
+      let r = others n h in
+      record { by = locks-at q (r .0) (r .1) ∙ rw (h .by, lt-ltb y 64 (h .small), ne-eqb (c .agent y .home) t e); small = h .small }
 
   -- ---- once the agents are as dissolving leaves them, and nothing was on its way to t
 
   module _ (w : awaited (c .land) t ≡ false) (agents : ℕ → Agent) (same : (y : ℕ) → y ≢ x → agents y ≡ dissolveAgent p t (agentIn c y)) where
     -- an agent elsewhere at stages 2 to 6 is as it was
-    pub unmoved : {y : ℕ} → y ≢ x → agentIn c y .home ≢ t → 2 ≤ agentIn c y .stage → agentIn c y .stage ≤ 6 → agents y ≡ agentIn c y
-    unmoved {y} n e lo hi = same y n ∙ not-dissolved (dissolved p t (agentIn c y)) e (omega arith) (omega arith)
+    pub elsewhere-same : {y : ℕ} → y ≢ x → agentIn c y .home ≢ t → 2 ≤ agentIn c y .stage → agentIn c y .stage ≤ 6 → agents y ≡ agentIn c y
+    elsewhere-same {y} n e lo hi = same y n ∙ not-dissolved (dissolved p t (agentIn c y)) e (omega arith) (omega arith)
 
     -- a place on its way goes where it went
     pub away-kept : (y : ℕ) → Travels (agentIn c y)
-      → (linked (dissolveLand (c .land) p t) (agentIn c y .home) ≡ false) × (parentIn (dissolveLand (c .land) p t) (agentIn c y .home) ≡ parentIn (c .land) (agentIn c y .home))
+        → (linked (dissolveLand (c .land) p t) (agentIn c y .home) ≡ false)
+        × (parentIn (dissolveLand (c .land) p t) (agentIn c y .home) ≡ parentIn (c .land) (agentIn c y .home))
     away-kept y v = let r = travels-away v (i .ok y) in away-same (i .places) (o .under) w _ (i .homes y) (r .placed) (r .loose)
 
     holds-kept : (y : ℕ) {q : ℕ} → Holds (c .land) (agentIn c y) q → Holds (dissolveLand (c .land) p t) (agentIn c y) q
@@ -128,18 +112,28 @@ module _ {c : State} (i : Sound c) {x p t : ℕ} (o : Opener c x p t) where
         go : q ≢ p → Told (test (c .lock q)) → Kept (c .land) (c .lock) (agentIn c) q → Kept (dissolveLand (c .land) p t) locks agents q
         go m (yea e) _ = free (locks-at q m gone ∙ rw e)
         go m (nay e) (free f) = free (locks-at q m gone ∙ rw e f)
-        go m (nay e) (kept y h r) = kept y (has-same n out h) (subst (λ b. Holds (dissolveLand (c .land) p t) b q) (sym (unmoved n out′ (holder-from r) (holder-to r))) (holds-kept y r))
+        go m (nay e) (kept y h r) = kept y (has-same n out h)
+            (subst (λ b. Holds (dissolveLand (c .land) p t) b q) (sym (elsewhere-same n out′ (holds-between r .0) (holds-between r .1)))
+            (holds-kept y r))
           where
             mine : (q ≡ p) ⊎ (q ≡ t) → ⊥
             mine (inl z) = m z
             mine (inr z) = gone z
+
             n : y ≢ x
             n z = mine (o .both q (subst (λ v. Holds (c .land) (agentIn c v) q) z r))
+
             given : agentIn c y ≡ c .agent y
-            given = agent-given c y (holder-given c y r)
+            given = agent-given c y (holds-given c y r)
+
             out′ : agentIn c y .home ≢ t
-            out′ z = clash (rw (h .by, lt-ltb y 64 (h .small), eq-eqb (c .agent y .home) t (ap (λ b. b .home) (sym given) ∙ z),
-              eq-eqb (c .agent y .stage) 2 (ap (λ b. b .stage) (sym given) ∙ held-at-two n z (i .ok y) r))) e
+            out′ z = clash (rw (
+              h .by,
+              lt-ltb y 64 (h .small),
+              eq-eqb (c .agent y .home) t (ap (λ b. b .home) (sym given) ∙ z),
+              eq-eqb (c .agent y .stage) 2 (ap (λ b. b .stage) (sym given) ∙ held-at-two n z (i .ok y) r),
+            )) e
+
             out : c .agent y .home ≢ t
             out z = out′ (ap (λ b. b .home) given ∙ z)
 

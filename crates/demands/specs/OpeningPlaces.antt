@@ -33,8 +33,9 @@ module _ {l : Land} (i : Places l) {p t : ℕ} (u : Under l t p) where
   placed : t ≢ 0
   placed = linked-not-floor i (u .link)
 
-  -- ---- one field at one place
+  -- ---- what is read of one place
 
+  -- t is no longer in use; every other place reads as before, and what stood in t stands in p
   pub used-same : (q : ℕ) → q ≢ t → after .used q ≡ l .used q
   used-same q n = rw (ne-eqb q t n)
 
@@ -64,6 +65,7 @@ module _ {l : Land} (i : Places l) {p t : ℕ} (u : Under l t p) where
 
   -- ---- one tree
 
+  -- p is still in use
   pub parent-kept : after .used p ≡ true
   parent-kept = used-same p (child-not-self i u) ∙ ap (l .used) (sym (u .parent)) ∙ i .parent-used t
 
@@ -75,22 +77,26 @@ module _ {l : Land} (i : Places l) {p t : ℕ} (u : Under l t p) where
   parents-used q (inr n) (inl m) = ap (after .used) (parent-up q n m) ∙ parent-kept
   parents-used q (inr n) (inr m) = ap (after .used) (parent-same q n m) ∙ used-same _ m ∙ i .parent-used q
 
+  -- the places are one tree again
   pub places-dissolved : Places after
-  places-dissolved = record
-    { floor-used = floor-kept
-    ; floor-parent = parent-same 0 (λ e. placed (sym e)) (λ e. placed (sym e ∙ i .floor-parent)) ∙ i .floor-parent
-    ; floor-link = linked-same 0 (λ e. placed (sym e)) ∙ i .floor-link
-    ; floor-name = name-same 0 (λ e. placed (sym e)) ∙ i .floor-name
-    ; tree = subst (λ (f : ℕ → ℕ). (q : ℕ) → Up f q) (sym (parent-dissolved l p t placed)) (opened-up (parentIn l) (i .floor-parent) t p (u .parent) (i .tree))
-    ; parent-used = λ q. parents-used q (eq? q t) (eq? (parentIn l q) t)
-    ; small = λ q e. i .small q (sym (used-same q (used-before q e)) ∙ e)
-    ; named = λ q e z. subst (λ (n : ℕ). 1 ≤ n) (sym (name-same q (used-before q e))) (i .named q (sym (used-same q (used-before q e)) ∙ e) z)
-    }
+  places-dissolved = record {
+    floor-used = floor-kept;
+    floor-parent = parent-same 0 (λ e. placed (sym e)) (λ e. placed (sym e ∙ i .floor-parent)) ∙ i .floor-parent;
+    floor-link = linked-same 0 (λ e. placed (sym e)) ∙ i .floor-link;
+    floor-name = name-same 0 (λ e. placed (sym e)) ∙ i .floor-name;
+    tree = subst (λ (f : ℕ → ℕ). (q : ℕ) → Up f q) (sym (parent-dissolved l p t placed))
+        (opened-up (parentIn l) (i .floor-parent) t p (u .parent) (i .tree));
+    parent-used = λ q. parents-used q (eq? q t) (eq? (parentIn l q) t);
+    small = λ q e. i .small q (sym (used-same q (used-before q e)) ∙ e);
+    named = λ q e z. subst (λ (n : ℕ). 1 ≤ n) (sym (name-same q (used-before q e))) (i .named q (sym (used-same q (used-before q e)) ∙ e) z);
+  }
 
   -- ---- what is on its way, where nothing is on its way to t
 
   -- a place on its way goes where it went
-  pub away-same : awaited l t ≡ false → (q : ℕ) → l .used q ≡ true → q ≢ 0 → linked l q ≡ false → (linked after q ≡ false) × (parentIn after q ≡ parentIn l q)
+  pub away-same : awaited l t ≡ false → (q : ℕ) → l .used q ≡ true → q ≢ 0 → linked l q ≡ false
+      → (linked after q ≡ false) × (parentIn after q ≡ parentIn l q)
   away-same w q e z o =
-    let n : q ≢ t = λ y. clash (ap (linked l) y ∙ u .link) o in
-    (linked-same q n ∙ o, parent-same q n (λ m. clash (awaited-yes l t q (i .small q e) (record { used = e; placed = z; loose = o; parent = m })) w))
+      let n : q ≢ t = λ y. clash (ap (linked l) y ∙ u .link) o in
+      let m : parentIn l q ≢ t = λ m. clash (awaited-yes l t q (i .small q e) (record { used = e; placed = z; loose = o; parent = m })) w in
+      (linked-same q n ∙ o, parent-same q n m)

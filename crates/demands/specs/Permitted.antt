@@ -8,23 +8,19 @@ use native.Mathlib.Omega.{arith}
 use lib.Dec.{eqb}
 use borrow.Author.Tests.{eqb-true, eqb-false, ne-eqb}
 use Rattle.table.specs.BaseLaws.{Told, yea, nay, told, clash}
-use Rattle.table.specs.Cell.{Land, State, linked, nextAction, kindOf, nameOf}
+use Rattle.table.specs.Cell.{Land, State, linked, kindOf, nameOf}
 use Rattle.table.specs.declared.Agent.{Agent}
 use Rattle.meaning.specs.Step.{awaited, qualifies, stays}
-use Rattle.meaning.specs.Calculus.{Tree, nextOf, putInto, openUp, move}
+use Rattle.meaning.specs.Calculus.{Tree, nextOf, move}
 use Rattle.meaning.specs.Plain.{treeOf}
-use Rattle.calculus.specs.MoveCases.{MoveCase, enters, exits, opens, case-kind}
+use Rattle.calculus.specs.MoveCases.{MoveCase, by-enter, by-exit, by-open, case-kind}
 use Rattle.demands.specs.Reading.{parentIn, nameIn, agentIn}
-use Rattle.demands.specs.Invariant.{Travels, Sound}
-use Rattle.demands.specs.Facts.{not-yes, Comes, awaited-some, link-used, fits-linked, stays-under, enters-of, exits-of, opens-of}
+use Rattle.demands.specs.Invariant.{Under, Travels, Sound}
+use Rattle.demands.specs.Facts.{not-yes, Comes, Whole, awaited-some, link-used, fits-linked, stays-under, enters-of, exits-of, opens-of}
 use Rattle.demands.specs.Actions.{name-some, kind-of}
 use Rattle.demands.specs.Stages.{fit-given}
-use Rattle.demands.specs.SameTree.{given-home, given-next}
+use Rattle.demands.specs.SameTree.{given-home, given-kind, given-name, move-enter, move-exit, move-open}
 use Rattle.demands.specs.Ahead.{looksAt}
-
--- every place but the floor is linked
-abbrev pub Whole : State → Type 0
-Whole c = (q : ℕ) → c .land .used q ≡ true → q ≢ 0 → linked (c .land) q ≡ true
 
 -- with nobody on its way, every place is linked
 pub none-whole : (c : State) → Sound c → ((y : ℕ) → Travels (agentIn c y) → ⊥) → Whole c
@@ -54,37 +50,20 @@ module _ (c : State) (i : Sound c) (a : ℕ) (g : c .given a ≡ true) where
   abbrev own : Agent
   own = c .agent a
 
-  -- its next action and home are those of the tree
-  next : nextOf (treeOf c) a ≡ nextAction own
-  next = given-next c a g (i .fit a)
-
   home : treeOf c .home a ≡ own .home
   home = given-home c a g
 
   own-kind : {n : ℕ} → nextOf (treeOf c) a .kind ≡ n → kindOf own ≡ n
-  own-kind k = sym (ap (λ v. v .kind) next) ∙ k
+  own-kind k = sym (given-kind c a g (i .fit a)) ∙ k
 
   own-name : {n : ℕ} → n ≡ nextOf (treeOf c) a .name → n ≡ nameOf own
-  own-name e = e ∙ ap (λ v. v .name) next
+  own-name e = e ∙ given-name c a g (i .fit a)
 
   -- an agent that is to enter or exit does not live on the floor
   pub off-floor : {u : Tree} → MoveCase (treeOf c) a u → kindOf own ≢ 3 → own .home ≢ 0
-  off-floor (enters m k h s d n) z e = h (home ∙ e)
-  off-floor (exits k h n) z e = h (home ∙ e)
-  off-floor (opens m k s n) z e = z (own-kind k)
-
-  -- what a move makes, by the agent's kind
-  pub move-enter : (m : ℕ) → kindOf own ≡ 1 → move (treeOf c) a m ≡ putInto (treeOf c) a m
-  unfolding move
-  move-enter m k = rw (ap (λ v. v .kind) next ∙ k)
-
-  pub move-exit : (m : ℕ) → kindOf own ≡ 2 → move (treeOf c) a m ≡ putInto (treeOf c) a (treeOf c .parent (treeOf c .parent (treeOf c .home a)))
-  unfolding move
-  move-exit m k = rw (ap (λ v. v .kind) next ∙ k)
-
-  pub move-open : (m : ℕ) → kindOf own ≡ 3 → move (treeOf c) a m ≡ openUp (treeOf c) a m
-  unfolding move
-  move-open m k = rw (ap (λ v. v .kind) next ∙ k)
+  off-floor (by-enter m k h s d n) z e = h (home ∙ e)
+  off-floor (by-exit k h n) z e = h (home ∙ e)
+  off-floor (by-open m k s n) z e = z (own-kind k)
 
   module _ (whole : Whole c) where
     -- the place that the action fires on, with the tree that the move makes
@@ -102,29 +81,35 @@ module _ (c : State) (i : Sound c) (a : ℕ) (g : c .given a ≡ true) where
         go v = clash (whole (v .0) (v .1 .used) (v .1 .placed)) (v .1 .loose)
 
     found : {u : Tree} (p m : ℕ) → 1 ≤ kindOf own → looksAt (c .land) own ≡ p → qualifies (c .land) (kindOf own) (nameOf own) (own .home) p m ≡ true
-      → u ≡ move (treeOf c) a m → Target u
-    found p m k l f r = record { place = m
-      ; small = i .places .small m (link-used (c .land) m (fits-linked (c .land) _ _ _ _ m (kind-of own (fit-given c i a g) k) f))
-      ; fits = subst (λ (q : ℕ). qualifies (c .land) (kindOf own) (nameOf own) (own .home) q m ≡ true) (sym l) f
-      ; result = r }
+        → u ≡ move (treeOf c) a m → Target u
+    found p m k l f r = record {
+      place = m;
+      small = i .places .small m (link-used (c .land) m (fits-linked (c .land) _ _ _ _ m (kind-of own (fit-given c i a g) k) f));
+      fits = subst (λ (q : ℕ). qualifies (c .land) (kindOf own) (nameOf own) (own .home) q m ≡ true) (sym l) f;
+      result = r;
+    }
 
+    -- every move that the calculus permits has one
     pub target : {u : Tree} → MoveCase (treeOf c) a u → Target u
     unfolding treeOf parentIn nameIn
-    target (enters m k h s d n) =
-      let e = own-kind k in
-      found (parentIn (c .land) (own .home)) m (omega arith) (rw (ne-eqb (kindOf own) 3 (omega arith)))
-        (enters-of (c .land) _ _ _ _ m e
-          (record { under = record { link = whole m (s .used) (s .placed); parent = s .parent ∙ ap (parentIn (c .land)) home }; name = own-name n }) (λ z. d (z ∙ sym home)))
-        (sym (move-enter m e))
-    target (exits k h n) =
-      let e = own-kind k in
-      let p = parentIn (c .land) (own .home) in
-      let name : nameIn (c .land) p ≡ nameOf own = ap (λ (q : ℕ). nameIn (c .land) (parentIn (c .land) q)) (sym home) ∙ own-name n in
-      let z : p ≢ 0 = λ z. absurd (omega (arith, name-some own (fit-given c i a g) (omega arith), sym name ∙ ap (nameIn (c .land)) z ∙ i .places .floor-name)) in
-      found p p (omega arith) (rw (ne-eqb (kindOf own) 3 (omega arith)))
-        (exits-of (c .land) _ _ _ p p e refl (whole p (i .places .parent-used _) z) name) (sym (move-exit p e))
-    target (opens m k s n) =
-      let e = own-kind k in
-      found (own .home) m (omega arith) (rw e)
-        (opens-of (c .land) _ _ _ _ m e (record { under = record { link = whole m (s .used) (s .placed); parent = s .parent ∙ home }; name = own-name n }) (unawaited m))
-        (sym (move-open m e))
+    target (by-enter m k h s d n) =
+        let e = own-kind k in
+        let under : Under (c .land) m (parentIn (c .land) (own .home)) =
+        record { link = whole m (s .used) (s .placed); parent = s .parent ∙ ap (parentIn (c .land)) home } in
+        found (parentIn (c .land) (own .home)) m (omega arith) (rw (ne-eqb (kindOf own) 3 (omega arith)))
+        (enters-of (c .land) _ _ _ _ m e (record { under = under; name = own-name n }) (λ z. d (z ∙ sym home)))
+        (sym (move-enter c a g (i .fit a) m e))
+    target (by-exit k h n) =
+        let e = own-kind k in
+        let p = parentIn (c .land) (own .home) in
+        let name : nameIn (c .land) p ≡ nameOf own = ap (λ (q : ℕ). nameIn (c .land) (parentIn (c .land) q)) (sym home) ∙ own-name n in
+        let some : 1 ≤ nameOf own = name-some own (fit-given c i a g) (omega arith) in
+        let z : p ≢ 0 = λ z. let no : nameOf own ≡ 0 = sym name ∙ ap (nameIn (c .land)) z ∙ i .places .floor-name in omega arith in
+        found p p (omega arith) (rw (ne-eqb (kindOf own) 3 (omega arith)))
+        (exits-of (c .land) _ _ _ p p e refl (whole p (i .places .parent-used _) z) name) (sym (move-exit c a g (i .fit a) p e))
+    target (by-open m k s n) =
+        let e = own-kind k in
+        let under : Under (c .land) m (own .home) = record { link = whole m (s .used) (s .placed); parent = s .parent ∙ home } in
+        found (own .home) m (omega arith) (rw e)
+        (opens-of (c .land) _ _ _ _ m e (record { under = under; name = own-name n }) (unawaited m))
+        (sym (move-open c a g (i .fit a) m e))

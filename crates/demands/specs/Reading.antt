@@ -8,8 +8,10 @@ use Rattle.table.specs.declared.Agent.{Agent}
 unfoldable pub parentIn : Land → ℕ → ℕ
 parentIn l q = cond (l .used q) (l .place q .parent) 0
 
+-- its name
 unfoldable pub nameIn : Land → ℕ → ℕ
 nameIn l q = cond (l .used q) (l .place q .name) 0
 
+-- an agent, done if it is not given
 unfoldable pub agentIn : State → ℕ → Agent
 agentIn c x = cond (c .given x) (c .agent x) freshAgent

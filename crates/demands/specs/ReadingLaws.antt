@@ -3,110 +3,126 @@
 use mathlib.Core.Path.{_≡_, refl, sym, ap, _∙_, fun-ext}
 use mathlib.Core.Logic.{_≢_}
 use Prim.Native.Nat.{ℕ}
-use mathlib.Core.Bool.{Bool, true, false, not, _&&_, cond}
+use mathlib.Core.Bool.{Bool, true, false, not, _&&_, cond, and-false}
 use lib.Dec.{eqb}
 use borrow.Author.Tests.{eqb-true, ne-eqb}
 use Rattle.table.specs.Base.{upd}
-use Rattle.table.specs.BaseLaws.{Told, yea, nay, told}
-use Rattle.table.specs.Cell.{Land, State, freshAgent, linked}
+use Rattle.table.specs.BaseLaws.{Told, yea, nay, told, and-right, upd-same, upd-other, upd-all}
+use Rattle.table.specs.Cell.{Land, State, noPlace, freshAgent, linked, travels}
+use Rattle.table.specs.declared.Place.{Place}
 use Rattle.table.specs.declared.Agent.{Agent}
-use Rattle.meaning.specs.Update.{atStage, withAgent}
+use Rattle.meaning.specs.Update.{withParent, atStage, withAgent}
 use Rattle.meaning.specs.Step.{sendTo, linkUp, dissolveLand, asleepOn, wake, dissolveAgent}
+use Rattle.calculus.specs.MoveCases.{and-no}
 use Rattle.demands.specs.Reading.{parentIn, nameIn, agentIn}
 
-no-and : (b : Bool) → b && false ≡ false
-no-and true = refl
-no-and false = refl
+-- ---- what is read of a place: by its number, whether it is in use, and what it is
+
+abbrev pub readUsed : ℕ → Bool → Place → Bool
+readUsed q u x = u
+
+abbrev pub readParent : ℕ → Bool → Place → ℕ
+readParent q u x = cond u (x .parent) 0
+
+abbrev pub readName : ℕ → Bool → Place → ℕ
+readName q u x = cond u (x .name) 0
+
+abbrev pub readLinked : ℕ → Bool → Place → Bool
+readLinked q u x = u && eqb (x .way) 0
+
+abbrev pub readTravels : ℕ → Bool → Place → Bool
+readTravels q u x = u && (not (eqb q 0) && not (eqb (x .way) 0))
+
+-- after place h is written anew, one value of what is read is changed
+pub written : {A : Type 0} (read : ℕ → Bool → Place → A) (l : Land) (used : ℕ → Bool) (h : ℕ) (new : Place) → ((q : ℕ) → q ≢ h → used q ≡ l .used q)
+    → (λ q. read q (used q) (upd (l .place) h new q)) ≡ upd (λ q. read q (l .used q) (l .place q)) h (read h (used h) new)
+written read l used h new same = fun-ext (upd-all (l .place) h new
+    (λ q x. read q (used q) x ≡ upd (λ r. read r (l .used r) (l .place r)) h (read h (used h) new) q)
+    (sym (upd-same _ h _)) (λ q n. ap (λ (u : Bool). read q u (l .place q)) (same q n) ∙ sym (upd-other _ h q _ n)))
+
+-- a value that is written as it was changes nothing
+pub upd-self : {A : Type 0} (f : ℕ → A) (i : ℕ) (v : A) → v ≡ f i → upd f i v ≡ f
+upd-self f i v e = fun-ext (upd-all f i v (λ j w. w ≡ f j) e (λ j _. refl))
 
 -- ---- place h is sent on its way to d
 
 module _ (l : Land) (h d : ℕ) where
   pub linked-sent : linked (sendTo l h d) ≡ upd (linked l) h false
-  unfolding linked upd
-  linked-sent = fun-ext λ q. go q (told (eqb q h))
-    where
-      go : (q : ℕ) → Told (eqb q h) → linked (sendTo l h d) q ≡ upd (linked l) h false q
-      go q (yea e) = rw (e, upd) (no-and (l .used q))
-      go q (nay e) = rw (e, upd)
+  unfolding linked
+  linked-sent = written readLinked l (l .used) h _ (λ q n. refl) ∙ ap (upd (linked l) h) (and-false (l .used h))
 
   pub parent-sent : l .used h ≡ true → parentIn (sendTo l h d) ≡ upd (parentIn l) h d
-  unfolding parentIn upd
-  parent-sent u = fun-ext λ q. go q (told (eqb q h))
-    where
-      go : (q : ℕ) → Told (eqb q h) → parentIn (sendTo l h d) q ≡ upd (parentIn l) h d q
-      go q (yea e) = rw (e, upd, ap (l .used) (eqb-true q h e) ∙ u)
-      go q (nay e) = rw (e, upd)
+  unfolding parentIn
+  parent-sent u = written readParent l (l .used) h _ (λ q n. refl) ∙ ap (λ (b : Bool). upd (parentIn l) h (cond b d 0)) u
 
   pub name-sent : nameIn (sendTo l h d) ≡ nameIn l
-  unfolding nameIn upd
-  name-sent = fun-ext λ q. go q (told (eqb q h))
-    where
-      go : (q : ℕ) → Told (eqb q h) → nameIn (sendTo l h d) q ≡ nameIn l q
-      go q (yea e) = rw (e, upd, eqb-true q h e)
-      go q (nay e) = rw (e, upd)
+  unfolding nameIn
+  name-sent = written readName l (l .used) h _ (λ q n. refl) ∙ upd-self (nameIn l) h _ refl
+
+  -- it travels
+  pub travels-sent : l .used h ≡ true → h ≢ 0 → travels (sendTo l h d) ≡ upd (travels l) h true
+  unfolding travels
+  travels-sent u z = written readTravels l (l .used) h _ (λ q n. refl) ∙ ap (upd (travels l) h) (rw (u, ne-eqb h 0 z))
 
 -- ---- place h is linked to where it was on its way to
 
 module _ (l : Land) (h : ℕ) where
   pub linked-linked : l .used h ≡ true → linked (linkUp l h) ≡ upd (linked l) h true
-  unfolding linked upd
-  linked-linked u = fun-ext λ q. go q (told (eqb q h))
-    where
-      go : (q : ℕ) → Told (eqb q h) → linked (linkUp l h) q ≡ upd (linked l) h true q
-      go q (yea e) = rw (e, upd, ap (l .used) (eqb-true q h e) ∙ u)
-      go q (nay e) = rw (e, upd)
+  unfolding linked
+  linked-linked u = written readLinked l (l .used) h _ (λ q n. refl) ∙ ap (λ (b : Bool). upd (linked l) h (b && true)) u
 
   pub parent-linked : parentIn (linkUp l h) ≡ parentIn l
-  unfolding parentIn upd
-  parent-linked = fun-ext λ q. go q (told (eqb q h))
-    where
-      go : (q : ℕ) → Told (eqb q h) → parentIn (linkUp l h) q ≡ parentIn l q
-      go q (yea e) = rw (e, upd, eqb-true q h e)
-      go q (nay e) = rw (e, upd)
+  unfolding parentIn
+  parent-linked = written readParent l (l .used) h _ (λ q n. refl) ∙ upd-self (parentIn l) h _ refl
 
   pub name-linked : nameIn (linkUp l h) ≡ nameIn l
-  unfolding nameIn upd
-  name-linked = fun-ext λ q. go q (told (eqb q h))
-    where
-      go : (q : ℕ) → Told (eqb q h) → nameIn (linkUp l h) q ≡ nameIn l q
-      go q (yea e) = rw (e, upd, eqb-true q h e)
-      go q (nay e) = rw (e, upd)
+  unfolding nameIn
+  name-linked = written readName l (l .used) h _ (λ q n. refl) ∙ upd-self (nameIn l) h _ refl
+
+  -- it travels no more
+  pub travels-linked : travels (linkUp l h) ≡ upd (travels l) h false
+  unfolding travels
+  travels-linked = written readTravels l (l .used) h _ (λ q n. refl) ∙ ap (upd (travels l) h) (and-no (l .used h) (not (eqb h 0)))
 
 -- ---- place t is dissolved into p
 
 module _ (l : Land) (p t : ℕ) where
-  pub used-dissolved : dissolveLand l p t .used ≡ upd (l .used) t false
+  -- what does not tell where a place stands is read as before, but for t
+  gone : {A : Type 0} (read : ℕ → Bool → Place → A) → ((q : ℕ) (u : Bool) (x : Place) → read q u (withParent x p) ≡ read q u x)
+      → (λ q. read q (dissolveLand l p t .used q) (dissolveLand l p t .place q)) ≡ upd (λ q. read q (l .used q) (l .place q)) t (read t false noPlace)
   unfolding upd
-  used-dissolved = fun-ext λ q. go q (told (eqb q t))
+  gone read blind = fun-ext λ q. go q (told (eqb q t)) (told (eqb (l .place q .parent) t))
     where
-      go : (q : ℕ) → Told (eqb q t) → not (eqb q t) && l .used q ≡ upd (l .used) t false q
-      go q (yea e) = rw (e, upd)
-      go q (nay e) = rw (e, upd)
+      go : (q : ℕ) → Told (eqb q t) → Told (eqb (l .place q .parent) t)
+          → read q (dissolveLand l p t .used q) (dissolveLand l p t .place q) ≡ upd (λ r. read r (l .used r) (l .place r)) t (read t false noPlace) q
+      go q (yea e) _ = rw (e, upd) (ap (λ (r : ℕ). read r false noPlace) (eqb-true q t e))
+      go q (nay e) (yea f) = rw (e, f, upd) (blind q (l .used q) (l .place q))
+      go q (nay e) (nay f) = rw (e, f, upd)
+
+  pub used-dissolved : dissolveLand l p t .used ≡ upd (l .used) t false
+  used-dissolved = gone readUsed (λ q u x. refl)
 
   pub linked-dissolved : linked (dissolveLand l p t) ≡ upd (linked l) t false
-  unfolding linked upd
-  linked-dissolved = fun-ext λ q. go q (told (eqb q t)) (told (eqb (l .place q .parent) t))
-    where
-      go : (q : ℕ) → Told (eqb q t) → Told (eqb (l .place q .parent) t) → linked (dissolveLand l p t) q ≡ upd (linked l) t false q
-      go q (yea e) _ = rw (e, upd)
-      go q (nay e) (yea f) = rw (e, f, upd)
-      go q (nay e) (nay f) = rw (e, f, upd)
+  unfolding linked
+  linked-dissolved = gone readLinked (λ q u x. refl)
 
   pub name-dissolved : nameIn (dissolveLand l p t) ≡ upd (nameIn l) t 0
-  unfolding nameIn upd
-  name-dissolved = fun-ext λ q. go q (told (eqb q t)) (told (eqb (l .place q .parent) t))
-    where
-      go : (q : ℕ) → Told (eqb q t) → Told (eqb (l .place q .parent) t) → nameIn (dissolveLand l p t) q ≡ upd (nameIn l) t 0 q
-      go q (yea e) _ = rw (e, upd)
-      go q (nay e) (yea f) = rw (e, f, upd)
-      go q (nay e) (nay f) = rw (e, f, upd)
+  unfolding nameIn
+  name-dissolved = gone readName (λ q u x. refl)
 
+  -- a linked place that is dissolved did not travel
+  pub travels-dissolved : linked l t ≡ true → travels (dissolveLand l p t) ≡ travels l
+  unfolding travels linked
+  travels-dissolved k = gone readTravels (λ q u x. refl)
+      ∙ upd-self (travels l) t false (sym (rw (and-right (l .used t) (eqb (l .place t .way) 0) k) (and-no (l .used t) (not (eqb t 0)))))
+
+  -- what stood in t stands in p
   pub parent-dissolved : t ≢ 0 → parentIn (dissolveLand l p t) ≡ (λ q. cond (eqb q t) 0 (cond (eqb (parentIn l q) t) p (parentIn l q)))
   unfolding parentIn
   parent-dissolved n = fun-ext λ q. go q (told (eqb q t)) (told (l .used q)) (told (eqb (l .place q .parent) t))
     where
       go : (q : ℕ) → Told (eqb q t) → Told (l .used q) → Told (eqb (l .place q .parent) t)
-        → parentIn (dissolveLand l p t) q ≡ cond (eqb q t) 0 (cond (eqb (parentIn l q) t) p (parentIn l q))
+          → parentIn (dissolveLand l p t) q ≡ cond (eqb q t) 0 (cond (eqb (parentIn l q) t) p (parentIn l q))
       go q (yea e) _ _ = rw e
       go q (nay e) (yea u) (yea f) = rw (e, u, f)
       go q (nay e) (yea u) (nay f) = rw (e, u, f)
@@ -121,8 +137,8 @@ agent-given c x g = rw g
 
 -- agent x becomes a, and f says what becomes of every other agent
 pub agents-changed : (c : State) (f : Agent → Agent) (agents : ℕ → Agent) (x : ℕ) (a : Agent) → c .given x ≡ true → f freshAgent ≡ freshAgent
-  → ((y : ℕ) → c .given y ≡ true → agents y ≡ f (c .agent y))
-  → (y : ℕ) → cond (c .given y) (upd agents x a y) freshAgent ≡ upd (λ z. f (agentIn c z)) x a y
+    → ((y : ℕ) → c .given y ≡ true → agents y ≡ f (c .agent y))
+    → (y : ℕ) → cond (c .given y) (upd agents x a y) freshAgent ≡ upd (λ z. f (agentIn c z)) x a y
 unfolding agentIn upd
 agents-changed c f agents x a g fresh same y = go (told (eqb y x)) (told (c .given y))
   where
@@ -142,14 +158,15 @@ wakeAgent p q r a = cond (asleepOn p q r a) (atStage a 0 0 0) a
 
 -- sleepers are woken and one agent changes
 pub agent-woken : (c : State) (p q r x : ℕ) (a : Agent) → c .given x ≡ true
-  → (λ y. cond (c .given y) (upd (wake c p q r) x a y) freshAgent) ≡ upd (λ y. wakeAgent p q r (agentIn c y)) x a
+    → (λ y. cond (c .given y) (upd (wake c p q r) x a y) freshAgent) ≡ upd (λ y. wakeAgent p q r (agentIn c y)) x a
 unfolding wakeAgent wake asleepOn
 agent-woken c p q r x a g = fun-ext (agents-changed c (wakeAgent p q r) (wake c p q r) x a g refl (λ y h. rw h))
 
 -- place t is dissolved and one agent changes
 pub agent-dissolved : (c : State) (p t x : ℕ) (a : Agent) → c .given x ≡ true → t ≢ 0
-  → (λ y. cond (c .given y) (upd (λ z. cond (c .given z) (dissolveAgent p t (c .agent z)) (c .agent z)) x a y) freshAgent)
+    → (λ y. cond (c .given y) (upd (λ z. cond (c .given z) (dissolveAgent p t (c .agent z)) (c .agent z)) x a y) freshAgent)
     ≡ upd (λ y. dissolveAgent p t (agentIn c y)) x a
 unfolding dissolveAgent asleepOn
-agent-dissolved c p t x a g n = fun-ext (agents-changed c (dissolveAgent p t) (λ z. cond (c .given z) (dissolveAgent p t (c .agent z)) (c .agent z)) x a g
-  (rw (ne-eqb 0 t (λ z. n (sym z)))) (λ y h. rw h))
+agent-dissolved c p t x a g n = fun-ext (agents-changed c (dissolveAgent p t)
+    (λ z. cond (c .given z) (dissolveAgent p t (c .agent z)) (c .agent z)) x a g
+    (rw (ne-eqb 0 t (λ z. n (sym z)))) (λ y h. rw h))

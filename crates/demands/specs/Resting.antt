@@ -14,7 +14,9 @@ use Rattle.table.specs.Idle.{restsAt, idle}
 use Rattle.meaning.specs.Step.{Outcome, still, leave, dissolve, arrive}
 use Rattle.meaning.specs.Run.{made, stepOf, isRest, saysRest, rests}
 use Rattle.demands.specs.Invariant.{Inv}
-use Rattle.demands.specs.Ways.{Way, is-done, is-asleep, held-first, held-second, held-own, held-destination, looks-up, looks-home, sleeps-alone, takes-first, goes-back, sleeps-stuck, takes-second, gives-up, enters, exits, opens, takes-own, takes-destination, comes}
+use Rattle.demands.specs.Ways.{Way, is-done, is-asleep, held-first, held-second, held-own, held-destination, looks-up, looks-home}
+use Rattle.demands.specs.Ways.{sleeps-alone, takes-first, goes-back, sleeps-stuck, takes-second, gives-up, enters, exits, opens}
+use Rattle.demands.specs.Ways.{takes-own, takes-destination, comes}
 use Rattle.demands.specs.StepWays.{step-way}
 use Rattle.demands.specs.RunKeeps.{call-made, call-refused}
 
@@ -49,7 +51,8 @@ module _ (c : State) (x : ℕ) where
 module _ (t : Cell) (i : Inv (cellOf t)) where
   -- a call for an agent that is given says by its stage whether it rests
   answer-given : (x wish : ℕ) → cellOf t .given x ≡ true → saysRest (stepOf t x wish .answer) ≡ restsAt (cellOf t .agent x .stage)
-  answer-given x wish g = ap (λ r. saysRest (r .answer)) (call-made t i x wish g) ∙ unfold made in way-rests (cellOf t) x (step-way (cellOf t) (i .sound) x g wish)
+  answer-given x wish g = ap (λ r. saysRest (r .answer)) (call-made t i x wish g) ∙ unfold made in
+      way-rests (cellOf t) x (step-way (cellOf t) (i .sound) x g wish)
 
   -- whether the answer says asleep or done does not depend on the wish
   pub any-wish : (x wish : ℕ) → saysRest (stepOf t x wish .answer) ≡ rests t x
@@ -68,10 +71,14 @@ module _ (t : Cell) (i : Inv (cellOf t)) where
   -- the cell is idle exactly if every agent that is given rests
   pub idle-all : (idle (cellOf t) ≡ true) ↔ ((x : ℕ) → cellOf t .given x ≡ true → rests t x ≡ true)
   unfolding idle
-  idle-all = (λ e x g. rests-stage x g ∙ (rw g at (all-at at-rest 64 x (i .sound .few x g) e)), λ r. all-yes at-rest 64 (λ x _. go r x (told (cellOf t .given x))))
+  idle-all = (
+    λ e x g. rests-stage x g ∙ (rw g at (all-at at-rest 64 x (i .sound .few x g) e)),
+    λ r. all-yes at-rest 64 (λ x _. go r x (told (cellOf t .given x))),
+  )
     where
       at-rest : ℕ → Bool
       at-rest x = cond (cellOf t .given x) (restsAt (cellOf t .agent x .stage)) true
+
       go : ((x : ℕ) → cellOf t .given x ≡ true → rests t x ≡ true) → (x : ℕ) → Told (cellOf t .given x) → at-rest x ≡ true
       go r x (yea g) = rw g (sym (rests-stage x g) ∙ r x g)
       go r x (nay g) = rw g

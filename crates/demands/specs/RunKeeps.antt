@@ -20,11 +20,11 @@ use Rattle.demands.specs.Reading.{agentIn}
 use Rattle.demands.specs.Invariant.{Inv}
 use Rattle.demands.specs.StepWays.{step-way}
 use Rattle.demands.specs.SoundTest.{sound-true}
-use Rattle.demands.specs.Always.{step-keeps}
-use Rattle.demands.specs.ReadBack.{Within, bounded-within, way-within, read-back, inv-back}
+use Rattle.demands.specs.Always.{step-keeps, step-inv}
+use Rattle.demands.specs.Within.{Within, bounded-within}
+use Rattle.demands.specs.ReadBack.{read-back, inv-back}
 use Rattle.demands.specs.SamePlain.{Same}
-use Rattle.demands.specs.SameSteps.{same-way}
-use Rattle.demands.specs.MovesMade.{Moves, unmoved, way-moves}
+use Rattle.demands.specs.MovesMade.{MovedOrSame, unmoved, way-follows}
 
 -- the plain tree after a list of calls, from table t and plain tree p: beside the cell, and come by permitted moves
 pub record Beside (t : Cell) (p : Plain) (calls : List Call) : Type 0 where
@@ -32,7 +32,8 @@ pub record Beside (t : Cell) (p : Plain) (calls : List Call) : Type 0 where
   pub history : History (p .tree) calls (answers t calls) (plainRun p calls (answers t calls) .tree)
 
 -- one call more at the front of a history
-more : {t u v : Tree} {k : Call} {calls : List Call} {a : Answer} {rest : List Answer} → Moves (saysMove a) (k .agent) t u → History u calls rest v → History t (k ∷ calls) (a ∷ rest) v
+more : {t u v : Tree} {k : Call} {calls : List Call} {a : Answer} {rest : List Answer} → MovedOrSame (saysMove a) (k .agent) t u
+    → History u calls rest v → History t (k ∷ calls) (a ∷ rest) v
 more {t} {u} {v} {k} {calls} {a} {rest} m h = go (told (saysMove a))
   where
     go : Told (saysMove a) → History t (k ∷ calls) (a ∷ rest) v
@@ -41,13 +42,16 @@ more {t} {u} {v} {k} {calls} {a} {rest} m h = go (told (saysMove a))
 
 -- what a call answers and makes, and then the rest of the calls
 first-call : (t : Cell) (p : Plain) (k : Call) (calls : List Call) (r : Stepped) → stepOf t (k .agent) (k .wish) ≡ r
-  → Moves (saysMove (r .answer)) (k .agent) (p .tree) (plainStep p k (r .answer) .tree) → Beside (r .cell) (plainStep p k (r .answer)) calls → Beside t p (k ∷ calls)
+    → MovedOrSame (saysMove (r .answer)) (k .agent) (p .tree) (plainStep p k (r .answer) .tree)
+    → Beside (r .cell) (plainStep p k (r .answer)) calls → Beside t p (k ∷ calls)
 first-call t p k calls r e = subst
-    (λ s. Moves (saysMove (s .answer)) (k .agent) (p .tree) (plainStep p k (s .answer) .tree) → Beside (s .cell) (plainStep p k (s .answer)) calls → Beside t p (k ∷ calls))
+    (λ s. MovedOrSame (saysMove (s .answer)) (k .agent) (p .tree) (plainStep p k (s .answer) .tree)
+    → Beside (s .cell) (plainStep p k (s .answer)) calls → Beside t p (k ∷ calls))
     e whole
   where
-    whole : Moves (saysMove (stepOf t (k .agent) (k .wish) .answer)) (k .agent) (p .tree) (plainStep p k (stepOf t (k .agent) (k .wish) .answer) .tree)
-      → Beside (stepOf t (k .agent) (k .wish) .cell) (plainStep p k (stepOf t (k .agent) (k .wish) .answer)) calls → Beside t p (k ∷ calls)
+    whole : MovedOrSame (saysMove (stepOf t (k .agent) (k .wish) .answer)) (k .agent) (p .tree)
+        (plainStep p k (stepOf t (k .agent) (k .wish) .answer) .tree)
+        → Beside (stepOf t (k .agent) (k .wish) .cell) (plainStep p k (stepOf t (k .agent) (k .wish) .answer)) calls → Beside t p (k ∷ calls)
     whole m d = unfold run answers plainRun in record { same = d .same; history = more m (d .history) }
 
 -- the cell read back from its table has the same plain tree beside it: only locks past the last place differ
@@ -72,12 +76,13 @@ unfolding run answers plainRun made turnedAway plainStep
 run-keeps [] t z i p m = record { same = m; history = start }
 run-keeps (k ∷ calls) t z i p m = go (told (cellOf t .given (k .agent))) (run-keeps calls)
   where
-    go : Told (cellOf t .given (k .agent)) → ((u : Cell) → Sized u → Inv (cellOf u) → (q : Plain) → Same (cellOf u) q → Beside u q calls) → Beside t p (k ∷ calls)
+    go : Told (cellOf t .given (k .agent)) → ((u : Cell) → Sized u → Inv (cellOf u) → (q : Plain) → Same (cellOf u) q → Beside u q calls)
+        → Beside t p (k ∷ calls)
     go (yea g) rest =
-      let c : State = cellOf t in
-      let d : State = step c (k .agent) (k .wish) .cell in
-      let w = step-way c (i .sound) (k .agent) g (k .wish) in
-      let n = way-within c (i .sound) (k .agent) g (bounded-within (bounded t z)) w in
-      first-call t p k calls (made (step c (k .agent) (k .wish))) (call-made t i (k .agent) (k .wish) g) (way-moves c (i .sound) (k .agent) g p m w)
-        (rest (tableOf d) (sized-table d) (inv-back d n (step-keeps c i (k .agent) g (k .wish))) _ (same-back d n _ (same-way c (i .sound) (k .agent) g p m w)))
+        let c : State = cellOf t in
+        let d : State = step c (k .agent) (k .wish) .cell in
+        let n = step-keeps c (i .sound) (k .agent) g (k .wish) .within (bounded-within (bounded t z)) in
+        let f = way-follows c (i .sound) (k .agent) g p m (step-way c (i .sound) (k .agent) g (k .wish)) in
+        first-call t p k calls (made (step c (k .agent) (k .wish))) (call-made t i (k .agent) (k .wish) g) (f .step)
+        (rest (tableOf d) (sized-table d) (inv-back d n (step-inv c i (k .agent) g (k .wish))) _ (same-back d n _ (f .same)))
     go (nay g) rest = first-call t p k calls (turnedAway t 11) (call-refused t i (k .agent) (k .wish) g) unmoved (rest t z i p m)

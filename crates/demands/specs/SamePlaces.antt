@@ -36,15 +36,16 @@ module _ (l m : Land) (s : Alike l m) where
   awaited-alike : (q : ℕ) → awaited l q ≡ awaited m q
   unfolding awaited onWayTo
   awaited-alike q = any-ext _ _ 64 (λ r _. ap (λ (b : Bool). b && eqb (l .place r .parent) q) (travels-alike r)
-    ∙ and-cong (travels m r) _ _ (λ t. ap (λ (z : ℕ). eqb z q) (s .parent r (there r t))))
+      ∙ and-cong (travels m r) _ _ (λ t. ap (λ (z : ℕ). eqb z q) (s .parent r (there r t))))
     where
       there : (r : ℕ) → travels m r ≡ true → m .used r ≡ true
       there r t = and-left (m .used r) (not (eqb r 0) && not (eqb (m .place r .way) 0)) (unfold travels in t)
 
   -- a place linked to p, with its name and one test more
-  child-alike : (n p q : ℕ) (a b : Bool) → a ≡ b → (linkedTo l q p && (eqb (l .place q .name) n && a)) ≡ (linkedTo m q p && (eqb (m .place q .name) n && b))
+  child-alike : (n p q : ℕ) (a b : Bool) → a ≡ b
+      → (linkedTo l q p && (eqb (l .place q .name) n && a)) ≡ (linkedTo m q p && (eqb (m .place q .name) n && b))
   child-alike n p q a b e = ap (λ (u : Bool). u && (eqb (l .place q .name) n && a)) (linkedTo-alike q p)
-    ∙ and-cong (linkedTo m q p) _ _ (λ k. ap₂ (λ (z : ℕ) (c : Bool). eqb z n && c) (s .name q (there k)) e)
+      ∙ and-cong (linkedTo m q p) _ _ (λ k. ap₂ (λ (z : ℕ) (c : Bool). eqb z n && c) (s .name q (there k)) e)
     where
       there : linkedTo m q p ≡ true → m .used q ≡ true
       there k = and-left (m .used q) (eqb (m .place q .way) 0 && eqb (m .place q .parent) p) (unfold linkedTo in k)
@@ -52,7 +53,7 @@ module _ (l m : Land) (s : Alike l m) where
   exits-alike : (n p : ℕ) → exitsFrom l n p ≡ exitsFrom m n p
   unfolding exitsFrom
   exits-alike n p = ap (λ (u : Bool). u && eqb (l .place p .name) n) (linked-alike p)
-    ∙ and-cong (linked m p) _ _ (λ k. ap (λ (z : ℕ). eqb z n) (s .name p (there k)))
+      ∙ and-cong (linked m p) _ _ (λ k. ap (λ (z : ℕ). eqb z n) (s .name p (there k)))
     where
       there : linked m p ≡ true → m .used p ≡ true
       there k = and-left (m .used p) (eqb (m .place p .way) 0) (unfold linked in k)
@@ -60,9 +61,9 @@ module _ (l m : Land) (s : Alike l m) where
   qualifies-alike : (kind n home p q : ℕ) → qualifies l kind n home p q ≡ qualifies m kind n home p q
   unfolding qualifies entersAt opensAt
   qualifies-alike kind n home p q =
-    ap₂ (λ (x y : Bool). cond (eqb kind 1) x y) (child-alike n p q (not (eqb q home)) (not (eqb q home)) refl)
+      ap₂ (λ (x y : Bool). cond (eqb kind 1) x y) (child-alike n p q (not (eqb q home)) (not (eqb q home)) refl)
       (ap₂ (λ (x y : Bool). cond (eqb kind 2) (eqb q p && x) y) (exits-alike n p)
-        (child-alike n p q (not (awaited l q)) (not (awaited m q)) (ap not (awaited-alike q))))
+      (child-alike n p q (not (awaited l q)) (not (awaited m q)) (ap not (awaited-alike q))))
 
   -- stage 2 chooses the same place in both
   pub choose-alike : (kind n home p wish : ℕ) → choose l kind n home p wish ≡ choose m kind n home p wish

@@ -11,14 +11,15 @@ use borrow.Author.Tests.{eqb-true, eq-eqb}
 use Rattle.table.specs.Base.{allBelow, anyBelow, countBelow, iter}
 use Rattle.table.specs.BaseLaws.{Told, yea, nay, told, and-left, and-right, all-yes, all-at, any-at, any-found}
 use Rattle.table.specs.Cell.{State, none, freshAgent}
-use Rattle.table.specs.Sound.{firstHeld, secondHeldIn, lockIs, claims, goes, agentFits, agentSound, stands, travellersFit, placeFits, placeSound, leads, sound}
+use Rattle.table.specs.Sound.{firstHeld, secondHeldIn, lockIs, claims, goes, agentFits, agentSound, stands, travellersFit, placeFits}
+use Rattle.table.specs.Sound.{placeSound, leads, sound}
 use Rattle.table.specs.declared.Agent.{Agent}
 use Rattle.demands.specs.Reading.{agentIn}
 use Rattle.demands.specs.ReadingLaws.{agent-given}
-use Rattle.demands.specs.Invariant.{Places, Fit, Away, Ok, ok8, Holds, near, far, own, destination, Kept, free, kept, Travels, Sound}
+use Rattle.demands.specs.Invariant.{Places, Fit, Away, Ok, ok8, Holds, Kept, free, kept, Travels, Sound}
 use Rattle.demands.specs.Actions.{unused-none}
-use Rattle.demands.specs.Stages.{ok-given, fit-given, home-given}
-use Rattle.demands.specs.SoundTestGiven.{agent-all, stage-given}
+use Rattle.demands.specs.Stages.{holds-given, ok-given, fit-given, home-given}
+use Rattle.demands.specs.Given.{agent-all}
 use Rattle.demands.specs.SoundTestActions.{fit-empty}
 use Rattle.demands.specs.SoundTestStages.{or-right, holds-true, first-holds, second-holds}
 use Rattle.demands.specs.SoundTestAgents.{lock-holds, agent-true, home-holds, locks-hold, row-fits, agent-holds}
@@ -28,25 +29,15 @@ use Rattle.demands.specs.SoundTestTravellers.{travellers-true, away-hold
 module _ (c : State) where
   -- ---- from the proposition to the test
 
-  module _ (s : Sound c) where
-    -- an agent that holds a place is given
-    holds-given : (x q : ℕ) → Holds (c .land) (agentIn c x) q → c .given x ≡ true
-    holds-given x q h = stage-given c x (λ z. absurd (go z h))
-      where
-        go : agentIn c x .stage ≡ 8 → Holds (c .land) (agentIn c x) q → ⊥
-        go z (near lo hi e) = omega arith
-        go z (far lo e) = omega arith
-        go z (own lo hi e) = omega arith
-        go z (destination lo e) = omega arith
-
+  module _ (i : Sound c) where
     lock-true : (q : ℕ) → c .land .used q ≡ true → (eqb (c .lock q) none || anyBelow (claims c q) 64) ≡ true
-    lock-true q u = go (s .locks q u)
+    lock-true q u = go (i .locks q u)
       where
         claimed : (x : ℕ) → x < 64 → Holds (c .land) (agentIn c x) q → anyBelow (claims c q) 64 ≡ true
         claimed x l h =
-          let g = holds-given x q h in
-          any-at (claims c q) 64 x l (unfold claims in rw g
-            (holds-true (c .agent x) c q (home-given c s x g) (subst (λ (a : Agent). Holds (c .land) a q) (agent-given c x g) h)))
+            let g = holds-given c x h in
+            any-at (claims c q) 64 x l (unfold claims in rw g
+            (holds-true (c .agent x) c q (home-given c i x g) (subst (λ (a : Agent). Holds (c .land) a q) (agent-given c x g) h)))
 
         go : Kept (c .land) (c .lock) (agentIn c) q → (eqb (c .lock q) none || anyBelow (claims c q) 64) ≡ true
         go (free e) = rw (eq-eqb (c .lock q) none e)
@@ -57,14 +48,14 @@ module _ (c : State) where
     place-true q = go (told (c .land .used q))
       where
         go : Told (c .land .used q) → placeSound c q ≡ true
-        go (yea u) = rw (lock-true q u, stands-true (c .land) (s .places) q u, travellers-true c s q u, u)
+        go (yea u) = rw (lock-true q u, stands-true (c .land) (i .places) q u, travellers-true c i q u, u)
         go (nay e) = rw e
 
     agent-passes : (x : ℕ) → agentSound c x ≡ true
     agent-passes x = go (told (c .given x))
       where
         go : Told (c .given x) → agentSound c x ≡ true
-        go (yea g) = rw g (agent-true c x (c .agent x) (s .places) (home-given c s x g) (fit-given c s x g) (ok-given c s x g))
+        go (yea g) = rw g (agent-true c x (c .agent x) (i .places) (home-given c i x g) (fit-given c i x g) (ok-given c i x g))
         go (nay e) = rw e
 
     -- every place in use leads to the floor, as the test says it
@@ -72,14 +63,18 @@ module _ (c : State) where
     leads-all q = go (told (c .land .used q))
       where
         go : Told (c .land .used q) → leads c q ≡ true
-        go (yea u) = rw (u, leads-true (c .land) (s .places) q u)
+        go (yea u) = rw (u, leads-true (c .land) (i .places) q u)
         go (nay e) = rw e
 
     -- a sound cell passes the test
     pub sound-true : sound c ≡ true
     unfolding sound
-    sound-true = rw (s .places .floor-used, all-yes (agentSound c) 64 (λ x _. agent-passes x), all-yes (placeSound c) 64 (λ q _. place-true q),
-      all-yes (leads c) 64 (λ q _. leads-all q))
+    sound-true = rw (
+      i .places .floor-used,
+      all-yes (agentSound c) 64 (λ x _. agent-passes x),
+      all-yes (placeSound c) 64 (λ q _. place-true q),
+      all-yes (leads c) 64 (λ q _. leads-all q),
+    )
 
   -- ---- and back
 
@@ -110,12 +105,14 @@ module _ (c : State) where
     locked q u = and-left (eqb (c .lock q) none || anyBelow (claims c q) 64) _ (place-fits q u)
 
     others : (q : ℕ) → c .land .used q ≡ true
-      → (stands q (c .land .place q) (c .land .used (c .land .place q .parent)) && travellersFit q (c .land .place q .way) (countBelow (goes c q) 64)) ≡ true
+        → (stands q (c .land .place q) (c .land .used (c .land .place q .parent))
+        && travellersFit q (c .land .place q .way) (countBelow (goes c q) 64)) ≡ true
     unfolding placeFits
     others q u = and-right (eqb (c .lock q) none || anyBelow (claims c q) 64) _ (place-fits q u)
 
     places : Places (c .land)
-    places = places-hold (c .land) floor small (λ q u. and-left (stands q (c .land .place q) (c .land .used (c .land .place q .parent))) _ (others q u)) leads-fits
+    places = places-hold (c .land) floor small (λ q u. and-left (stands q (c .land .place q) (c .land .used (c .land .place q .parent))) _
+        (others q u)) leads-fits
 
     travellers : (q : ℕ) → c .land .used q ≡ true → travellersFit q (c .land .place q .way) (countBelow (goes c q) 64) ≡ true
     travellers q u = and-right (stands q (c .land .place q) (c .land .used (c .land .place q .parent))) _ (others q u)
@@ -130,7 +127,7 @@ module _ (c : State) where
       where
         away : Travels (c .agent x) → Away (c .land) (c .agent x)
         away v = subst (λ (a : Agent). c .land .used (a .home) ≡ true → Travels a → Away (c .land) a) (agent-given c x g)
-          (away-holds c small few travellers x) (home-fits x g) v
+            (away-holds c small few travellers x) (home-fits x g) v
 
     homes : (x : ℕ) → c .land .used (agentIn c x .home) ≡ true
     homes = agent-all c (λ _ a. c .land .used (a .home) ≡ true) home-fits (λ x. floor)
@@ -143,35 +140,38 @@ module _ (c : State) where
         in-use : q ≢ none
         in-use z = absurd (omega (arith, small q u))
 
-        by-agent : (x : ℕ) → x < 64 → c .given x ≡ true → lockIs c x q ≡ true → Holds (c .land) (c .agent x) q → Kept (c .land) (c .lock) (agentIn c) q
+        by-agent : (x : ℕ) → x < 64 → c .given x ≡ true → lockIs c x q ≡ true → Holds (c .land) (c .agent x) q
+            → Kept (c .land) (c .lock) (agentIn c) q
         by-agent x l g e h = kept x (lock-holds c x q l in-use e) (subst (λ (a : Agent). Holds (c .land) a q) (sym (agent-given c x g)) h)
 
         claim : (x : ℕ) → x < 64 → c .given x ≡ true → Told (eqb q (firstHeld (c .agent x)))
-          → (eqb q (firstHeld (c .agent x)) || eqb q (secondHeldIn c (c .agent x))) ≡ true → Kept (c .land) (c .lock) (agentIn c) q
+            → (eqb q (firstHeld (c .agent x)) || eqb q (secondHeldIn c (c .agent x))) ≡ true → Kept (c .land) (c .lock) (agentIn c) q
         claim x l g (yea e) _ =
-          let z = eqb-true q (firstHeld (c .agent x)) e in
-          by-agent x l g (ap (lockIs c x) z ∙ and-left (lockIs c x (firstHeld (c .agent x))) _ (locks-hold c x (c .agent x) (agent-fits x g)))
+            let z = eqb-true q (firstHeld (c .agent x)) e in
+            by-agent x l g (ap (lockIs c x) z ∙ and-left (lockIs c x (firstHeld (c .agent x))) _ (locks-hold c x (c .agent x) (agent-fits x g)))
             (first-holds (c .agent x) (c .land) q z in-use)
         claim x l g (nay e) f =
-          let z = eqb-true q (secondHeldIn c (c .agent x)) (rw e at f) in
-          by-agent x l g (ap (lockIs c x) z ∙ and-right (lockIs c x (firstHeld (c .agent x))) _ (locks-hold c x (c .agent x) (agent-fits x g)))
+            let z = eqb-true q (secondHeldIn c (c .agent x)) (rw e at f) in
+            by-agent x l g (ap (lockIs c x) z ∙ and-right (lockIs c x (firstHeld (c .agent x))) _ (locks-hold c x (c .agent x) (agent-fits x g)))
             (second-holds (c .agent x) c q (home-fits x g) z in-use)
 
         go : Told (eqb (c .lock q) none) → Kept (c .land) (c .lock) (agentIn c) q
         go (yea e) = free (eqb-true _ _ e)
         go (nay e) =
-          let f = any-found (claims c q) 64 (rw e at (locked q u)) in
-          let k : (c .given (f .0) && (eqb q (firstHeld (c .agent (f .0))) || eqb q (secondHeldIn c (c .agent (f .0))))) ≡ true = unfold claims in f .1 .1 in
-          claim (f .0) (f .1 .0) (and-left (c .given (f .0)) _ k) (told _) (and-right (c .given (f .0)) _ k)
+            let f = any-found (claims c q) 64 (rw e at (locked q u)) in
+            let k : (c .given (f .0) && (eqb q (firstHeld (c .agent (f .0))) || eqb q (secondHeldIn c (c .agent (f .0)))))
+            ≡ true = unfold claims in f .1 .1 in
+            claim (f .0) (f .1 .0) (and-left (c .given (f .0)) _ k) (told _) (and-right (c .given (f .0)) _ k)
 
     -- a cell that passes the test is sound
     pub sound-holds : Sound c
-    sound-holds = record
-      { places = places
-      ; homes = homes
-      ; fit = agent-all c (λ _ a. Fit a) (λ x g. row-fits c x (c .agent x) (agent-fits x g)) (λ x. fit-empty freshAgent refl refl)
-      ; few = few
-      ; ok = agent-all c (λ x a. Ok (c .land) (c .lock) x a) agent-is (λ x. ok8 refl (unused-none freshAgent refl))
-      ; locks = lock-kept
-      ; mover = mover-holds c small few travellers
-      ; single = λ x y. single-holds c small few travellers x y (homes x) }
+    sound-holds = record {
+      places = places;
+      homes = homes;
+      fit = agent-all c (λ _ a. Fit a) (λ x g. row-fits c x (c .agent x) (agent-fits x g)) (λ x. fit-empty freshAgent refl refl);
+      few = few;
+      ok = agent-all c (λ x a. Ok (c .land) (c .lock) x a) agent-is (λ x. ok8 refl (unused-none freshAgent refl));
+      locks = lock-kept;
+      mover = mover-holds c small few travellers;
+      single = λ x y. single-holds c small few travellers x y (homes x);
+    }

@@ -31,11 +31,12 @@ range-true x r = rw (le-leb 1 (x .kind) (r .low), le-leb (x .kind) 3 (r .high), 
 
 range-holds : (x : Action) → actionFits x ≡ true → InRange x
 range-holds x e =
-  let rest = and-right (leb 1 (x .kind)) _ e in
-  record
-    { low = leb-true _ _ (and-left (leb 1 (x .kind)) _ e)
-    ; high = leb-true _ _ (and-left (leb (x .kind) 3) _ rest)
-    ; named = leb-true _ _ (and-right (leb (x .kind) 3) _ rest) }
+    let rest = and-right (leb 1 (x .kind)) _ e in
+    record {
+      low = leb-true _ _ (and-left (leb 1 (x .kind)) _ e);
+      high = leb-true _ _ (and-left (leb (x .kind) 3) _ rest);
+      named = leb-true _ _ (and-right (leb (x .kind) 3) _ rest);
+    }
 
 -- ---- a row
 
@@ -43,8 +44,8 @@ good-tab : (f : ℕ → Action) (n k : ℕ) → ((j : ℕ) → k ≤ j → j < k
 unfolding tab
 good-tab f zero k h = none
 good-tab f (suc n) k h =
-  let r = h k (omega arith) (omega arith) in
-  more (r .low) (r .high) (r .named) (good-tab f n (suc k) (λ j l m. h j (omega arith) (omega arith)))
+    let r = h k (omega arith) (omega arith) in
+    more (r .low) (r .high) (r .named) (good-tab f n (suc k) (λ j l m. h j (omega arith) (omega arith)))
 
 good-at : (f : ℕ → Action) (n k j : ℕ) → Good (tab f n k) → k ≤ j → j < k + n → InRange (f j)
 unfolding tab
@@ -61,6 +62,7 @@ module _ (a : Agent) where
   unfolding unused
   fit-at f j l m = good-at (λ i. getD (a .actions) i noAction) (a .count - a .next) (a .next) j (f .good) l (omega (arith, f .ordered))
 
+  -- so a row with every action in range fits
   pub fit-from : a .next ≤ a .count → a .count ≤ 16 → ((j : ℕ) → a .next ≤ j → j < a .count → InRange (getD (a .actions) j noAction)) → Fit a
   unfolding unused
   fit-from o f h = record { ordered = o; few = f; good = good-tab _ _ _ (λ j l m. h j l (omega arith)) }
@@ -73,7 +75,7 @@ module _ (a : Agent) where
   pub fit-true : Fit a → actionsFit a ≡ true
   unfolding actionsFit
   fit-true f = rw (le-leb (a .next) (a .count) (f .ordered), le-leb (a .count) 16 (f .few))
-    (all-yes (actionAt a) 16 (λ j _. go j (told (ltb j (a .next))) (told (ltb j (a .count)))))
+      (all-yes (actionAt a) 16 (λ j _. go j (told (ltb j (a .next))) (told (ltb j (a .count)))))
     where
       go : (j : ℕ) → Told (ltb j (a .next)) → Told (ltb j (a .count)) → actionAt a j ≡ true
       go j (yea e) _ = rw e
@@ -84,14 +86,14 @@ module _ (a : Agent) where
   pub fit-holds : actionsFit a ≡ true → Fit a
   unfolding actionsFit
   fit-holds e =
-    let rest = and-right (leb (a .next) (a .count)) _ e in
-    let few = leb-true (a .count) 16 (and-left (leb (a .count) 16) _ rest) in
-    fit-from (leb-true _ _ (and-left (leb (a .next) (a .count)) _ e)) few
+      let rest = and-right (leb (a .next) (a .count)) _ e in
+      let few = leb-true (a .count) 16 (and-left (leb (a .count) 16) _ rest) in
+      fit-from (leb-true _ _ (and-left (leb (a .next) (a .count)) _ e)) few
       (λ j l m. range-holds _ (rw (le-ltb j (a .next) l, lt-ltb j (a .count) m) at
-        (all-at (actionAt a) 16 j (omega arith) (and-right (leb (a .count) 16) _ rest))))
+      (all-at (actionAt a) 16 j (omega arith) (and-right (leb (a .count) 16) _ rest))))
 
   -- an empty row has no action left
   pub none-left : unused a ≡ [] → hasAction a ≡ false
   unfolding unused
   none-left e = let n : a .count - a .next ≡ 0 = sym (length-tab (λ j. getD (a .actions) j noAction) (a .count - a .next) (a .next)) ∙ ap length e in
-    le-ltb (a .next) (a .count) (omega arith)
+      le-ltb (a .next) (a .count) (omega arith)

@@ -21,6 +21,7 @@ use Rattle.demands.specs.SoundTestStages.{firstAt, secondAt, first-at, s
 -- ---- a lock
 
 module _ (c : State) (x q : ℕ) where
+  -- the lock of a place in use is x's: the test and the proposition
   lock-true : c .land .used q ≡ true → Has (c .lock) q x → lockIs c x q ≡ true
   unfolding lockIs
   lock-true u h = rw (u, eq-eqb (c .lock q) x (h .by)) (go (eqb q none))
@@ -53,11 +54,12 @@ module _ (c : State) (x : ℕ) (a : Agent) where
   ready-holds : Fit a → readyTest ≡ true → Ready l a
   unfolding ready
   ready-holds f e =
-    let rest = and-right (hasAction a) _ e in
-    record
-      { some = kind-some a f (and-left (hasAction a) _ e)
-      ; known = and-left (l .used (a .remembered)) _ rest
-      ; opener = λ k. eqb-true _ _ (rw (eq-eqb (kindOf a) 3 k) at (and-right (l .used (a .remembered)) _ rest)) }
+      let rest = and-right (hasAction a) _ e in
+      record {
+        some = kind-some a f (and-left (hasAction a) _ e);
+        known = and-left (l .used (a .remembered)) _ rest;
+        opener = λ k. eqb-true _ _ (rw (eq-eqb (kindOf a) 3 k) at (and-right (l .used (a .remembered)) _ rest));
+      }
 
   -- ---- the whole agent
 
@@ -74,13 +76,19 @@ module _ (c : State) (x : ℕ) (a : Agent) where
   abbrev second : ℕ → ℕ
   second n = secondAt a (standsIn l (a .home)) n
 
+  -- an agent that is as its stage says passes the test
   pub agent-true : Places l → l .used (a .home) ≡ true → Fit a → Ok l (c .lock) x a → agentFits c x a ≡ true
   unfolding agentFits stageFits holdsBoth
   agent-true p u f o = go o
     where
       at : (n : ℕ) → a .stage ≡ n → stageTest n ≡ true → lockIs c x (firstAt a n) ≡ true → lockIs c x (second n) ≡ true → agentFits c x a ≡ true
-      at n s t first other = rw (fit-true a f, ap stageTest s ∙ t, ap (lockIs c x) (first-at a n s) ∙ first,
-        ap (lockIs c x) (second-at a (standsIn l (a .home)) n s) ∙ other, u)
+      at n s t first other = rw (
+        fit-true a f,
+        ap stageTest s ∙ t,
+        ap (lockIs c x) (first-at a n s) ∙ first,
+        ap (lockIs c x) (second-at a (standsIn l (a .home)) n s) ∙ other,
+        u,
+      )
 
       free : lockIs c x none ≡ true
       free = unfold lockIs in refl
@@ -95,9 +103,9 @@ module _ (c : State) (x : ℕ) (a : Agent) where
       go (ok1 s r) = at 1 s (ready-true r) free free
       go (ok2 s r h) = at 2 s (ready-true r) (lock-true c x _ (r .known) h) free
       go (ok3-move s r k h₁ h₂ v t) = at 3 s (rw (ready-true r) (move (kind-of a f (r .some)) k (under-of l _ _ v) (λ e. under-of l _ _ (t e))))
-        (lock-true c x _ (r .known) h₁) (rw (second-move (kindOf a) (a .home) (a .chosen) k) (lock-true c x _ u h₂))
+          (lock-true c x _ (r .known) h₁) (rw (second-move (kindOf a) (a .home) (a .chosen) k) (lock-true c x _ u h₂))
       go (ok3-open s r k h₁ h₂ v) = at 3 s (rw (ready-true r, k, under-of l _ _ v))
-        (lock-true c x _ (r .known) h₁) (rw (second-open (kindOf a) (a .home) (a .chosen) k) (lock-true c x _ (link-used l _ (v .link)) h₂))
+          (lock-true c x _ (r .known) h₁) (rw (second-open (kindOf a) (a .home) (a .chosen) k) (lock-true c x _ (link-used l _ (v .link)) h₂))
       go (ok4 s w) = at 4 s refl free free
       go (ok5 s w h) = at 5 s refl (lock-true c x _ u h) free
       go (ok6 s w h₁ h₂) = at 6 s refl (lock-true c x _ u h₁) (rw (stands-parent l (a .home) u) (lock-true c x _ (p .parent-used (a .home)) h₂))
@@ -110,6 +118,7 @@ module _ (c : State) (x : ℕ) (a : Agent) where
   locksTest = lockIs c x (firstHeld a) && lockIs c x (secondHeldIn c a)
 
   module _ (e : agentFits c x a ≡ true) where
+    -- an agent that passes it lives in a place in use, has the locks that it claims, and its row fits
     pub home-holds : l .used (a .home) ≡ true
     unfolding agentFits
     home-holds = and-left (l .used (a .home)) _ e
@@ -129,7 +138,7 @@ module _ (c : State) (x : ℕ) (a : Agent) where
 
   -- an agent that passes the test is as its stage says; that the place of one at stages 4 to 6 is on its way, the count of these says
   pub agent-holds : ((q : ℕ) → l .used q ≡ true → q < 64) → x < 64 → l .used (parentIn l (a .home)) ≡ true → (Travels a → Away l a)
-    → agentFits c x a ≡ true → Ok l (c .lock) x a
+      → agentFits c x a ≡ true → Ok l (c .lock) x a
   unfolding stageFits holdsBoth
   agent-holds small low above away e = go (a .stage) refl (and-left (stageTest (a .stage)) _ (stage-holds e)) first other
     where
@@ -153,34 +162,41 @@ module _ (c : State) (x : ℕ) (a : Agent) where
       on-way n s lo hi = away (record { from = omega arith; to = omega arith })
 
       over : (n : ℕ) → 9 ≤ n → stageTest n ≡ false
-      over n m = rw (ne-eqb n 0 (λ z. absurd (omega arith)), lt-leb n 2 (omega arith), lt-leb n 3 (omega arith), lt-leb n 6 (omega arith),
-        lt-leb n 7 (omega arith), lt-leb n 8 (omega arith))
+      over n m = rw (
+        ne-eqb n 0 (λ z. absurd (omega arith)),
+        lt-leb n 2 (omega arith),
+        lt-leb n 3 (omega arith),
+        lt-leb n 6 (omega arith),
+        lt-leb n 7 (omega arith),
+        lt-leb n 8 (omega arith),
+      )
 
       three : Kind (kindOf a) → a .stage ≡ 3 → Ready l a → Has (c .lock) (a .remembered) x → holdsBoth (kindOf a) here there ≡ true
-        → lockIs c x (secondPlace (kindOf a) (a .home) (a .chosen)) ≡ true → Ok l (c .lock) x a
+          → lockIs c x (secondPlace (kindOf a) (a .home) (a .chosen)) ≡ true → Ok l (c .lock) x a
       three (is-enter k) s r h t m =
-        let b : (here && there) ≡ true = rw k at t in
-        ok3-move s r (omega arith) h (has (a .home) home (rw (second-move (kindOf a) (a .home) (a .chosen) (omega arith)) at m))
+          let b : (here && there) ≡ true = rw k at t in
+          ok3-move s r (omega arith) h (has (a .home) home (rw (second-move (kindOf a) (a .home) (a .chosen) (omega arith)) at m))
           (under-fits l _ _ (and-left here there b)) (λ _. under-fits l _ _ (and-right here there b))
       three (is-exit k) s r h t m =
-        ok3-move s r (omega arith) h (has (a .home) home (rw (second-move (kindOf a) (a .home) (a .chosen) (omega arith)) at m))
+          ok3-move s r (omega arith) h (has (a .home) home (rw (second-move (kindOf a) (a .home) (a .chosen) (omega arith)) at m))
           (under-fits l _ _ (rw k at t)) (λ z. absurd (omega arith))
       three (is-open k) s r h t m =
-        let b : there ≡ true = rw k at t in
-        let v = under-fits l (a .chosen) (a .remembered) b in
-        ok3-open s r k h (has (a .chosen) (link-used l _ (v .link)) (rw (second-open (kindOf a) (a .home) (a .chosen) k) at m)) v
+          let b : there ≡ true = rw k at t in
+          let v = under-fits l (a .chosen) (a .remembered) b in
+          ok3-open s r k h (has (a .chosen) (link-used l _ (v .link)) (rw (second-open (kindOf a) (a .home) (a .chosen) k) at m)) v
 
       go : (n : ℕ) → a .stage ≡ n → stageTest n ≡ true → lockIs c x (firstAt a n) ≡ true → lockIs c x (second n) ≡ true → Ok l (c .lock) x a
       go zero s t p m = ok0 s (kind-some a fit t)
       go (suc zero) s t p m = ok1 s (ready-holds fit t)
       go (suc (suc zero)) s t p m = let r = ready-holds fit t in ok2 s r (has (a .remembered) (r .known) p)
       go (suc (suc (suc zero))) s t p m =
-        let r = ready-holds fit (and-left readyTest _ t) in
-        three (kind-of a fit (r .some)) s r (has (a .remembered) (r .known) p) (and-right readyTest _ t) m
+          let r = ready-holds fit (and-left readyTest _ t) in
+          three (kind-of a fit (r .some)) s r (has (a .remembered) (r .known) p) (and-right readyTest _ t) m
       go (suc (suc (suc (suc zero)))) s t p m = ok4 s (on-way 4 s (omega arith) (omega arith))
       go (suc (suc (suc (suc (suc zero))))) s t p m = ok5 s (on-way 5 s (omega arith) (omega arith)) (has (a .home) home p)
       go (suc (suc (suc (suc (suc (suc zero)))))) s t p m = ok6 s (on-way 6 s (omega arith) (omega arith)) (has (a .home) home p)
-        (has (parentIn l (a .home)) above (rw (stands-parent l (a .home) home) at m))
+          (has (parentIn l (a .home)) above (rw (stands-parent l (a .home) home) at m))
       go (suc (suc (suc (suc (suc (suc (suc zero))))))) s t p m = ok7 s (kind-some a fit (and-left (hasAction a) _ t)) (and-right (hasAction a) _ t)
       go (suc (suc (suc (suc (suc (suc (suc (suc zero)))))))) s t p m = ok8 s (unused-none a (not-true (hasAction a) t))
-      go (suc (suc (suc (suc (suc (suc (suc (suc (suc n))))))))) s t p m = clash t (over (suc (suc (suc (suc (suc (suc (suc (suc (suc n))))))))) (omega arith))
+      go (suc (suc (suc (suc (suc (suc (suc (suc (suc n))))))))) s t p m = clash t
+          (over (suc (suc (suc (suc (suc (suc (suc (suc (suc n))))))))) (omega arith))

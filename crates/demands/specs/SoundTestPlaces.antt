@@ -39,16 +39,22 @@ module _ (l : Land) where
     closed-true : Closed
     closed-true q u = subst (λ (r : ℕ). l .used r ≡ true) (parent-read l q u) (p .parent-used q)
 
+    -- every place in use leads to the floor
     pub leads-true : (q : ℕ) → l .used q ≡ true → iter parent 64 q ≡ 0
     leads-true q u = same-way closed-true 64 q u ∙ iter-out (parentIn l) 63 q
-      ∙ ap (parentIn l) (sixty-three (parentIn l) (p .floor-parent) (λ r _. p .small _ (p .parent-used r)) (p .small q u) (p .tree q)) ∙ p .floor-parent
+        ∙ ap (parentIn l) (sixty-three (parentIn l) (p .floor-parent) (λ r _. p .small _ (p .parent-used r)) (p .small q u) (p .tree q))
+        ∙ p .floor-parent
 
+    -- and stands as the test asks
     pub stands-true : (q : ℕ) → l .used q ≡ true → stands q (l .place q) (l .used (parent q)) ≡ true
     stands-true q u = go (eq? q 0)
       where
         floor : stands 0 (l .place 0) (l .used (parent 0)) ≡ true
-        floor = rw (eq-eqb (l .place 0 .name) 0 (sym (name-read l 0 (p .floor-used)) ∙ p .floor-name),
-          eq-eqb (parent 0) 0 (sym (parent-read l 0 (p .floor-used)) ∙ p .floor-parent), way-read (p .floor-used) (p .floor-link))
+        floor = rw (
+          eq-eqb (l .place 0 .name) 0 (sym (name-read l 0 (p .floor-used)) ∙ p .floor-name),
+          eq-eqb (parent 0) 0 (sym (parent-read l 0 (p .floor-used)) ∙ p .floor-parent),
+          way-read (p .floor-used) (p .floor-link),
+        )
 
         go : (q ≡ 0) ⊎ (q ≢ 0) → stands q (l .place q) (l .used (parent q)) ≡ true
         go (inl e) = ap (λ (r : ℕ). stands r (l .place r) (l .used (parent r))) e ∙ floor
@@ -86,16 +92,18 @@ module _ (l : Land) where
     unfolding parentIn
     not-used q e = rw e
 
+    -- places that pass the tests are one tree
     pub places-hold : Places l
-    places-hold = record
-      { floor-used = floor
-      ; floor-parent = parent-zero
-      ; floor-link = unfold linked in rw (floor, not-true (eqb (l .place 0 .way) 0) (and-right (eqb (parent 0) 0) _ floor-rest))
-      ; floor-name = name-read l 0 floor ∙ eqb-true _ _ (and-left (eqb (l .place 0 .name) 0) _ floor-is)
-      ; tree = λ q. tree q (told (l .used q))
-      ; parent-used = λ q. above q (told (l .used q))
-      ; small = small
-      ; named = λ q u n. subst (λ (k : ℕ). 1 ≤ k) (sym (name-read l q u)) (leb-true _ _ (and-left (leb 1 (l .place q .name)) _ (placed q u n))) }
+    places-hold = record {
+      floor-used = floor;
+      floor-parent = parent-zero;
+      floor-link = unfold linked in rw (floor, not-true (eqb (l .place 0 .way) 0) (and-right (eqb (parent 0) 0) _ floor-rest));
+      floor-name = name-read l 0 floor ∙ eqb-true _ _ (and-left (eqb (l .place 0 .name) 0) _ floor-is);
+      tree = λ q. tree q (told (l .used q));
+      parent-used = λ q. above q (told (l .used q));
+      small = small;
+      named = λ q u n. subst (λ (k : ℕ). 1 ≤ k) (sym (name-read l q u)) (leb-true _ _ (and-left (leb 1 (l .place q .name)) _ (placed q u n)));
+    }
       where
         tree : (q : ℕ) → Told (l .used q) → Up (parentIn l) q
         tree q (yea u) = up-of (parentIn l) parent-zero 64 (sym (same-way closed 64 q u) ∙ leads q u)

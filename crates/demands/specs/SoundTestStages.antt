@@ -36,6 +36,7 @@ module _ (a : Agent) where
   abbrev pub secondAt : ℕ → ℕ → ℕ
   secondAt d n = cond (eqb n 3) (secondPlace (kindOf a) (a .home) (a .chosen)) (cond (eqb n 6) d none)
 
+  -- they are what the test reads
   pub first-at : (n : ℕ) → a .stage ≡ n → firstHeld a ≡ firstAt n
   unfolding firstHeld
   first-at n e = ap firstAt e
@@ -55,7 +56,8 @@ module _ (a : Agent) where
   first-own lo hi = rw (le-ltb (a .stage) 2 (omega arith), lt-leb (a .stage) 3 (omega arith), le-ltb (a .stage) 5 lo, le-leb (a .stage) 6 hi)
 
   -- what its stage holds is one of the two numbers
-  pub holds-true : (c : State) (q : ℕ) → c .land .used (a .home) ≡ true → Holds (c .land) a q → (eqb q (firstHeld a) || eqb q (secondHeldIn c a)) ≡ true
+  pub holds-true : (c : State) (q : ℕ) → c .land .used (a .home) ≡ true → Holds (c .land) a q
+      → (eqb q (firstHeld a) || eqb q (secondHeldIn c a)) ≡ true
   holds-true c q u h = go h
     where
       first : q ≡ firstHeld a → (eqb q (firstHeld a) || eqb q (secondHeldIn c a)) ≡ true
@@ -93,6 +95,7 @@ module _ (a : Agent) where
 
   -- ---- where it goes from
 
+  -- an agent at stages 4 to 6 goes from its home, and one that goes from a place is at these stages and lives there
   pub travels-true : Travels a → goingFrom a ≡ a .home
   unfolding goingFrom
   travels-true t = rw (le-ltb (a .stage) 4 (t .from), le-leb (a .stage) 6 (t .to))

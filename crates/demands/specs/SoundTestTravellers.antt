@@ -17,7 +17,7 @@ use Rattle.demands.specs.ReadingLaws.{agent-given}
 use Rattle.demands.specs.Invariant.{Away, Travels, Mover, Sound}
 use Rattle.demands.specs.Facts.{not-yes}
 use Rattle.demands.specs.Stages.{travels-away}
-use Rattle.demands.specs.SoundTestGiven.{stage-given}
+use Rattle.demands.specs.Given.{stage-given}
 use Rattle.demands.specs.SoundTestCounts.{count-some, count-found, count-most, count-single}
 use Rattle.demands.specs.SoundTestStages.{travels-true, travels-holds}
 
@@ -27,14 +27,15 @@ module _ (c : State) where
   goes-true : (q x : ℕ) → Travels (agentIn c x) → agentIn c x .home ≡ q → goes c q x ≡ true
   unfolding goes
   goes-true q x t e =
-    let g = stage-given c x (λ z. absurd (omega (arith, t .to))) in
-    rw (g, eq-eqb q (goingFrom (c .agent x)) (sym e ∙ sym (travels-true (agentIn c x) t) ∙ ap goingFrom (agent-given c x g)))
+      let g = stage-given c x (λ z. absurd (omega (arith, t .to))) in
+      rw (g, eq-eqb q (goingFrom (c .agent x)) (sym e ∙ sym (travels-true (agentIn c x) t) ∙ ap goingFrom (agent-given c x g)))
 
   goes-holds : (q x : ℕ) → q < 64 → goes c q x ≡ true → (agentIn c x .home ≡ q) × Travels (agentIn c x)
   unfolding goes
   goes-holds q x l e =
-    let g = and-left (c .given x) _ e in
-    travels-holds (agentIn c x) q (eqb-true _ _ (and-right (c .given x) (eqb q (goingFrom (c .agent x))) e) ∙ ap goingFrom (sym (agent-given c x g)))
+      let g = and-left (c .given x) _ e in
+      travels-holds (agentIn c x) q (eqb-true _ _ (and-right (c .given x) (eqb q (goingFrom (c .agent x))) e)
+      ∙ ap goingFrom (sym (agent-given c x g)))
       (λ z. absurd (omega arith))
 
   -- how many go from q
@@ -50,29 +51,30 @@ module _ (c : State) where
 
   -- ---- from the proposition to the test
 
-  module _ (s : Sound c) where
+  module _ (i : Sound c) where
     none-go : (q : ℕ) → q < 64 → (linked (c .land) q ≡ true) ⊎ (q ≡ 0) → going q ≡ 0
     none-go q l d = count-none (goes c q) 64 (λ x _. not-yes _ (λ e. bad x (goes-holds q x l e) d))
       where
         bad : (x : ℕ) → (agentIn c x .home ≡ q) × Travels (agentIn c x) → (linked (c .land) q ≡ true) ⊎ (q ≡ 0) → ⊥
-        bad x v (inl k) = clash (ap (linked (c .land)) (v .0) ∙ k) (travels-away (v .1) (s .ok x) .loose)
-        bad x v (inr z) = travels-away (v .1) (s .ok x) .placed (v .0 ∙ z)
+        bad x v (inl k) = clash (ap (linked (c .land)) (v .0) ∙ k) (travels-away (v .1) (i .ok x) .loose)
+        bad x v (inr z) = travels-away (v .1) (i .ok x) .placed (v .0 ∙ z)
 
     one-goes : (q : ℕ) → c .land .used q ≡ true → q ≢ 0 → linked (c .land) q ≡ false → going q ≡ 1
     one-goes q u n k =
-      let m = s .mover q u n k in
-      let l = s .places .small q u in
-      let low = count-some (goes c q) 64 (m .who) (s .few (m .who) (stage-given c (m .who) (λ z. absurd (omega (arith, m .goes .to)))))
-            (goes-true q (m .who) (m .goes) (m .lives)) in
-      let high = count-most (goes c q) 64 (λ i j _ _ e f. let v = goes-holds q i l e in let w = goes-holds q j l f in
-            s .single i j (v .1) (w .1) (v .0 ∙ sym (w .0))) in
-      omega arith
+        let m = i .mover q u n k in
+        let l = i .places .small q u in
+        let low = count-some (goes c q) 64 (m .who) (i .few (m .who) (stage-given c (m .who) (λ z. absurd (omega (arith, m .goes .to)))))
+        (goes-true q (m .who) (m .goes) (m .lives)) in
+        let high = count-most (goes c q) 64 (λ x y _ _ e f. let v = goes-holds q x l e in let w = goes-holds q y l f in
+        i .single x y (v .1) (w .1) (v .0 ∙ sym (w .0))) in
+        omega arith
 
+    -- a sound cell has as many as the test asks for
     pub travellers-true : (q : ℕ) → c .land .used q ≡ true → travellersFit q (way q) (going q) ≡ true
     travellers-true q u = go (eq? q 0) (told (eqb (way q) 0))
       where
         l : q < 64
-        l = s .places .small q u
+        l = i .places .small q u
 
         go : (q ≡ 0) ⊎ (q ≢ 0) → Told (eqb (way q) 0) → travellersFit q (way q) (going q) ≡ true
         go (inl z) _ = rw (eq-eqb q 0 z, none-go q l (inr z))
@@ -106,15 +108,17 @@ module _ (c : State) where
         linked-no e (inl z) = omega (arith, some, floor-no z)
         linked-no e (inr n) = let z : going h ≡ 0 = count-is h u ∙ rw (ne-eqb h 0 n, e) in omega (arith, some)
 
+    -- a place on its way has an agent that goes from it
     pub mover-holds : (q : ℕ) → c .land .used q ≡ true → q ≢ 0 → linked (c .land) q ≡ false → Mover (agentIn c) q
     mover-holds q u n k =
-      let one : going q ≡ 1 = count-is q u ∙ rw (ne-eqb q 0 n, sym (link-way q u) ∙ k) in
-      let f = count-found (goes c q) 64 (omega arith) in
-      let v = goes-holds q (f .0) (small q u) (f .1 .1) in
-      record { who = f .0; lives = v .0; goes = v .1 }
+        let one : going q ≡ 1 = count-is q u ∙ rw (ne-eqb q 0 n, sym (link-way q u) ∙ k) in
+        let f = count-found (goes c q) 64 (omega arith) in
+        let v = goes-holds q (f .0) (small q u) (f .1 .1) in
+        record { who = f .0; lives = v .0; goes = v .1 }
 
+    -- and only one
     pub single-holds : (x y : ℕ) → c .land .used (agentIn c x .home) ≡ true → Travels (agentIn c x) → Travels (agentIn c y)
-      → agentIn c x .home ≡ agentIn c y .home → x ≡ y
+        → agentIn c x .home ≡ agentIn c y .home → x ≡ y
     single-holds x y u t v e = count-single (goes c h) 64 x y (most (eqb h 0) (eqb (way h) 0) (count-is h u)) (low x t) (low y v)
         (goes-true h x t refl) (goes-true h y v (sym e))
       where

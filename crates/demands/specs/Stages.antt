@@ -1,7 +1,7 @@
 -- What the invariant says of an agent by its stage: its facts, what it holds, and that giving back two places frees exactly its locks.
 -- By cases on the constructors of Ok and Holds; all but those of the stage in question are out of range.
 use mathlib.Core.Path.{_≡_, sym, ap, _∙_, subst}
-use mathlib.Core.Logic.{_≢_, _⊎_, inl, inr}
+use mathlib.Core.Logic.{_≢_, _⊎_, inl, inr, ⊎-elim}
 use mathlib.Core.List.{[]}
 use mathlib.Core.Bool.{true}
 use Prim.Native.Nat.{ℕ, zero, suc, _≤_}
@@ -17,6 +17,7 @@ use Rattle.demands.specs.ReadingLaws.{agent-given}
 use Rattle.demands.specs.Invariant.{Under, Has, Fit, Ready, Away, Travels, Sound}
 use Rattle.demands.specs.Invariant.{Ok, ok0, ok1, ok2, ok3-move, ok3-open, ok4, ok5, ok6, ok7, ok8}
 use Rattle.demands.specs.Invariant.{Holds, near, far, own, destination, Kept, free, kept}
+use Rattle.demands.specs.Given.{stage-given}
 use Rattle.demands.specs.Actions.{kind-some, unused-none}
 use Rattle.demands.specs.Facts.{second-move, second-open}
 
@@ -101,15 +102,33 @@ rest-stage a = go (told (hasAction a))
     go (yea e) = inl (rw e)
     go (nay e) = inr (rw e)
 
+-- an agent at one of these two is at none of 1 to 7
+pub not-between : {s : ℕ} → (s ≡ 0) ⊎ (s ≡ 8) → 1 ≤ s → s ≤ 7 → ⊥
+not-between (inl e) lo hi = omega arith
+not-between (inr e) lo hi = omega arith
+
+-- what another agent's step leaves of agent a: it is b, which is a, or at stage 0 or 8
+abbrev pub SameOrReset : Agent → Agent → Type 0
+SameOrReset a b = (b ≡ a) ⊎ ((b .stage ≡ 0) ⊎ (b .stage ≡ 8))
+
+-- so at stages 1 to 7 it is as it was
+pub same-between : {a b : Agent} → SameOrReset a b → 1 ≤ b .stage → b .stage ≤ 7 → b ≡ a
+same-between (inl e) lo hi = e
+same-between (inr r) lo hi = absurd (not-between r lo hi)
+
 -- ---- what a stage holds
 
 module _ {l : Land} {a : Agent} {q : ℕ} where
-  -- at 0, 1 and 4 nothing, at 2 the remembered place, at 3 the second one too, at 5 its home, at 6 the destination too
+  -- an agent that holds a place is at stages 2 to 6
+  pub holds-between : Holds l a q → (2 ≤ a .stage) × (a .stage ≤ 6)
+  holds-between (near lo hi e) = (lo, omega arith)
+  holds-between (far s e) = (omega arith, omega arith)
+  holds-between (own lo hi e) = (omega arith, hi)
+  holds-between (destination s e) = (omega arith, omega arith)
+
+  -- at 0, 1 and 4 it holds nothing, at 2 the remembered place, at 3 the second one too, at 5 its home, at 6 the destination too
   pub holds-none : a .stage ≤ 1 → Holds l a q → ⊥
-  holds-none s (near lo hi e) = omega arith
-  holds-none s (far lo e) = omega arith
-  holds-none s (own lo hi e) = omega arith
-  holds-none s (destination lo e) = omega arith
+  holds-none s h = omega (arith, holds-between h .0)
 
   pub holds-four : a .stage ≡ 4 → Holds l a q → ⊥
   holds-four s (near lo hi e) = omega arith
@@ -141,35 +160,39 @@ module _ {l : Land} {a : Agent} {q : ℕ} where
   holds-six s (own lo hi e) = inl e
   holds-six s (destination lo e) = inr e
 
-  -- an agent that holds a place is not asleep
-  pub holds-awake : Holds l a q → a .stage ≢ 7
-  holds-awake (near lo hi e) s = omega arith
-  holds-awake (far lo e) s = omega arith
-  holds-awake (own lo hi e) s = omega arith
-  holds-awake (destination lo e) s = omega arith
-
 -- ---- an agent that is given
+
+-- an agent that holds a place is
+pub holds-given : (c : State) (x : ℕ) {q : ℕ} → Holds (c .land) (agentIn c x) q → c .given x ≡ true
+holds-given c x h = stage-given c x (λ e. omega (arith, holds-between h .1))
 
 -- the locks of x given back: those of others stay, and no place in use is x's any more
 pub record Returned (c : State) (x : ℕ) (lock′ : ℕ → ℕ) : Type 0 where
   pub others : (r : ℕ) → c .lock r ≢ x → lock′ r ≡ c .lock r
   pub ours : (r : ℕ) → c .land .used r ≡ true → c .lock r ≡ x → lock′ r ≡ none
 
-module _ (c : State) (s : Sound c) (x : ℕ) (g : c .given x ≡ true) where
+module _ (c : State) (i : Sound c) (x : ℕ) (g : c .given x ≡ true) where
   -- what is read of it is what it is
   pub ok-given : Ok (c .land) (c .lock) x (c .agent x)
-  ok-given = subst (Ok (c .land) (c .lock) x) (agent-given c x g) (s .ok x)
+  ok-given = subst (Ok (c .land) (c .lock) x) (agent-given c x g) (i .ok x)
 
   pub fit-given : Fit (c .agent x)
-  fit-given = subst Fit (agent-given c x g) (s .fit x)
+  fit-given = subst Fit (agent-given c x g) (i .fit x)
 
   pub home-given : c .land .used (c .agent x .home) ≡ true
-  home-given = subst (λ (a : Agent). c .land .used (a .home) ≡ true) (agent-given c x g) (s .homes x)
+  home-given = subst (λ (a : Agent). c .land .used (a .home) ≡ true) (agent-given c x g) (i .homes x)
+
+  -- at stage 3 it holds both places of its action
+  pub both-move : c .agent x .stage ≡ 3 → kindOf (c .agent x) ≤ 2 → BothMove (c .land) (c .lock) x (c .agent x)
+  both-move n k = ⊎-elim (λ m. m) (λ o. absurd (omega (arith, o .kind))) (ok-at 3 n ok-given .2)
+
+  pub both-open : c .agent x .stage ≡ 3 → kindOf (c .agent x) ≡ 3 → BothOpen (c .land) (c .lock) x (c .agent x)
+  both-open n k = ⊎-elim (λ m. absurd (omega (arith, m .kind))) (λ o. o) (ok-at 3 n ok-given .2)
 
   -- releasing p and q gives back all of x's locks, where these are all that its stage holds
   pub returned : (p q : ℕ) → Has (c .lock) p x → Has (c .lock) q x → ((r : ℕ) → Holds (c .land) (c .agent x) r → (r ≡ p) ⊎ (r ≡ q))
-    → Returned c x (released (c .lock) p q)
-  returned p q hp hq all = record { others = others; ours = λ r u e. go r e (s .locks r u) }
+      → Returned c x (released (c .lock) p q)
+  returned p q hp hq all = record { others = others; ours = λ r u e. go r e (i .locks r u) }
     where
       others : (r : ℕ) → c .lock r ≢ x → released (c .lock) p q r ≡ c .lock r
       others r n = upd-other _ q r none (λ e. n (ap (c .lock) e ∙ hq .by)) ∙ upd-other (c .lock) p r none (λ e. n (ap (c .lock) e ∙ hp .by))
@@ -192,11 +215,11 @@ module _ (c : State) (s : Sound c) (x : ℕ) (g : c .given x ≡ true) where
 
   -- stage 3 the remembered and the second place
   pub returned-three : c .agent x .stage ≡ 3
-    → Returned c x (released (c .lock) (c .agent x .remembered) (secondPlace (kindOf (c .agent x)) (c .agent x .home) (c .agent x .chosen)))
+      → Returned c x (released (c .lock) (c .agent x .remembered) (secondPlace (kindOf (c .agent x)) (c .agent x .home) (c .agent x .chosen)))
   returned-three n = let o = ok-at 3 n ok-given in returned _ _ (o .1) (second (o .2)) (λ r h. holds-three n h)
     where
       second : BothMove (c .land) (c .lock) x (c .agent x) ⊎ BothOpen (c .land) (c .lock) x (c .agent x)
-        → Has (c .lock) (secondPlace (kindOf (c .agent x)) (c .agent x .home) (c .agent x .chosen)) x
+          → Has (c .lock) (secondPlace (kindOf (c .agent x)) (c .agent x .home) (c .agent x .chosen)) x
       second (inl m) = subst (λ (r : ℕ). Has (c .lock) r x) (sym (second-move _ _ _ (m .kind))) (m .own)
       second (inr m) = subst (λ (r : ℕ). Has (c .lock) r x) (sym (second-open _ _ _ (m .kind))) (m .own)
 

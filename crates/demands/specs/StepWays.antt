@@ -15,7 +15,9 @@ use Rattle.meaning.specs.declared.Word.the-variants.{Took, Held}
 use Rattle.meaning.specs.Step.{step, stepAt, look, lockFirst, hold, lockSecond, act, travel, take, release, turn, still, choice, stays, fires}
 use Rattle.demands.specs.Reading.{parentIn}
 use Rattle.demands.specs.Invariant.{Sound, Ready, Ok, ok0, ok1, ok2, ok3-move, ok3-open, ok4, ok5, ok6, ok7, ok8}
-use Rattle.demands.specs.Ways.{Way, takesLock, is-done, is-asleep, held-first, held-second, held-own, held-destination, looks-up, looks-home, sleeps-alone, takes-first, goes-back, sleeps-stuck, takes-second, gives-up, enters, exits, opens, takes-own, takes-destination, comes}
+use Rattle.demands.specs.Ways.{Way, takesLock, is-done, is-asleep, held-first, held-second, held-own, held-destination, looks-up}
+use Rattle.demands.specs.Ways.{looks-home, sleeps-alone, takes-first, goes-back, sleeps-stuck, takes-second, gives-up, enters, exits}
+use Rattle.demands.specs.Ways.{opens, takes-own, takes-destination, comes}
 use Rattle.demands.specs.Facts.{parent-read}
 use Rattle.demands.specs.Actions.{kind-small}
 use Rattle.demands.specs.Stages.{ok-at, ok-given, fit-given, home-given}
@@ -31,7 +33,7 @@ module _ (c : State) (i : Sound c) (x : ℕ) (g : c .given x ≡ true) where
   module _ (w : ℕ) where
     -- a lock is free and taken, or it is not
     take-way : (q stage remembered chosen : ℕ) → (c .lock q ≡ none → Way c x w (still (takesLock c x q stage remembered chosen) Took))
-      → (c .lock q ≢ none → Way c x w (still c Held)) → Way c x w (take c x q (atStage (c .agent x) stage remembered chosen))
+        → (c .lock q ≢ none → Way c x w (still c Held)) → Way c x w (take c x q (atStage (c .agent x) stage remembered chosen))
     unfolding take
     take-way q stage remembered chosen f h = go (told (eqb (c .lock q) none))
       where
@@ -45,18 +47,20 @@ module _ (c : State) (i : Sound c) (x : ℕ) (g : c .given x ≡ true) where
       where
         two : eqb (kindOf (c .agent x)) 3 ≡ false → kindOf (c .agent x) ≤ 2
         two e = let n = eqb-false (kindOf (c .agent x)) 3 e in omega (arith, kind-given)
+
         go : Told (eqb (kindOf (c .agent x)) 3) → Told (linked (c .land) (c .agent x .home)) → Way c x w (look c x (c .agent x))
         go (yea e) _ = rw e (looks-home s (eqb-true (kindOf (c .agent x)) 3 e))
         go (nay e) (yea k) = rw (e, k) (rw (← parent-read (c .land) (c .agent x .home) (home-given c i x g)) (looks-up s (two e) k))
         go (nay e) (nay k) = rw (e, k) (sleeps-alone s (two e) k)
 
-    second-way : c .agent x .stage ≡ 2 → stays (c .land) (c .agent x) ≡ true → Way c x w (lockSecond c x (c .agent x) (choice (c .land) (c .agent x) w))
+    second-way : c .agent x .stage ≡ 2 → stays (c .land) (c .agent x) ≡ true
+        → Way c x w (lockSecond c x (c .agent x) (choice (c .land) (c .agent x) w))
     unfolding lockSecond release
     second-way s e = go (told (ltb (choice (c .land) (c .agent x) w) 64))
       where
         go : Told (ltb (choice (c .land) (c .agent x) w) 64) → Way c x w (lockSecond c x (c .agent x) (choice (c .land) (c .agent x) w))
         go (yea l) = let small = ltb-true (choice (c .land) (c .agent x) w) 64 l in
-          rw l (take-way _ _ _ _ (λ f. takes-second _ s e refl small f) (λ h. held-second s e small h))
+            rw l (take-way _ _ _ _ (λ f. takes-second _ s e refl small f) (λ h. held-second s e small h))
         go (nay l) = rw l (sleeps-stuck s e (ltb-false (choice (c .land) (c .agent x) w) 64 l))
 
     hold-way : c .agent x .stage ≡ 2 → Way c x w (hold c x (c .agent x) w)
@@ -73,12 +77,15 @@ module _ (c : State) (i : Sound c) (x : ℕ) (g : c .given x ≡ true) where
       where
         two : eqb (kindOf (c .agent x)) 3 ≡ false → eqb (kindOf (c .agent x)) 1 ≡ false → kindOf (c .agent x) ≡ 2
         two e d =
-          let n = eqb-false (kindOf (c .agent x)) 3 e in let m = eqb-false (kindOf (c .agent x)) 1 d in
-          omega (arith, kind-given, remembered-third s .some)
-        go : Told (fires (c .land) (c .agent x)) → Told (eqb (kindOf (c .agent x)) 3) → Told (eqb (kindOf (c .agent x)) 1) → Way c x w (act c x (c .agent x))
+            let n = eqb-false (kindOf (c .agent x)) 3 e in let m = eqb-false (kindOf (c .agent x)) 1 d in
+            omega (arith, kind-given, remembered-third s .some)
+
+        go : Told (fires (c .land) (c .agent x)) → Told (eqb (kindOf (c .agent x)) 3) → Told (eqb (kindOf (c .agent x)) 1)
+            → Way c x w (act c x (c .agent x))
         go (yea f) (yea e) _ = rw (f, e) (opens s (eqb-true (kindOf (c .agent x)) 3 e) f)
         go (yea f) (nay e) (yea d) = rw (f, e, d) (enters s (eqb-true (kindOf (c .agent x)) 1 d) f)
-        go (yea f) (nay e) (nay d) = rw (f, e, d) (rw (← parent-read (c .land) (c .agent x .remembered) (remembered-third s .known)) (exits s (two e d) f))
+        go (yea f) (nay e) (nay d) = rw (f, e, d) (rw (← parent-read (c .land) (c .agent x .remembered) (remembered-third s .known))
+            (exits s (two e d) f))
         go (nay f) _ _ = rw f (gives-up s f)
 
     destination : c .land .place (c .agent x .home) .parent ≡ parentIn (c .land) (c .agent x .home)
@@ -100,7 +107,8 @@ module _ (c : State) (i : Sound c) (x : ℕ) (g : c .given x ≡ true) where
         go (ok3-move s r k h₁ h₂ u v) = by-stage 3 s (act-way s)
         go (ok3-open s r k h₁ h₂ u) = by-stage 3 s (act-way s)
         go (ok4 s v) = by-stage 4 s (rw (ap (λ n. eqb n 4) s) (take-way _ _ _ _ (takes-own s) (held-own s)))
-        go (ok5 s v h) = by-stage 5 s (rw (ap (λ n. eqb n 4) s, ap (λ n. eqb n 5) s, destination) (take-way _ _ _ _ (takes-destination s) (held-destination s)))
+        go (ok5 s v h) = by-stage 5 s (rw (ap (λ n. eqb n 4) s, ap (λ n. eqb n 5) s, destination)
+            (take-way _ _ _ _ (takes-destination s) (held-destination s)))
         go (ok6 s v h₁ h₂) = by-stage 6 s (rw (ap (λ n. eqb n 4) s, ap (λ n. eqb n 5) s, destination) (comes s))
         go (ok7 s k u) = by-stage 7 s (is-asleep s)
         go (ok8 s n) = by-stage 8 s (is-done (omega arith))

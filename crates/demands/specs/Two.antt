@@ -25,19 +25,21 @@ use Rattle.calculus.specs.MoveCases.{MoveCase, move-case}
 use Rattle.demands.specs.Reading.{parentIn, agentIn}
 use Rattle.demands.specs.ReadingLaws.{agent-given}
 use Rattle.demands.specs.Invariant.{Under, Ready, Holds, Sound, Inv}
-use Rattle.demands.specs.Facts.{Kind, is-enter, is-exit, is-open, link-used, parent-read, exits-fits, choice-wish, under-of}
+use Rattle.demands.specs.Facts.{Kind, is-enter, is-exit, is-open, link-used, parent-read, exits-fits, under-of}
+use Rattle.demands.specs.Choice.{choice-wish}
 use Rattle.demands.specs.Actions.{kind-of, kind-small}
 use Rattle.demands.specs.Stages.{BothMove, BothOpen, ok-at, holds-none, holds-two, holds-four, holds-five}
 use Rattle.demands.specs.OpeningPlaces.{linked-not-floor, child-not-self}
 use Rattle.demands.specs.TreeOf.{tree-came, tree-left, tree-opened}
-use Rattle.demands.specs.SameTree.{given-home}
+use Rattle.demands.specs.SameTree.{given-beyond, move-enter, move-exit, move-open}
 use Rattle.demands.specs.AtRest.{no-move}
 use Rattle.demands.specs.Live.{second-under}
-use Rattle.demands.specs.Ahead.{looksAt, ahead-look, ahead-first, ahead-second, ahead-back, ahead-leave, ahead-open, ahead-own, ahead-destination, ahead-arrive}
+use Rattle.demands.specs.Ahead.{looksAt, ahead-look, ahead-first, ahead-second, ahead-back, ahead-leave, ahead-open, ahead-own}
+use Rattle.demands.specs.Ahead.{ahead-destination, ahead-arrive}
 use Rattle.demands.specs.TwoSteps.{Reaches}
 use Rattle.demands.specs.TwoAlone.{Low, rest-low, settled-low, low-whole}
-use Rattle.demands.specs.Permitted.{looks-same, Target, target, move-given, off-floor, move-enter, move-exit, move-open}
-use Rattle.demands.specs.TwoChain.{Alone, none-more, one-more, quiet, raise, own-ok, own-fit, own-used, free-at, whole}
+use Rattle.demands.specs.Permitted.{looks-same, Target, target, move-given, off-floor}
+use Rattle.demands.specs.TwoChain.{Alone, none-more, one-more, quiet-more, raise, own-ok, own-fit, own-used, free-at, whole}
 
 module _ (a : ℕ) where
   -- the cell, its places, and the agent
@@ -57,19 +59,21 @@ module _ (a : ℕ) where
 
   from-six : (t : Cell) → Alone t a → own t .stage ≡ 6 → Reaches 1 a t (tree t)
   unfolding arrive
-  from-six t p s = one-more 0 0 t _ (omega arith) p (ahead-arrive (cellOf t) a 0 s) (λ v q f. subst (Reaches 0 a v) (f .tree ∙ tree-came (cellOf t) a (p .given) _)
-    (none-more 0 v q (subst (λ (b : Agent). Low (b .stage)) (sym (ap (λ (h : ℕ → Agent). h a) (f .agent) ∙ upd-same _ a _)) (rest-low (own t)))))
+  from-six t p s = one-more 0 0 t _ (omega arith) p (ahead-arrive (cellOf t) a 0 s)
+      (λ v q f. subst (Reaches 0 a v) (f .tree ∙ tree-came (cellOf t) a (p .given) _)
+      (none-more 0 v q (subst (λ (b : Agent). Low (b .stage)) (sym (ap (λ (h : ℕ → Agent). h a) (f .agent) ∙ upd-same _ a _)) (rest-low (own t)))))
 
   from-five : (t : Cell) → Alone t a → own t .stage ≡ 5 → Reaches 2 a t (tree t)
-  from-five t p s = quiet 1 0 t 6 0 0 _ (omega arith) p (ahead-destination (cellOf t) a 0 s (own-used t p) (free-at t p _ (sound t p .places .parent-used _) apart))
+  from-five t p s = quiet-more 1 0 t 6 0 0 _ (omega arith) p
+      (ahead-destination (cellOf t) a 0 s (own-used t p) (free-at t p _ (sound t p .places .parent-used _) apart))
       (λ v q l e f. subst (Reaches 1 a v) f (from-six v q (ap (λ b. b .stage) e)))
     where
       apart : Holds (land t) (own t) (parentIn (land t) (own t .home)) → ⊥
       apart h = ok-at 5 s (own-ok t p) .0 .placed
-        (acyclic (parentIn (land t)) (sound t p .places .floor-parent) (sound t p .places .tree _) 0 (unfold iter in holds-five s h))
+          (acyclic (parentIn (land t)) (sound t p .places .floor-parent) (sound t p .places .tree _) 0 (unfold iter in holds-five s h))
 
   from-four : (t : Cell) → Alone t a → own t .stage ≡ 4 → Reaches 3 a t (tree t)
-  from-four t p s = quiet 2 0 t 5 0 0 _ (omega arith) p (ahead-own (cellOf t) a 0 s (free-at t p _ (own-used t p) (holds-four s)))
+  from-four t p s = quiet-more 2 0 t 5 0 0 _ (omega arith) p (ahead-own (cellOf t) a 0 s (free-at t p _ (own-used t p) (holds-four s)))
       (λ v q l e f. subst (Reaches 2 a v) f (from-five v q (ap (λ b. b .stage) e)))
 
   -- ---- stage 3: the action fires
@@ -85,7 +89,7 @@ module _ (a : ℕ) where
     leaves : kindOf (own t) ≢ 3 → move (tree t) a (targetOf (own t)) ≡ putInto (tree t) a (destinationOf (land t) (own t)) → Done
     unfolding leave
     leaves k e = one-more 3 0 t _ (omega arith) p (ahead-leave (cellOf t) a 0 s k fire)
-      (λ v q f. subst (Reaches 3 a v) (f .tree ∙ tree-left (cellOf t) a (p .given) _ (own-used t p) ∙ sym e)
+        (λ v q f. subst (Reaches 3 a v) (f .tree ∙ tree-left (cellOf t) a (p .given) _ (own-used t p) ∙ sym e)
         (from-four v q (ap (λ (b : Agent). b .stage) (ap (λ (h : ℕ → Agent). h a) (f .agent) ∙ upd-same _ a _))))
 
     -- opening
@@ -93,27 +97,31 @@ module _ (a : ℕ) where
     unfolding dissolve
     opened k u = raise (omega arith) (one-more 0 0 t _ (omega arith) p (ahead-open (cellOf t) a 0 s k fire)
         (λ v q f. subst (Reaches 0 a v) (f .tree ∙ tree-opened (cellOf t) a (p .given) _ _ mine apart placed ∙ made)
-          (none-more 0 v q (subst (λ (b : Agent). Low (b .stage)) (sym (ap (λ (h : ℕ → Agent). h a) (f .agent) ∙ upd-same _ a _)) (rest-low (useUp (own t)))))))
+        (none-more 0 v q (subst (λ (b : Agent). Low (b .stage)) (sym (ap (λ (h : ℕ → Agent). h a) (f .agent) ∙ upd-same _ a _))
+        (rest-low (useUp (own t)))))))
       where
         mine : own t .remembered ≡ own t .home
         mine = ready .opener k
+
         apart : own t .home ≢ own t .chosen
         apart e = child-not-self (sound t p .places) u (mine ∙ e)
+
         placed : own t .chosen ≢ 0
         placed = linked-not-floor (sound t p .places) (u .link)
+
         made : openUp (tree t) a (own t .chosen) ≡ move (tree t) a (targetOf (own t))
-        made = sym (move-open (cellOf t) (sound t p) a (p .given) _ k) ∙ ap (move (tree t) a) (sym (rw k))
+        made = sym (move-open (cellOf t) a (p .given) (sound t p .fit a) _ k) ∙ ap (move (tree t) a) (sym (rw k))
 
     from-three : Done
     from-three = go (kind-of (own t) (own-fit t p) (ready .some)) (ok-at 3 s (own-ok t p) .2)
       where
         go : Kind (kindOf (own t)) → BothMove (land t) (cellOf t .lock) a (own t) ⊎ BothOpen (land t) (cellOf t .lock) a (own t) → Done
-        go (is-enter k) _ = leaves (omega arith) (move-enter (cellOf t) (sound t p) a (p .given) _ k ∙ ap (putInto (tree t) a) (rw k))
-        go (is-exit k) (inl b) = leaves (omega arith) (move-exit (cellOf t) (sound t p) a (p .given) _ k ∙ ap (putInto (tree t) a) (around ∙ sym (rw k)))
+        go (is-enter k) _ = leaves (omega arith) (move-enter (cellOf t) a (p .given) (sound t p .fit a) _ k ∙ ap (putInto (tree t) a) (rw k))
+        go (is-exit k) (inl b) = leaves (omega arith)
+            (move-exit (cellOf t) a (p .given) (sound t p .fit a) _ k ∙ ap (putInto (tree t) a) (around ∙ sym (rw k)))
           where
             around : tree t .parent (tree t .parent (tree t .home a)) ≡ land t .place (own t .remembered) .parent
-            around = ap (λ (q : ℕ). tree t .parent (tree t .parent q)) (given-home (cellOf t) a (p .given))
-              ∙ unfold treeOf parentIn in (ap (parentIn (land t)) (b .under .parent) ∙ parent-read (land t) _ (ready .known))
+            around = given-beyond (cellOf t) a (p .given) _ (b .under .parent) ∙ parent-read (land t) _ (ready .known)
         go (is-exit k) (inr b) = absurd (omega (arith, b .kind))
         go (is-open k) (inl b) = absurd (omega (arith, b .kind))
         go (is-open k) (inr b) = opened k (b .under)
@@ -122,7 +130,7 @@ module _ (a : ℕ) where
 
   -- at stage 3 the action is to fire on the place wished for
   target-is : (l : Land) (b : Agent) (q : ℕ) → qualifies l (kindOf b) (nameOf b) (b .home) (b .remembered) q ≡ true
-    → targetOf (atStage b 3 (b .remembered) (cond (eqb (kindOf b) 2) 0 q)) ≡ q
+      → targetOf (atStage b 3 (b .remembered) (cond (eqb (kindOf b) 2) 0 q)) ≡ q
   unfolding nextAction
   target-is l b q f = go (told (eqb (kindOf b) 2))
     where
@@ -131,34 +139,44 @@ module _ (a : ℕ) where
       go (nay e) = rw e
 
   from-two : (t : Cell) {u : Tree} → Alone t a → MoveCase (tree t) a u → own t .stage ≡ 2 → stays (land t) (own t) ≡ true → Reaches 5 a t u
-  from-two t {u} p m s st = quiet 4 q t 3 _ _ _ (omega (arith, g .small)) p
+  from-two t {u} p m s st = quiet-more 4 q t 3 _ _ _ (omega (arith, g .small)) p
       (ahead-second (cellOf t) a q q s st wished (g .small) (free-at t p _ (link-used (land t) _ (under .link)) apart)) next
     where
       g : Target (cellOf t) (sound t p) a (p .given) (whole t p (omega arith)) u
       g = target (cellOf t) (sound t p) a (p .given) (whole t p (omega arith)) m
+
       q : ℕ
       q = g .place
+
       fits : qualifies (land t) (kindOf (own t)) (nameOf (own t)) (own t .home) (own t .remembered) q ≡ true
       fits = subst (λ (r : ℕ). qualifies (land t) (kindOf (own t)) (nameOf (own t)) (own t .home) r q ≡ true)
-        (sym (looks-same (land t) (own t) (kind-small (own t) (own-fit t p)) (ok-at 2 s (own-ok t p) .0 .opener) st)) (g .fits)
+          (sym (looks-same (land t) (own t) (kind-small (own t) (own-fit t p)) (ok-at 2 s (own-ok t p) .0 .opener) st)) (g .fits)
+
       wished : choice (land t) (own t) q ≡ q
       wished = choice-wish (land t) (own t) q (g .small) fits
+
       second : ℕ
       second = secondPlace (kindOf (own t)) (own t .home) q
+
       under : Under (land t) second (own t .remembered)
       under = subst (λ (r : ℕ). Under (land t) (secondPlace (kindOf (own t)) (own t .home) r) (own t .remembered)) wished
-        (second-under (cellOf t) (sound t p) a (p .given) q st (subst (λ (r : ℕ). r < 64) (sym wished) (g .small)))
+          (second-under (cellOf t) (sound t p) a (p .given) q st (subst (λ (r : ℕ). r < 64) (sym wished) (g .small)))
+
       apart : Holds (land t) (own t) second → ⊥
       apart h = child-not-self (sound t p .places) under (sym (holds-two s h))
+
       b : Agent
       b = atStage (own t) 3 (own t .remembered) (cond (eqb (kindOf (own t)) 2) 0 q)
+
       fire : fires (land t) b ≡ true
-      fire = unfold fires nextAction in (ap (qualifies (land t) (kindOf (own t)) (nameOf (own t)) (own t .home) (own t .remembered)) (target-is (land t) (own t) q fits) ∙ fits)
+      fire = unfold fires nextAction in (ap (qualifies (land t) (kindOf (own t)) (nameOf (own t)) (own t .home) (own t .remembered))
+          (target-is (land t) (own t) q fits) ∙ fits)
+
       next : (v : Cell) → Alone v a → land v ≡ land t → own v ≡ b → tree v ≡ tree t → Reaches 4 a v u
       next v r l e f = subst (Reaches 4 a v)
-        (ap (λ (w : Tree). move w a (targetOf (own v))) f ∙ ap (λ (w : Agent). move (tree t) a (targetOf w)) e
+          (ap (λ (w : Tree). move w a (targetOf (own v))) f ∙ ap (λ (w : Agent). move (tree t) a (targetOf w)) e
           ∙ ap (move (tree t) a) (target-is (land t) (own t) q fits) ∙ sym (g .result))
-        (from-three v r (ap (λ w. w .stage) e) (ap (λ (k : Land). fires k (own v)) l ∙ ap (fires (land t)) e ∙ fire))
+          (from-three v r (ap (λ w. w .stage) e) (ap (λ (k : Land). fires k (own v)) l ∙ ap (fires (land t)) e ∙ fire))
 
   -- a remembered place is free
   first-free : (t : Cell) (p : Alone t a) → own t .stage ≡ 1 → cellOf t .lock (own t .remembered) ≡ none
@@ -166,28 +184,33 @@ module _ (a : ℕ) where
 
   from-one : (t : Cell) {u : Tree} → Alone t a → MoveCase (tree t) a u → own t .stage ≡ 1 → stays (land t) (own t) ≡ true → Reaches 6 a t u
   unfolding stays nextAction
-  from-one t {u} p m s st = quiet 5 0 t 2 _ 0 _ (omega arith) p (ahead-first (cellOf t) a 0 s (first-free t p s))
-    (λ v q l e f. from-two v q (subst (λ w. MoveCase w a u) (sym f) m) (ap (λ b. b .stage) e) (ap (λ (k : Land). stays k (own v)) l ∙ ap (stays (land t)) e ∙ st))
+  from-one t {u} p m s st = quiet-more 5 0 t 2 _ 0 _ (omega arith) p (ahead-first (cellOf t) a 0 s (first-free t p s))
+      (λ v q l e f. from-two v q (subst (λ w. MoveCase w a u) (sym f) m) (ap (λ b. b .stage) e)
+      (ap (λ (k : Land). stays k (own v)) l ∙ ap (stays (land t)) e ∙ st))
 
   from-zero : (t : Cell) {u : Tree} → Alone t a → MoveCase (tree t) a u → own t .stage ≡ 0 → Reaches 7 a t u
   unfolding stays nextAction
-  from-zero t {u} p m s = quiet 6 0 t 1 _ 0 _ (omega arith) p (ahead-look (cellOf t) a 0 s (own-used t p) home-linked)
-      (λ v q l e f. from-one v q (subst (λ w. MoveCase w a u) (sym f) m) (ap (λ b. b .stage) e) (ap (λ (k : Land). stays k (own v)) l ∙ ap (stays (land t)) e ∙ fresh))
+  from-zero t {u} p m s = quiet-more 6 0 t 1 _ 0 _ (omega arith) p (ahead-look (cellOf t) a 0 s (own-used t p) home-linked)
+      (λ v q l e f. from-one v q (subst (λ w. MoveCase w a u) (sym f) m) (ap (λ b. b .stage) e)
+      (ap (λ (k : Land). stays k (own v)) l ∙ ap (stays (land t)) e ∙ fresh))
     where
       home-linked : kindOf (own t) ≢ 3 → linked (land t) (own t .home) ≡ true
       home-linked k = whole t p (omega arith) _ (own-used t p) (off-floor (cellOf t) (sound t p) a (p .given) m k)
+
       fresh : stays (land t) (atStage (own t) 1 (looksAt (land t) (own t)) 0) ≡ true
       fresh = go (told (eqb (kindOf (own t)) 3))
         where
           go : Told (eqb (kindOf (own t)) 3) → stays (land t) (atStage (own t) 1 (looksAt (land t) (own t)) 0) ≡ true
           go (yea e) = rw e
-          go (nay e) = rw e (under-of (land t) (own t .home) (parentIn (land t) (own t .home)) (record { link = home-linked (eqb-false _ _ e); parent = refl }))
+          go (nay e) = rw e (under-of (land t) (own t .home) (parentIn (land t) (own t .home))
+              (record { link = home-linked (eqb-false _ _ e); parent = refl }))
 
   -- a remembered place that its own is not linked to: taken, given back, and then from the start
   from-stale : (t : Cell) {u : Tree} → Alone t a → MoveCase (tree t) a u → own t .stage ≡ 1 → stays (land t) (own t) ≡ false → Reaches 9 a t u
   unfolding stays nextAction
-  from-stale t {u} p m s st = quiet 8 0 t 2 _ 0 _ (omega arith) p (ahead-first (cellOf t) a 0 s (first-free t p s))
-    (λ v q l e f. quiet 7 0 v 0 0 0 _ (omega arith) q (ahead-back (cellOf v) a 0 (ap (λ b. b .stage) e) (ap (λ (k : Land). stays k (own v)) l ∙ ap (stays (land t)) e ∙ st))
+  from-stale t {u} p m s st = quiet-more 8 0 t 2 _ 0 _ (omega arith) p (ahead-first (cellOf t) a 0 s (first-free t p s))
+      (λ v q l e f. quiet-more 7 0 v 0 0 0 _ (omega arith) q
+      (ahead-back (cellOf v) a 0 (ap (λ b. b .stage) e) (ap (λ (k : Land). stays k (own v)) l ∙ ap (stays (land t)) e ∙ st))
       (λ v₂ q₂ l₂ e₂ f₂. from-zero v₂ q₂ (subst (λ w. MoveCase w a u) (sym (f₂ ∙ f)) m) (ap (λ b. b .stage) e₂)))
 
   -- every permitted move, with exactly the calculus's result
@@ -196,18 +219,24 @@ module _ (a : ℕ) where
     where
       m : MoveCase (tree t) a u
       m = move-case v
+
       g : cellOf t .given a ≡ true
       g = move-given (cellOf t) m
+
       low : (y : ℕ) → Low (agentIn (cellOf t) y .stage)
       low = settled-low (cellOf t) (inv .sound) e
+
       p : Alone t a
       p = record { sized = z; inv = inv; given = g; others = λ y _. low y }
+
       one : own t .stage ≡ 1 → Told (stays (land t) (own t)) → Reaches 9 a t u
       one s (yea st) = raise (omega arith) (from-one t p m s st)
       one s (nay st) = from-stale t p m s st
+
       early : own t .stage ≤ 1 → (own t .stage ≡ 0) ⊎ (own t .stage ≢ 0) → Reaches 9 a t u
       early l (inl s) = raise (omega arith) (from-zero t p m s)
       early l (inr n) = one (omega arith) (told (stays (land t) (own t)))
+
       go : Low (agentIn (cellOf t) a .stage) → Reaches 9 a t u
       go (inl l) = early (subst (λ (b : Agent). b .stage ≤ 1) (agent-given (cellOf t) a g) l) (eq? (own t .stage) 0)
       go (inr l) = absurd (no-move (cellOf t) inv (low-whole (cellOf t) (inv .sound) low) a l u v)

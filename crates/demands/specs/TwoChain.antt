@@ -3,7 +3,7 @@
 use mathlib.Core.Path.{_≡_, refl, sym, ap, _∙_, subst}
 use mathlib.Core.Logic.{_≢_, _⊎_, inl, inr}
 use mathlib.Core.List.{[], _∷_}
-use mathlib.Core.Bool.{Bool, true}
+use mathlib.Core.Bool.{true}
 use Prim.Native.Nat.{ℕ, suc, _≤_, _<_, zero-le, suc-le-suc}
 use native.Mathlib.Omega.{arith}
 use Rattle.table.specs.BaseLaws.{eq?, upd-same}
@@ -21,15 +21,17 @@ use Rattle.meaning.specs.Plain.{treeOf}
 use Rattle.demands.specs.Reading.{agentIn}
 use Rattle.demands.specs.ReadingLaws.{agent-given}
 use Rattle.demands.specs.Invariant.{Fit, Ok, Holds, Kept, free, kept, Sound, Inv}
+use Rattle.demands.specs.Facts.{Whole}
 use Rattle.demands.specs.Stages.{ok-given, fit-given, home-given}
 use Rattle.demands.specs.Ways.{goesOn}
-use Rattle.demands.specs.StepWays.{step-way}
+use Rattle.demands.specs.Change.{Keeps, keeps-inv}
 use Rattle.demands.specs.TreeOf.{tree-quiet}
-use Rattle.demands.specs.Permitted.{Whole, none-whole}
+use Rattle.demands.specs.Permitted.{none-whole}
 use Rattle.demands.specs.TwoSteps.{callsOf, no-wish, one-wish, Answered, no-call, one-call, Reaches}
-use Rattle.demands.specs.TwoAlone.{Low, low-not, low-holds, low-settled, Beside, beside}
-use Rattle.demands.specs.ReadBack.{Within, bounded-within, lockRow, read-back, inv-back}
-use Rattle.demands.specs.Always.{step-keeps, step-within}
+use Rattle.demands.specs.TwoAlone.{Low, low-not, low-holds, low-settled, low-after}
+use Rattle.demands.specs.Within.{Within, bounded-within}
+use Rattle.demands.specs.ReadBack.{lockRow, read-back, inv-back}
+use Rattle.demands.specs.Always.{step-keeps}
 use Rattle.demands.specs.RunKeeps.{call-made}
 
 -- agent a is given, and no other agent holds a lock or is on its way
@@ -55,7 +57,14 @@ module _ {a : ℕ} where
   -- no call more, where the agent too holds nothing and is not on its way
   pub none-more : (n : ℕ) (t : Cell) → Alone t a → Low (cellOf t .agent a .stage) → Reaches n a t (treeOf (cellOf t))
   unfolding callsOf run answers
-  none-more n t p l = record { wishes = []; few = zero-le; bytes = no-wish; answered = no-call; settles = low-settled (cellOf t) (p .inv .sound) low; tree = refl }
+  none-more n t p l = record {
+    wishes = [];
+    few = zero-le;
+    bytes = no-wish;
+    answered = no-call;
+    settles = low-settled (cellOf t) (p .inv .sound) low;
+    tree = refl;
+  }
     where
       low : (y : ℕ) → Low (agentIn (cellOf t) y .stage)
       low y = go (eq? y a)
@@ -66,44 +75,63 @@ module _ {a : ℕ} where
 
   -- one call more at the front, whose step makes d
   pub one-more : (n w : ℕ) (t : Cell) (d : State) {u : Tree} → w < 256 → Alone t a → step (cellOf t) a w .cell ≡ d
-    → ((v : Cell) → Alone v a → Finds d v → Reaches n a v u) → Reaches (suc n) a t u
+      → ((v : Cell) → Alone v a → Finds d v → Reaches n a v u) → Reaches (suc n) a t u
   unfolding callsOf run answers made agentIn
-  one-more n w t d {u} l p e f = record
-      { wishes = w ∷ r .wishes; few = suc-le-suc (r .few); bytes = one-wish l (r .bytes)
-      ; answered = subst (λ (s : Stepped). Answered (s .answer ∷ answers (s .cell) (callsOf a (r .wishes)))) (sym call) (one-call (r .answered))
-      ; settles = subst (λ (s : Stepped). settled (cellOf (run (s .cell) (callsOf a (r .wishes)))) ≡ true) (sym call) (r .settles)
-      ; tree = subst (λ (s : Stepped). treeOf (cellOf (run (s .cell) (callsOf a (r .wishes)))) ≡ u) (sym call) (r .tree) }
+  one-more n w t d {u} l p e f = record {
+    wishes = w ∷ r .wishes;
+    few = suc-le-suc (r .few);
+    bytes = one-wish l (r .bytes);
+    answered = subst (λ (s : Stepped). Answered (s .answer ∷ answers (s .cell) (callsOf a (r .wishes)))) (sym call) (one-call (r .answered));
+    settles = subst (λ (s : Stepped). settled (cellOf (run (s .cell) (callsOf a (r .wishes)))) ≡ true) (sym call) (r .settles);
+    tree = subst (λ (s : Stepped). treeOf (cellOf (run (s .cell) (callsOf a (r .wishes)))) ≡ u) (sym call) (r .tree);
+  }
     where
       o : State
       o = step (cellOf t) a w .cell
+
       call : stepOf t a w ≡ made (step (cellOf t) a w)
       call = call-made t (p .inv) a w (p .given)
-      side : Beside (cellOf t) a o
-      side = beside (cellOf t) a (step-way (cellOf t) (p .inv .sound) a (p .given) w)
+
+      kept-by : Keeps (cellOf t) a o
+      kept-by = step-keeps (cellOf t) (p .inv .sound) a (p .given) w
+
       within : Within o
-      within = step-within (cellOf t) (p .inv .sound) a (p .given) (bounded-within (bounded t (p .sized))) w
+      within = kept-by .within (bounded-within (bounded t (p .sized)))
+
       back : cellOf (tableOf o) ≡ withLocks o (lockRow (o .lock))
       back = read-back o within
+
       next : Alone (tableOf o) a
-      next = record { sized = sized-table _; inv = inv-back _ within (step-keeps (cellOf t) (p .inv) a (p .given) w)
-        ; given = ap (λ (z : State). z .given a) back ∙ ap (λ (h : ℕ → Bool). h a) (side .given) ∙ p .given
-        ; others = λ y m. subst (λ (z : State). Low (agentIn z y .stage)) (sym back) (side .low y m (p .others y m)) }
+      next = record {
+        sized = sized-table _;
+        inv = inv-back _ within (keeps-inv kept-by (p .inv));
+        given = ap (λ (z : State). z .given a) back ∙ kept-by .given a ∙ p .given;
+        others = λ y m. subst (λ (z : State). Low (agentIn z y .stage)) (sym back) (low-after (kept-by .others y m) (p .others y m));
+      }
+
       r : Reaches n a (tableOf o) u
       r = f (tableOf o) next (subst (λ (z : State). Finds z (tableOf o)) e (finds _ _ _ back))
 
   -- a step that leaves the places alone: the agent is at another stage, the tree is the same
-  pub quiet : (n w : ℕ) (t : Cell) (stage remembered chosen : ℕ) (locks : ℕ → ℕ) {u : Tree} → w < 256 → Alone t a
-    → step (cellOf t) a w .cell ≡ withLocks (goesOn (cellOf t) a stage remembered chosen) locks
-    → ((v : Cell) → Alone v a → cellOf v .land ≡ cellOf t .land → cellOf v .agent a ≡ atStage (cellOf t .agent a) stage remembered chosen
+  pub quiet-more : (n w : ℕ) (t : Cell) (stage remembered chosen : ℕ) (locks : ℕ → ℕ) {u : Tree} → w < 256 → Alone t a
+      → step (cellOf t) a w .cell ≡ withLocks (goesOn (cellOf t) a stage remembered chosen) locks
+      → ((v : Cell) → Alone v a → cellOf v .land ≡ cellOf t .land → cellOf v .agent a ≡ atStage (cellOf t .agent a) stage remembered chosen
       → treeOf (cellOf v) ≡ treeOf (cellOf t) → Reaches n a v u)
-    → Reaches (suc n) a t u
-  quiet n w t stage remembered chosen locks l p e f = one-more n w t _ l p e
-    (λ v q s. f v q (s .land) (ap (λ (h : ℕ → Agent). h a) (s .agent) ∙ upd-same (cellOf t .agent) a _)
+      → Reaches (suc n) a t u
+  quiet-more n w t stage remembered chosen locks l p e f = one-more n w t _ l p e
+      (λ v q s. f v q (s .land) (ap (λ (h : ℕ → Agent). h a) (s .agent) ∙ upd-same (cellOf t .agent) a _)
       (s .tree ∙ tree-quiet (cellOf t) a (p .given) locks stage remembered chosen))
 
   -- a bound may be raised
   pub raise : {n m : ℕ} {t : Cell} {u : Tree} → n ≤ m → Reaches n a t u → Reaches m a t u
-  raise l r = record { wishes = r .wishes; few = omega (arith, r .few); bytes = r .bytes; answered = r .answered; settles = r .settles; tree = r .tree }
+  raise l r = record {
+    wishes = r .wishes;
+    few = omega (arith, r .few);
+    bytes = r .bytes;
+    answered = r .answered;
+    settles = r .settles;
+    tree = r .tree;
+  }
 
   -- ---- what is known of the agent
 
@@ -136,6 +164,7 @@ module _ {a : ℕ} where
         by : (y : ℕ) → Holds (c .land) (agentIn c y) q → (y ≡ a) ⊎ (y ≢ a) → c .lock q ≡ none
         by y r (inl e) = absurd (n (subst (λ (v : Agent). Holds (c .land) v q) (ap (agentIn c) e ∙ agent-given c a g) r))
         by y r (inr d) = absurd (low-holds (p .others y d) r)
+
         go : Kept (c .land) (c .lock) (agentIn c) q → c .lock q ≡ none
         go (free f) = f
         go (kept y h r) = by y r (eq? y a)
@@ -145,5 +174,6 @@ module _ {a : ℕ} where
     whole l = none-whole c i (λ y t. go y (t .from) (t .to) (eq? y a))
       where
         go : (y : ℕ) → 4 ≤ agentIn c y .stage → agentIn c y .stage ≤ 6 → (y ≡ a) ⊎ (y ≢ a) → ⊥
-        go y lo hi (inl e) = let s : agentIn c y .stage ≡ own .stage = ap (λ (v : Agent). v .stage) (ap (agentIn c) e ∙ agent-given c a g) in omega arith
+        go y lo hi (inl e) = let s : agentIn c y .stage ≡ own .stage = ap (λ (v : Agent). v .stage) (ap (agentIn c) e ∙ agent-given c a g) in
+            omega arith
         go y lo hi (inr n) = low-not (p .others y n) (omega arith) hi

@@ -25,13 +25,14 @@ module _ (used given full : ℕ → Bool) where
   -- numbers are in range, a place or agent is new, what it names was given earlier, and a row with an action more had room
   pub data Fits : Record → Type 0 where
     place : {number parent name : ℕ} → 1 ≤ number → number < 64 → parent < 64 → used number ≡ false → used parent ≡ true → 1 ≤ name
-      → Fits (PlaceRecord number parent name)
+        → Fits (PlaceRecord number parent name)
     agent : {number home : ℕ} → number < 64 → home < 64 → given number ≡ false → used home ≡ true → Fits (AgentRecord number home)
     action : {number kind name : ℕ} → number < 64 → given number ≡ true → full number ≡ false → 1 ≤ kind → kind ≤ 3 → 1 ≤ name
-      → Fits (ActionRecord number kind name)
+        → Fits (ActionRecord number kind name)
     end : Fits EndRecord
     faulty : {number : ℕ} → Fits (Faulty number)
 
+  -- a test with a refusal in one arm
   cond-fits : (b : Bool) (x y : Record) → (b ≡ true → Fits x) → (b ≡ false → Fits y) → Fits (cond b x y)
   cond-fits true x y f g = f refl
   cond-fits false x y f g = g refl
@@ -39,69 +40,82 @@ module _ (used given full : ℕ → Bool) where
   place-fits : (number parent name : ℕ) → Fits (placeRecord (used number) (used parent) number parent name)
   unfolding placeRecord
   place-fits n p m =
-    cond-fits (ltb n 1) _ _ (λ e. faulty) (λ one.
-    cond-fits (leb 64 n) _ _ (λ e. faulty) (λ low.
-    cond-fits (leb 64 p) _ _ (λ e. faulty) (λ under.
-    cond-fits (used n) _ _ (λ e. faulty) (λ new.
-    cond-fits (used p) _ _ (λ known.
-    cond-fits (ltb m 1) _ _ (λ e. faulty)
+      cond-fits (ltb n 1) _ _ (λ e. faulty) (λ one.
+      cond-fits (leb 64 n) _ _ (λ e. faulty) (λ low.
+      cond-fits (leb 64 p) _ _ (λ e. faulty) (λ under.
+      cond-fits (used n) _ _ (λ e. faulty) (λ new.
+      cond-fits (used p) _ _ (λ known.
+      cond-fits (ltb m 1) _ _ (λ e. faulty)
       (λ named. place (ltb-false n 1 one) (leb-false 64 n low) (leb-false 64 p under) new known (ltb-false m 1 named)))
-    (λ e. faulty)))))
+      (λ e. faulty)))))
 
   agent-fits : (number home : ℕ) → Fits (agentRecord (given number) (used home) number home)
   unfolding agentRecord
   agent-fits n h =
-    cond-fits (leb 64 n) _ _ (λ e. faulty) (λ low.
-    cond-fits (leb 64 h) _ _ (λ e. faulty) (λ under.
-    cond-fits (given n) _ _ (λ e. faulty) (λ new.
-    cond-fits (used h) _ _ (λ known. agent (leb-false 64 n low) (leb-false 64 h under) new known) (λ e. faulty))))
+      cond-fits (leb 64 n) _ _ (λ e. faulty) (λ low.
+      cond-fits (leb 64 h) _ _ (λ e. faulty) (λ under.
+      cond-fits (given n) _ _ (λ e. faulty) (λ new.
+      cond-fits (used h) _ _ (λ known. agent (leb-false 64 n low) (leb-false 64 h under) new known) (λ e. faulty))))
 
   action-fits : (number kind name : ℕ) → Fits (actionRecord (given number) (full number) number kind name)
   unfolding actionRecord
   action-fits n k m =
-    cond-fits (leb 64 n) _ _ (λ e. faulty) (λ low.
-    cond-fits (given n) _ _ (λ known.
-    cond-fits (ltb k 1) _ _ (λ e. faulty) (λ one.
-    cond-fits (leb 4 k) _ _ (λ e. faulty) (λ three.
-    cond-fits (ltb m 1) _ _ (λ e. faulty) (λ named.
-    cond-fits (full n) _ _ (λ e. faulty)
+      cond-fits (leb 64 n) _ _ (λ e. faulty) (λ low.
+      cond-fits (given n) _ _ (λ known.
+      cond-fits (ltb k 1) _ _ (λ e. faulty) (λ one.
+      cond-fits (leb 4 k) _ _ (λ e. faulty) (λ three.
+      cond-fits (ltb m 1) _ _ (λ e. faulty) (λ named.
+      cond-fits (full n) _ _ (λ e. faulty)
       (λ room. action (leb-false 64 n low) known room (ltb-false k 1 one) (omega (arith, leb-false 4 k three)) (ltb-false m 1 named))))))
-    (λ e. faulty))
+      (λ e. faulty))
 
   -- the record at an offset fits the cell so far, or is refused, or ends the file
   pub record-fits : (s : List ℕ) (at : ℕ) → Fits (recordAt used given full s at)
   unfolding recordAt
   record-fits s at =
-    cond-fits (eqb (byteAt s at) 1) _ _ (λ e. cond-fits (ltb (length s - at) 5) _ _ (λ e. faulty) (λ e. place-fits (byteAt s (at + 1)) (byteAt s (at + 2)) _)) (λ e.
-    cond-fits (eqb (byteAt s at) 2) _ _ (λ e. cond-fits (ltb (length s - at) 3) _ _ (λ e. faulty) (λ e. agent-fits (byteAt s (at + 1)) (byteAt s (at + 2)))) (λ e.
-    cond-fits (eqb (byteAt s at) 3) _ _ (λ e. cond-fits (ltb (length s - at) 5) _ _ (λ e. faulty) (λ e. action-fits (byteAt s (at + 1)) (byteAt s (at + 2)) _)) (λ e.
-    cond-fits (eqb (byteAt s at) 4) _ _ (λ e. end) (λ e. faulty))))
+      cond-fits (eqb (byteAt s at) 1) _ _ (λ e. cond-fits (ltb (length s - at) 5) _ _ (λ e. faulty)
+      (λ e. place-fits (byteAt s (at + 1)) (byteAt s (at + 2)) _)) (λ e.
+      cond-fits (eqb (byteAt s at) 2) _ _ (λ e. cond-fits (ltb (length s - at) 3) _ _ (λ e. faulty)
+      (λ e. agent-fits (byteAt s (at + 1)) (byteAt s (at + 2)))) (λ e.
+      cond-fits (eqb (byteAt s at) 3) _ _ (λ e. cond-fits (ltb (length s - at) 5) _ _ (λ e. faulty)
+      (λ e. action-fits (byteAt s (at + 1)) (byteAt s (at + 2)) _)) (λ e.
+      cond-fits (eqb (byteAt s at) 4) _ _ (λ e. end) (λ e. faulty))))
 
 -- ---- a record looks at numbers below 64 only
 
+-- two tests with the same refusal first agree where that is passed
 past-refusal : {A : Type 0} (b : Bool) (x y z : A) → (b ≡ false → x ≡ y) → cond b z x ≡ cond b z y
 past-refusal true x y z h = refl
 past-refusal false x y z h = h refl
 
-module _ (used used′ given given′ full full′ : ℕ → Bool)
-    (u : (j : ℕ) → j < 64 → used j ≡ used′ j) (g : (j : ℕ) → j < 64 → given j ≡ given′ j) (f : (j : ℕ) → j < 64 → full j ≡ full′ j) where
-  place-same : (n p m : ℕ) → placeRecord (used n) (used p) n p m ≡ placeRecord (used′ n) (used′ p) n p m
+module _ (used used′ given given′ full full′ : ℕ → Bool) (same-used : (j : ℕ) → j < 64 → used j ≡ used′ j)
+    (same-given : (j : ℕ) → j < 64 → given j ≡ given′ j) (same-full : (j : ℕ) → j < 64 → full j ≡ full′ j) where
+  place-same : (number parent name : ℕ)
+      → placeRecord (used number) (used parent) number parent name ≡ placeRecord (used′ number) (used′ parent) number parent name
   unfolding placeRecord
-  place-same n p m = past-refusal (ltb n 1) _ _ _ (λ e. past-refusal (leb 64 n) _ _ _ (λ l. past-refusal (leb 64 p) _ _ _ (λ k.
-    rw (u n (leb-false 64 n l), u p (leb-false 64 p k)))))
+  place-same number parent name =
+      past-refusal (ltb number 1) _ _ _ (λ e. past-refusal (leb 64 number) _ _ _ (λ low. past-refusal (leb 64 parent) _ _ _ (λ under.
+      rw (same-used number (leb-false 64 number low), same-used parent (leb-false 64 parent under)))))
 
-  agent-same : (n h : ℕ) → agentRecord (given n) (used h) n h ≡ agentRecord (given′ n) (used′ h) n h
+  agent-same : (number home : ℕ) → agentRecord (given number) (used home) number home ≡ agentRecord (given′ number) (used′ home) number home
   unfolding agentRecord
-  agent-same n h = past-refusal (leb 64 n) _ _ _ (λ l. past-refusal (leb 64 h) _ _ _ (λ k. rw (g n (leb-false 64 n l), u h (leb-false 64 h k))))
+  agent-same number home = past-refusal (leb 64 number) _ _ _ (λ low. past-refusal (leb 64 home) _ _ _ (λ under.
+      rw (same-given number (leb-false 64 number low), same-used home (leb-false 64 home under))))
 
-  action-same : (n k m : ℕ) → actionRecord (given n) (full n) n k m ≡ actionRecord (given′ n) (full′ n) n k m
+  action-same : (number kind name : ℕ)
+      → actionRecord (given number) (full number) number kind name ≡ actionRecord (given′ number) (full′ number) number kind name
   unfolding actionRecord
-  action-same n k m = past-refusal (leb 64 n) _ _ _ (λ l. rw (g n (leb-false 64 n l), f n (leb-false 64 n l)))
+  action-same number kind name = past-refusal (leb 64 number) _ _ _ (λ low.
+      rw (same-given number (leb-false 64 number low), same-full number (leb-false 64 number low)))
 
+  -- so sets that agree below 64 give the same record
   pub record-same : (s : List ℕ) (at : ℕ) → recordAt used given full s at ≡ recordAt used′ given′ full′ s at
   unfolding recordAt
-  record-same s at = rw (place-same (byteAt s (at + 1)) (byteAt s (at + 2)), agent-same (byteAt s (at + 1)) (byteAt s (at + 2)),
-    action-same (byteAt s (at + 1)) (byteAt s (at + 2)))
+  record-same s at = rw (
+    place-same (byteAt s (at + 1)) (byteAt s (at + 2)),
+    agent-same (byteAt s (at + 1)) (byteAt s (at + 2)),
+    action-same (byteAt s (at + 1)) (byteAt s (at + 2)),
+  )
 
 -- ---- the bare floor that a load starts from
 
@@ -112,6 +126,7 @@ sized-bare = record { places = refl; locks = refl; agents = refl; used = omega a
 pub bare-bounded : Bounded (cellOf bareTable)
 bare-bounded = bounded bareTable sized-bare
 
+-- it has the floor and no other place, no agent, no lock held
 pub bare-used : (q : ℕ) → cellOf bareTable .land .used q ≡ eqb q 0
 unfolding cellOf bareTable
 bare-used q = has-pow 0 q

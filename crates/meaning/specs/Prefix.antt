@@ -12,8 +12,7 @@ use lib.ListN.{length, take}
 use lib.Seq.{getD-take, take-all, length-take-le}
 use borrow.Author.Tests.{eq-eqb, ne-eqb, lt-ltb, le-ltb, leb-true, leb-false}
 use Rattle.sets.specs.Word.{bit, has}
-use Rattle.table.specs.Base.{upd}
-use Rattle.table.specs.BaseLaws.{Told, yea, nay, told, eq?, upd-at, upd-other}
+use Rattle.table.specs.BaseLaws.{Told, yea, nay, told, eq?, upd-at, upd-other, upd-all}
 use Rattle.table.specs.Cell.{State, cellOf, bareTable}
 use Rattle.table.specs.declared.Agent.{Agent}
 use Rattle.meaning.specs.declared.Record.{Record}
@@ -29,6 +28,7 @@ sumBelow : (ℕ → ℕ) → ℕ → ℕ
 sumBelow f zero = 0
 sumBelow f (suc n) = sumBelow f n + f n
 
+-- equal numbers give equal sums, small ones a small sum
 sum-ext : (f g : ℕ → ℕ) (n : ℕ) → ((j : ℕ) → j < n → f j ≡ g j) → sumBelow f n ≡ sumBelow g n
 unfolding sumBelow
 sum-ext f g zero h = refl
@@ -38,7 +38,7 @@ sum-most : (f : ℕ → ℕ) (n m : ℕ) → ((j : ℕ) → j < n → f j ≤ m)
 unfolding sumBelow
 sum-most f zero m h = omega arith
 sum-most f (suc n) m h =
-  let a = sum-most f n m (λ j l. h j (omega arith)) in let b = h n (omega arith) in let c : suc n * m ≡ n * m + m = times n m in omega arith
+    let a = sum-most f n m (λ j l. h j (omega arith)) in let b = h n (omega arith) in let c : suc n * m ≡ n * m + m = times n m in omega arith
   where
     times : (n m : ℕ) → suc n * m ≡ n * m + m
     times n m = omega arith
@@ -50,12 +50,13 @@ sum-more f g zero i l e h = absurd (omega arith)
 sum-more f g (suc n) i l e h = go (eq? i n) (sum-more f g n i)
   where
     go : (i ≡ n) ⊎ (i ≢ n) → (i < n → g i ≡ f i + 1 → ((j : ℕ) → j ≢ i → g j ≡ f j) → sumBelow g n ≡ sumBelow f n + 1)
-      → sumBelow g n + g n ≡ sumBelow f n + f n + 1
+        → sumBelow g n + g n ≡ sumBelow f n + f n + 1
     go (inl q) r =
-      let a : sumBelow g n ≡ sumBelow f n = sum-ext g f n (λ j k. h j (λ z. absurd (omega arith))) in
-      let b : g n ≡ f n + 1 = ap g (sym q) ∙ e ∙ ap (λ (k : ℕ). f k + 1) q in omega arith
+        let a : sumBelow g n ≡ sumBelow f n = sum-ext g f n (λ j k. h j (λ z. absurd (omega arith))) in
+        let b : g n ≡ f n + 1 = ap g (sym q) ∙ e ∙ ap (λ (k : ℕ). f k + 1) q in omega arith
     go (inr q) r = let a = r (omega arith) e h in let b : g n ≡ f n = h n (λ z. q (sym z)) in omega arith
 
+-- a set counted: 1 for each member
 abbrev one : (ℕ → Bool) → ℕ → ℕ
 one f j = bit (f j)
 
@@ -63,11 +64,13 @@ bit-most : (b : Bool) → bit b ≤ 1
 bit-most true = omega arith
 bit-most false = omega arith
 
+-- a new member adds one
 one-more : (f : ℕ → Bool) (n : ℕ) → n < 64 → f n ≡ false → sumBelow (one (λ j. eqb j n || f j)) 64 ≡ sumBelow (one f) 64 + 1
 one-more f n l e = sum-more (one f) (one (λ j. eqb j n || f j)) 64 n l (rw (eq-eqb n n refl, e)) (λ j q. rw (ne-eqb j n q))
 
 -- ---- how many bytes the cell so far took
 
+-- how many places, agents, and actions of agent x
 abbrev places : State → ℕ
 places c = sumBelow (one (c .land .used)) 64
 
@@ -82,16 +85,22 @@ record Took (c : State) (at : ℕ) : Type 0 where
   size : at + 5 ≡ 5 * places c + 3 * agents c + 5 * sumBelow (counts c) 64
   most : (j : ℕ) → j < 64 → counts c j ≤ 16
 
+-- the bare floor took none
 took-bare : Took (cellOf bareTable) 0
-took-bare = record { size = unfold cellOf in unfold bareTable in unfold has in unfold sumBelow in refl
-  ; most = λ j l. subst (λ (a : Agent). a .count ≤ 16) (sym (bare-agent j l)) (omega arith) }
+took-bare = record {
+  size = unfold cellOf in unfold bareTable in unfold has in unfold sumBelow in refl;
+  most = λ j l. subst (λ (a : Agent). a .count ≤ 16) (sym (bare-agent j l)) (omega arith);
+}
 
+-- so the offset is small
 at-most : (c : State) (at : ℕ) → Took c at → at ≤ 5627
 at-most c at t =
-  let p : places c ≤ 64 = sum-most (one (c .land .used)) 64 1 (λ j l. bit-most (c .land .used j)) in
-  let a : agents c ≤ 64 = sum-most (one (c .given)) 64 1 (λ j l. bit-most (c .given j)) in
-  let n : sumBelow (counts c) 64 ≤ 1024 = sum-most (counts c) 64 16 (t .most) in
-  omega (arith, t .size)
+    let p : places c ≤ 64 = sum-most (one (c .land .used)) 64 1 (λ j l. bit-most (c .land .used j)) in
+    let a : agents c ≤ 64 = sum-most (one (c .given)) 64 1 (λ j l. bit-most (c .given j)) in
+    let n : sumBelow (counts c) 64 ≤ 1024 = sum-most (counts c) 64 16 (t .most) in
+    omega (arith, t .size)
+
+-- ---- each record takes its bytes
 
 took-place : (c : State) (at n p m : ℕ) → Took c at → n < 64 → c .land .used n ≡ false → Took (addPlace c n p m) (at + 5)
 unfolding addPlace
@@ -99,15 +108,13 @@ took-place c at n p m t l e = record { size = omega (arith, t .size, one-more (c
 
 home-count : (c : State) (n h j : ℕ) → counts (addAgent c n h) j ≡ counts c j
 unfolding addAgent
-home-count c n h j = go (eq? j n)
-  where
-    go : (j ≡ n) ⊎ (j ≢ n) → upd (c .agent) n (withHome (c .agent n) h) j .count ≡ c .agent j .count
-    go (inl e) = ap (λ (a : Agent). a .count) (upd-at (c .agent) n j (withHome (c .agent n) h) e) ∙ ap (λ (k : ℕ). c .agent k .count) (sym e)
-    go (inr q) = ap (λ (a : Agent). a .count) (upd-other (c .agent) n j (withHome (c .agent n) h) q)
+home-count c n h = upd-all (c .agent) n (withHome (c .agent n) h) (λ j a. a .count ≡ counts c j) refl (λ j _. refl)
 
 took-agent : (c : State) (at n h : ℕ) → Took c at → n < 64 → c .given n ≡ false → Took (addAgent c n h) (at + 3)
-took-agent c at n h t l e = record { size = omega (arith, t .size, given, same, land)
-  ; most = λ j k. subst (λ (z : ℕ). z ≤ 16) (sym (home-count c n h j)) (t .most j k) }
+took-agent c at n h t l e = record {
+  size = omega (arith, t .size, given, same, land);
+  most = λ j k. subst (λ (z : ℕ). z ≤ 16) (sym (home-count c n h j)) (t .most j k);
+}
   where
     same : sumBelow (counts (addAgent c n h)) 64 ≡ sumBelow (counts c) 64
     same = sum-ext (counts (addAgent c n h)) (counts c) 64 (λ j k. home-count c n h j)
@@ -146,18 +153,20 @@ module _ (c : State) (n k m : ℕ) where
 -- ---- the file and its first b bytes
 
 module _ (s : List ℕ) (b : ℕ) (wide : 5633 ≤ b) (long : b ≤ length s) where
-  t : List ℕ
-  t = take b s
+  -- these bytes
+  start : List ℕ
+  start = take b s
 
-  t-long : length t ≡ b
-  unfolding t
-  t-long = length-take-le b s long
+  start-long : length start ≡ b
+  unfolding start
+  start-long = length-take-le b s long
 
-  same-byte : (i : ℕ) → i < b → byteAt t i ≡ byteAt s i
-  unfolding t
+  same-byte : (i : ℕ) → i < b → byteAt start i ≡ byteAt s i
+  unfolding start
   same-byte i l = getD-take b s i 0 l
 
-  same-record : (used given full : ℕ → Bool) (at : ℕ) → at ≤ 5627 → recordAt used given full t at ≡ recordAt used given full s at
+  -- a record that begins early enough is the same
+  same-record : (used given full : ℕ → Bool) (at : ℕ) → at ≤ 5627 → recordAt used given full start at ≡ recordAt used given full s at
   unfolding recordAt
   same-record used given full at l = rw (
     same-byte at (omega arith),
@@ -165,34 +174,40 @@ module _ (s : List ℕ) (b : ℕ) (wide : 5633 ≤ b) (long : b ≤ length s) wh
     same-byte (at + 2) (omega arith),
     same-byte (at + 3) (omega arith),
     same-byte (at + 4) (omega arith),
-    le-ltb (length t - at) 5 (omega (arith, t-long)),
-    le-ltb (length t - at) 3 (omega (arith, t-long)),
+    le-ltb (length start - at) 5 (omega (arith, start-long)),
+    le-ltb (length start - at) 3 (omega (arith, start-long)),
     le-ltb (length s - at) 5 (omega arith),
-    le-ltb (length s - at) 3 (omega arith))
+    le-ltb (length s - at) 3 (omega arith),
+  )
 
-  same-load : (k m : ℕ) (c : State) (at : ℕ) → Took c at → b < k + at → length s < m + at → loadFrom k c t at ≡ loadFrom m c s at
+  -- and so is the load from there on, with turns enough in both
+  same-load : (k m : ℕ) (c : State) (at : ℕ) → Took c at → b < k + at → length s < m + at → loadFrom k c start at ≡ loadFrom m c s at
   unfolding loadFrom
   same-load zero m c at h p q = absurd (omega (arith, at-most c at h))
   same-load (suc k) zero c at h p q = absurd (omega (arith, at-most c at h))
   same-load (suc k) (suc m) c at h p q =
-    rw (lt-ltb at (length t) (omega (arith, t-long, l)), lt-ltb at (length s) (omega (arith, l)), same-record (c .land .used) (c .given) (isFull c) at l)
+      rw (
+        lt-ltb at (length start) (omega (arith, start-long, l)),
+        lt-ltb at (length s) (omega (arith, l)),
+        same-record (c .land .used) (c .given) (isFull c) at l,
+      )
       (go (recordAt (c .land .used) (c .given) (isFull c) s at) (record-fits (c .land .used) (c .given) (isFull c) s at)
-        (λ d i g x y. same-load k m d i g x y))
+      (λ d i g x y. same-load k m d i g x y))
     where
       l : at ≤ 5627
       l = at-most c at h
 
       go : (r : Record) → Fits (c .land .used) (c .given) (isFull c) r
-        → ((d : State) (i : ℕ) → Took d i → b < k + i → length s < m + i → loadFrom k d t i ≡ loadFrom m d s i)
-        → loadRecord (λ d i. loadFrom k d t i) c t at r ≡ loadRecord (λ d i. loadFrom m d s i) c s at r
+          → ((d : State) (i : ℕ) → Took d i → b < k + i → length s < m + i → loadFrom k d start i ≡ loadFrom m d s i)
+          → loadRecord (λ d i. loadFrom k d start i) c start at r ≡ loadRecord (λ d i. loadFrom m d s i) c s at r
       go (PlaceRecord n x y) (place one low under new known named) r =
-        unfold loadRecord in r (addPlace c n x y) (at + 5) (took-place c at n x y h low new) (omega arith) (omega arith)
+          unfold loadRecord in r (addPlace c n x y) (at + 5) (took-place c at n x y h low new) (omega arith) (omega arith)
       go (AgentRecord n x) (agent low under new known) r =
-        unfold loadRecord in r (addAgent c n x) (at + 3) (took-agent c at n x h low new) (omega arith) (omega arith)
+          unfold loadRecord in r (addAgent c n x) (at + 3) (took-agent c at n x h low new) (omega arith) (omega arith)
       go (ActionRecord n x y) (action low known room one three named) r =
-        unfold loadRecord in r (addAction c n x y) (at + 5) (took-action c n x y at h low room) (omega arith) (omega arith)
+          unfold loadRecord in r (addAction c n x y) (at + 5) (took-action c n x y at h low room) (omega arith) (omega arith)
       go EndRecord end r = unfold loadRecord in
-        rw (lt-ltb (at + 1) (length t) (omega (arith, t-long, l)), lt-ltb (at + 1) (length s) (omega (arith, l)))
+          rw (lt-ltb (at + 1) (length start) (omega (arith, start-long, l)), lt-ltb (at + 1) (length s) (omega (arith, l)))
       go (Faulty n) faulty r = unfold loadRecord in refl
 
 -- whatever follows the first 5,633 bytes, the answer is theirs: the same cell, or the same refusal at the same offset
@@ -201,6 +216,7 @@ prefix s b wide = go (told (leb (length s) b))
   where
     go : Told (leb (length s) b) → load (take b s) ≡ load s
     go (yea e) = ap load (take-all b s (leb-true _ _ e))
-    go (nay e) = unfold load in unfold t in
-      (let l : b ≤ length s = omega (arith, leb-false (length s) b e) in
-      same-load s b wide l (suc (length (take b s))) (suc (length s)) (cellOf bareTable) 0 took-bare (omega (arith, t-long s b wide l)) (omega arith))
+    go (nay e) = unfold load in unfold start in
+        (let l : b ≤ length s = omega (arith, leb-false (length s) b e) in
+        same-load s b wide l (suc (length (take b s))) (suc (length s)) (cellOf bareTable) 0 took-bare (omega (arith, start-long s b wide l))
+        (omega arith))

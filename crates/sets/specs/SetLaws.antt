@@ -6,11 +6,11 @@ use mathlib.Core.Bool.{Bool, true, false, not, xor, _&&_, _||_}
 use Prim.Native.Nat.{ℕ, zero, suc, _+_, _*_, _%_, _^_, _≤_, _<_, suc-le-suc, zero-le}
 use native.Mathlib.Nat.{zero-lt-suc, lt-of-lt-of-le, lt-irrefl}
 use native.Mathlib.Omega.{arith}
-use lib.Dec.{eqb, ltb, lit<}
+use lib.Dec.{eqb, lit<}
 use lib.Pow.{pow-lt}
 use lib.Bits.{bitOr, bitXor, or-lt, xor-lt}
 use borrow.Author.Tests.{eq-eqb, ne-eqb, lt-ltb, le-ltb}
-use Rattle.sets.specs.Word.{has, wordOf, upto}
+use Rattle.sets.specs.Word.{has, upto}
 use Rattle.sets.specs.WordLaws.{word-ext, word-has, has-word, has-or, has-xor, has-none, has-pow, one-shifted}
 use Rattle.sets.specs.Set.{member, setOf, inserted, insertedIf, removed, united}
 use Rattle.sets.specs.declared.Set.{Set}

@@ -1,19 +1,19 @@
 -- A loop that takes the members of a set in order, lowest first, until none is left. Assumes nothing.
 -- Idea: what is left are the members from some number i on; between i and the lowest that is left there is no member.
 use mathlib.Core.Path.{_≡_, refl, sym, ap, ap₂, _∙_, subst}
-use mathlib.Core.Logic.{_⊎_, inl, inr, ⊎-elim}
+use mathlib.Core.Logic.{_⊎_, inl, inr}
 use mathlib.Core.Bool.{Bool, true, false, not, _&&_, cond, false≢true}
-use Prim.Native.Nat.{ℕ, zero, suc, _+_, _*_, _-_, _/_, _%_, _^_, _≤_, _<_, suc-le-suc, zero-le}
-use native.Mathlib.Nat.{le-of-suc-le-suc, not-suc-le-zero, zero-lt-suc, pow-suc, lt-of-lt-of-le, lt-of-le-of-lt}
+use Prim.Native.Nat.{ℕ, zero, suc, _+_, _*_, _-_, _/_, _%_, _^_, _≤_, _<_, zero-le}
+use native.Mathlib.Nat.{le-of-suc-le-suc, not-suc-le-zero, pow-suc, lt-of-le-of-lt}
 use native.Mathlib.Omega.{arith}
 use lib.Dec.{eqb, leb, lit<, eqb·zero-suc, eqb·suc-zero, eqb·suc-suc}
-use lib.Arith.{digits-div, digits-mod, lt-one}
+use lib.Arith.{lt-one}
 use lib.Bits.{bitAnd, and-step, and-self, and-le-l, and-le-r}
-use borrow.Author.Tests.{eq-eqb, ne-eqb, le-leb, lt-leb, leb-true, leb-false}
-use Rattle.sets.specs.Word.{has, wordOf, lowestOf}
-use Rattle.sets.specs.WordLaws.{two-cases, has-zero, has-suc, has-none, has-word, same-word, lowest-ext, lowest-le, word-lt}
-use Rattle.sets.specs.Set.{member, setOf, removed}
-use Rattle.sets.specs.SetLaws.{order, set-eq, set-member, set-ext, member-removed, removed-none}
+use borrow.Author.Tests.{eq-eqb, ne-eqb, le-leb, lt-leb, leb-true}
+use Rattle.sets.specs.Word.{has, lowestOf}
+use Rattle.sets.specs.WordLaws.{two-cases, has-zero, has-suc, has-none, same-word, lowest-ext, lowest-le, word-lt}
+use Rattle.sets.specs.Set.{member, removed}
+use Rattle.sets.specs.SetLaws.{order, member-removed, removed-none}
 use Rattle.sets.specs.declared.Set.{Set}
 
 -- ---- the lowest member

@@ -1,7 +1,7 @@
 -- What owning a cell tells of its arrays and words: a table that a function is handed has the sizes of the struct.
 use mathlib.Core.Path.{_≡_, refl, sym, ap, _∙_}
 use mathlib.Core.List.{List, [], _∷_, map}
-use Prim.Native.Nat.{ℕ, suc}
+use Prim.Native.Nat.{suc}
 use lib.ListN.{length}
 use denote.Laws.{Is}
 use denote.Struct.Declared.{row}

@@ -2,8 +2,8 @@
 -- Idea: each law goes by one number, which is the one in question or another; told and eq? tell which.
 use mathlib.Core.Path.{_≡_, refl, sym, ap, ap₂, _∙_, subst}
 use mathlib.Core.Logic.{_≢_, _⊎_, inl, inr}
-use mathlib.Core.List.{List, [], _∷_}
-use mathlib.Core.Bool.{Bool, true, false, not, _&&_, _||_, cond, false≢true}
+use mathlib.Core.List.{List}
+use mathlib.Core.Bool.{Bool, true, false, _&&_, _||_, cond, false≢true}
 use Prim.Native.Nat.{ℕ, zero, suc, _+_, _≤_, _<_, zero-le}
 use native.Mathlib.Nat.{add-zero, zero-add, le-refl}
 use native.Mathlib.Omega.{arith}
@@ -11,7 +11,7 @@ use native.Mathlib.Numerals.{add-one}
 use lib.Dec.{eqb, ltb, leb}
 use lib.ListN.{getD, length, set, length-set}
 use lib.Seq.{ext-getD, getD-set-same, getD-set-other}
-use borrow.Author.Tests.{eqb-true, eqb-false, eq-eqb, ne-eqb, ltb-true, ltb-false, lt-ltb, le-ltb, leb-true}
+use borrow.Author.Tests.{eqb-true, eqb-false, eq-eqb, ne-eqb, ltb-true, ltb-false, leb-true}
 use Rattle.sets.specs.Word.{bit}
 use Rattle.table.specs.Base.{upd, tab, foldUp, allBelow, anyBelow, countBelow, iter}
 
@@ -133,6 +133,13 @@ pub all-yes : (P : ℕ → Bool) (n : ℕ) → ((j : ℕ) → j < n → P j ≡ 
 unfolding allBelow
 all-yes P zero h = refl
 all-yes P (suc n) h = ap₂ _&&_ (h n (omega arith)) (all-yes P n (λ j l. h j (omega arith)))
+
+pub all-no : (P : ℕ → Bool) (n j : ℕ) → j < n → P j ≡ false → allBelow P n ≡ false
+all-no P n j l e = go (told (allBelow P n))
+  where
+    go : Told (allBelow P n) → allBelow P n ≡ false
+    go (yea t) = clash (all-at P n j l t) e
+    go (nay t) = t
 
 -- two tests below two bounds that follow from each other are equal
 pub all-same : (P Q : ℕ → Bool) (n m : ℕ) → (((j : ℕ) → j < n → P j ≡ true) → (j : ℕ) → j < m → Q j ≡ true)

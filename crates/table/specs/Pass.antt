@@ -1,85 +1,105 @@
--- The soundness test as the program goes about it
-use Prim.Native.Nat.{ℕ, zero, suc, _+_, _%_, _<_}
+-- The soundness test as the program goes about it: numbers are read masked by 64, whatever they are, and tested for use beside.
+use Prim.Native.Nat.{ℕ, zero, suc, _%_, _<_}
 use mathlib.Core.Path.{_≡_}
 use mathlib.Core.Bool.{Bool, true, false, not, _&&_, _||_, cond}
 use mathlib.Core.List.{List}
-use lib.Dec.{ltb, leb, eqb}
+use lib.Dec.{leb, eqb}
 use lib.ListN.{getD}
-use Rattle.sets.specs.Word.{has}
-use Rattle.sets.specs.Set.{inserted, insertedIf}
-use Rattle.table.specs.Base.{allBelow, tab, foldUp}
-use Rattle.table.specs.Cell.{noPlace, noAgent, hasAction, kindOf}
-use Rattle.table.specs.Sound.{actionFits, actionsFit, stageFits, stands, firstHeld, secondHeld, goingFrom}
-use Rattle.table.specs.declared.Action.{Action}
+use Rattle.sets.specs.Set.{member}
+use Rattle.sets.specs.declared.Set.{Set}
+use Rattle.table.specs.Base.{allBelow, tab}
+use Rattle.table.specs.Cell.{none, noPlace, hasAction}
+use Rattle.table.specs.Sound.{ready, stageFits}
 use Rattle.table.specs.declared.Agent.{Agent}
 use Rattle.table.specs.declared.Place.{Place}
-use Rattle.table.specs.declared.sound.Seen.{Seen}
-use Rattle.table.specs.declared.Cell.{Cell}
 
--- all are 0, if r says so
-abbrev pub Noughts : List ℕ → Bool → Type 0
-Noughts up r = r ≡ true → (j : ℕ) → j < 64 → getD up j 0 ≡ 0
+-- ---- one agent
 
+-- what was read is what it should be, where the actions are in range
+abbrev pub Known : Bool → ℕ → ℕ → Type 0
+Known fit m n = fit ≡ true → m ≡ n
+
+-- the stages at which an agent holds no lock and is not on its way
+unfoldable pub quiet : ℕ → Bool
+quiet s = leb s 1 || leb 7 s
+
+-- what such a stage asks
+unfoldable pub quietFits : ℕ → Bool → Bool → Bool → ℕ → Bool
+quietFits s some known same kind =
+    cond (eqb s 0) some (cond (eqb s 1) (ready some known same kind) (cond (eqb s 7) (some && known) (cond (eqb s 8) (not some) false)))
+
+-- the lock of q is x's, if q is any
 unfoldable pub lockIsAt : Bool → ℕ → ℕ → ℕ → Bool
-lockIsAt known q l x = cond (eqb q 64) true ((known && eqb l x))
+lockIsAt known q lock x = cond (eqb q none) true (known && eqb lock x)
 
+-- the place x is in use and linked to p
 unfoldable pub linkedAt : Bool → Place → ℕ → Bool
-linkedAt known x p = (known && (eqb (x .way) 0 && eqb (x .parent) p))
+linkedAt known x p = known && (eqb (x .way) 0 && eqb (x .parent) p)
 
-unfoldable pub agentFitsAt : (ℕ → Bool) → ℕ → Agent → ℕ → Place → Place → ℕ → ℕ → ℕ → ℕ → Bool
-agentFitsAt used x a kind h t f lf g lg =
-    (used (a .home) && (actionsFit a && (stageFits (a .stage) (hasAction a) (used (a .remembered)) (eqb (a .remembered) (a .home)) kind (linkedAt (used (a .home)) h (a .remembered)) (linkedAt (used (a .chosen)) t (a .remembered)) && (lockIsAt (used f) f lf x && lockIsAt (used g) g lg x))))
+-- what any stage asks of an agent whose home is in use; first and second: the places that it holds
+unfoldable pub busyFits : Bool → (ℕ → Bool) → ℕ → Agent → ℕ → Place → Place → ℕ → ℕ → ℕ → ℕ → Bool
+busyFits known used x a kind home chosen first firstLock second secondLock =
+    stageFits (a .stage) (hasAction a) known (eqb (a .remembered) (a .home)) kind
+    (linkedAt true home (a .remembered)) (linkedAt (used (a .chosen)) chosen (a .remembered))
+    && (lockIsAt (used first) first firstLock x && lockIsAt (used second) second secondLock x)
 
-unfoldable pub moreOf : Seen → Bool → ℕ → ℕ → ℕ → Seen
-moreOf s b f g m = record {
-  ok = (b && s .ok);
-  claimed = inserted (inserted (s .claimed) f) g;
-  going = inserted (s .going) m;
-  twice = insertedIf (s .twice) m (has (s .going .bits) m);
-}
+-- ---- one place
 
--- one agent more
-unfoldable pub seenAt : Cell → ℕ → Agent → Seen → Seen
-seenAt c x a s =
-    let h = getD (c .places) (a .home % 64) noPlace in
-    let f = firstHeld a in
-    let g = secondHeld a (kindOf a) (cond (has (c .used .bits) (a .home)) (h .parent) 64) in
-    moreOf s (agentFitsAt (has (c .used .bits)) x a (kindOf a) h (getD (c .places) (a .chosen % 64) noPlace) f (getD (c .locks) (f % 64) 0) g (getD (c .locks) (g % 64) 0)) f g (goingFrom a)
+unfoldable pub floorStands : Place → Bool → Bool
+floorStands x going = eqb (x .name) 0 && (eqb (x .parent) 0 && (not (eqb (x .way) 0) && not going))
 
-abbrev pub agentTurn : Cell → ℕ → Seen → Seen
-agentTurn c x s = cond (has (c .given .bits) x) (seenAt c x (getD (c .agents) x noAgent) s) s
+-- what is asked of the floor
+unfoldable pub floorFits : Place → ℕ → Bool → Bool → Bool
+floorFits x lock claimed going = (eqb lock none || claimed) && floorStands x going
 
-abbrev pub unseen : Seen
-unseen = record { ok = true; claimed = record { bits = 0 }; going = record { bits = 0 }; twice = record { bits = 0 } }
+unfoldable pub childStands : Place → Bool → Bool → Bool
+childStands x known going = leb 1 (x .name) && (known && cond (eqb (x .way) 0) (not going) going)
 
-abbrev pub travelsWell : ℕ → ℕ → Bool → Bool → Bool
-travelsWell q way going twice = cond (eqb q 0) (not going) (cond (eqb way 0) (not going) ((going && not twice)))
+-- what is asked of any other place in use; going: an agent of it is on its way
+unfoldable pub childFits : Place → ℕ → Bool → Bool → Bool → Bool
+childFits x lock known claimed going = (eqb lock none || claimed) && childStands x known going
 
-unfoldable pub standsWell : ℕ → Place → Bool → Bool → Bool → Bool
-standsWell q x known going twice = (stands q x known && travelsWell q (x .way) going twice)
+-- ---- the way to the floor
 
-unfoldable pub placeFitsAt : ℕ → Place → Bool → ℕ → Bool → Bool → Bool → Bool
-placeFitsAt q x known l claimed going twice = ((eqb l 64 || claimed) && standsWell q x known going twice)
+-- the numbers in use but the floor's
+abbrev pub child : Set → ℕ → Bool
+child used q = not (eqb q 0) && member used q
 
-unfoldable pub placeAt : ℕ → Seen → ℕ → Place → ℕ → Bool
-placeAt u s q x l = cond (has u q) (placeFitsAt q x (has u (x .parent)) l (has (s .claimed .bits) q) (has (s .going .bits) q) (has (s .twice .bits) q)) true
+-- one step up from each place in use; the floor and what is not in use lead to the floor
+unfoldable pub parentsOf : List Place → Set → List ℕ
+parentsOf ps used = tab (λ q. cond (child used q) (getD ps q noPlace .parent) 0) 64 0
 
-unfoldable pub placesAt : List Place → List ℕ → ℕ → Seen → Bool
-placesAt ps ls u s = allBelow (λ q. placeAt u s q (getD ps q noPlace) (getD ls q 0)) 64
-
-unfoldable pub parentsOf : List Place → List ℕ
-parentsOf ps = tab (λ q. getD ps q noPlace .parent) 64 0
-
+-- twice as many steps up
 unfoldable pub doubledOf : List ℕ → List ℕ
 doubledOf up = tab (λ q. getD up (getD up q 0 % 64) 0) 64 0
 
-unfoldable pub zerosOf : List ℕ → ℕ → Bool
-zerosOf up u = allBelow (λ q. cond (has u q) (eqb (getD up q 0) 0) true) 64
-
-unfoldable pub allLead : List Place → ℕ → Bool
-allLead ps u = zerosOf (doubledOf (doubledOf (doubledOf (doubledOf (doubledOf (doubledOf (parentsOf ps))))))) u
-
 -- doubled n times
 unfoldable pub farUp : ℕ → List ℕ → List ℕ
-farUp zero l = l
-farUp (suc n) l = doubledOf (farUp n l)
+farUp zero up = up
+farUp (suc n) up = doubledOf (farUp n up)
+
+-- all are at the floor
+unfoldable pub zerosOf : List ℕ → Bool
+zerosOf up = allBelow (λ q. eqb (getD up q 0) 0) 64
+
+-- the floor leads to the floor, and so does every number past high
+pub record Flat (up : List ℕ) (high : ℕ) : Type 0 where
+  pub floor : getD up 0 0 ≡ 0
+  pub past : (j : ℕ) → high < j → getD up j 0 ≡ 0
+
+-- ---- all places
+
+-- what is asked of place q, which is in use and not the floor
+abbrev pub childTest : List Place → List ℕ → Set → Set → Set → ℕ → Bool
+childTest ps ls used claimed going q =
+    childFits (getD ps q noPlace) (getD ls q 0) (member used (getD ps q noPlace .parent)) (member claimed q) (member going q)
+
+unfoldable pub childAt : List Place → List ℕ → Set → Set → Set → ℕ → Bool
+childAt ps ls used claimed going q = cond (child used q) (childTest ps ls used claimed going q) true
+
+unfoldable pub childrenFit : List Place → List ℕ → Set → Set → Set → Bool
+childrenFit ps ls used claimed going = allBelow (childAt ps ls used claimed going) 64 && zerosOf (farUp 6 (parentsOf ps used))
+
+unfoldable pub landsFit : List Place → List ℕ → Set → Set → Set → Bool
+landsFit ps ls used claimed going =
+    member used 0 && (floorFits (getD ps 0 noPlace) (getD ls 0 0) (member claimed 0) (member going 0) && childrenFit ps ls used claimed going)

@@ -3,7 +3,7 @@
 use mathlib.Core.Path.{_≡_, sym, ap, _∙_}
 use mathlib.Core.Logic.{_≢_, _⊎_, inl, inr}
 use mathlib.Core.List.{List}
-use mathlib.Core.Bool.{true, cond}
+use mathlib.Core.Bool.{cond}
 use Prim.Native.Nat.{ℕ, _+_, _≤_, _<_, zero-le}
 use native.Mathlib.Omega.{arith}
 use lib.Dec.{ltb}
@@ -21,10 +21,13 @@ module _ {A : Type 0} (d : A) (f g : ℕ → A) where
   unfolding below
   sweep-start l e = e ∙ tab-ext d 64 f (below 0) (λ j m. sym (rw (le-ltb j 0 zero-le)))
 
-  -- the element of this turn is still f's
-  pub sweep-at : (l : List A) (i : ℕ) → i < 64 → l ≡ tab (below i) 64 0 → getD l i d ≡ f i
+  -- the elements from this turn on are still f's
+  pub sweep-from : (l : List A) (i j : ℕ) → i ≤ j → j < 64 → l ≡ tab (below i) 64 0 → getD l j d ≡ f j
   unfolding below
-  sweep-at l i m e = ap (λ (z : List A). getD z i d) e ∙ getD-tab (below i) 64 i d m ∙ rw (le-ltb i i (omega arith))
+  sweep-from l i j h m e = ap (λ (z : List A). getD z j d) e ∙ getD-tab (below i) 64 j d m ∙ rw (le-ltb j i h)
+
+  pub sweep-at : (l : List A) (i : ℕ) → i < 64 → l ≡ tab (below i) 64 0 → getD l i d ≡ f i
+  sweep-at l i m e = sweep-from l i i (omega arith) m e
 
   step-to : (i j : ℕ) → j ≢ i → below i j ≡ below (i + 1) j
   unfolding below

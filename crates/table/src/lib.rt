@@ -1,6 +1,10 @@
 // The cell's table: places, locks and agents, and the reading of one element.
+mod agents;
+mod idle;
+mod lands;
 mod sound;
 
+pub use idle::is_idle;
 use sets::Set;
 pub use sound::is_sound;
 ghost use mathlib.Core.Path.{_≡_};

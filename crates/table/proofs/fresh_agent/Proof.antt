@@ -1,19 +1,14 @@
+-- Sixteen copies of no_action's answer.
 use mathlib.Core.Path.{ap}
 use lib.ListN.{replicate}
 use Rattle.table.specs.declared.Action.{Action}
-use Rattle.table.specs.declared.Agent.{Agent}
 use borrow.Author.Needs.{needs}
 use Rattle.table.proofs.fresh_agent.Statement.{statement}
 use Rattle.table.proofs.fresh_agent.Tie as tie
-use Rattle.table.proofs.fresh_agent.Reads as reads
-use Rattle.table.proofs.fresh_agent.Lts as lts
-use Rattle.table.proofs.no_action.Reads as no-action-reads
 
--- src/lib.rt:66:9
 no-action-requires : tie.Need-no-action-requires
 no-action-requires c κs = search needs
 
--- src/lib.rt:63:1
 returns : tie.Need-returns
 returns c = ap (λ (x : Action). record { home = 0; stage = 8; remembered = 0; chosen = 0; next = 0; count = 0; actions = replicate 16 x }) (c .no-action .ensures)
 

@@ -1,43 +1,33 @@
+-- Each return is the case of the definition that its tests pick.
 use Rattle.table.proofs.Rules.{tests}
 use Rattle.table.specs.Cell.{nextAction}
 use borrow.Author.Needs.{needs}
 use Rattle.table.proofs.next_action.Statement.{statement}
 use Rattle.table.proofs.next_action.Tie as tie
-use Rattle.table.proofs.next_action.Reads as reads
-use Rattle.table.proofs.next_action.Lts as lts
-use Rattle.table.proofs.no_action.Reads as no-action-reads
 
--- src/lib.rt:114:17
 cast-k : tie.Need-cast-k
 cast-k c = search needs
 
--- src/lib.rt:115:21
 mul-result : tie.Need-mul-result
 mul-result c = search needs
 
--- src/lib.rt:115:21
 element-copy-out-result : tie.Need-element-copy-out-result
 element-copy-out-result c = search needs
 
--- src/lib.rt:115:43
 no-action-requires : tie.Need-no-action-requires
 no-action-requires c κs = search needs
 
--- src/lib.rt:117:9
 no-action-requires-2 : tie.Need-no-action-requires-2
 no-action-requires-2 c κs = search needs
 
--- src/lib.rt:110:1
 returns : tie.Need-returns
 unfolding nextAction
 returns c = search tests
 
--- src/lib.rt:110:1
 returns-2 : tie.Need-returns-2
 unfolding nextAction
 returns-2 c = search (tests, c .no-action .ensures)
 
--- src/lib.rt:110:1
 returns-3 : tie.Need-returns-3
 unfolding nextAction
 returns-3 c = search (tests, c .no-action2 .ensures)

@@ -3,10 +3,6 @@ use Rattle.sets.specs.Word.{chosenOf}
 use borrow.Author.Needs.{needs}
 use Rattle.sets.proofs.Set.choose.Statement.{statement}
 use Rattle.sets.proofs.Set.choose.Tie as tie
-use Rattle.sets.proofs.Set.choose.Reads as reads
-use Rattle.sets.proofs.Set.choose.Lts as lts
-use Rattle.sets.proofs.Set.first.Reads as first-reads
-use Rattle.sets.proofs.Set.has.Reads as has-reads
 
 has-requires : tie.Need-has-requires
 has-requires c κs = search needs

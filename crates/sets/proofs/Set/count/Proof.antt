@@ -3,8 +3,6 @@ use borrow.Author.Needs.{needs}
 use Rattle.sets.specs.WordLaws.{ones-has}
 use Rattle.sets.proofs.Set.count.Statement.{statement}
 use Rattle.sets.proofs.Set.count.Tie as tie
-use Rattle.sets.proofs.Set.count.Reads as reads
-use Rattle.sets.proofs.Set.count.Lts as lts
 
 returns : tie.Need-returns
 returns c = ones-has 64 (c .before .args .self .bits) (search needs)

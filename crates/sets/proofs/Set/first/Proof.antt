@@ -5,9 +5,6 @@ use Rattle.sets.specs.WordLaws.{lowest-le}
 use borrow.Author.Needs.{needs}
 use Rattle.sets.proofs.Set.first.Statement.{statement}
 use Rattle.sets.proofs.Set.first.Tie as tie
-use Rattle.sets.proofs.Set.first.Reads as reads
-use Rattle.sets.proofs.Set.first.Lts as lts
-use Rattle.sets.proofs.Set.lowest.Reads as lowest-reads
 
 lowest-requires : tie.Need-lowest-requires
 lowest-requires c κs = search needs

@@ -5,8 +5,6 @@ use Rattle.sets.specs.WordLaws.{has-past}
 use borrow.Author.Needs.{needs}
 use Rattle.sets.proofs.Set.has.Statement.{statement}
 use Rattle.sets.proofs.Set.has.Tie as tie
-use Rattle.sets.proofs.Set.has.Reads as reads
-use Rattle.sets.proofs.Set.has.Lts as lts
 
 shr-result : tie.Need-shr-result
 shr-result c = search needs

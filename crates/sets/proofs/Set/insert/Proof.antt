@@ -3,8 +3,6 @@ use Rattle.sets.specs.SetLaws.{set-eq, or-inserted, inserted-past}
 use borrow.Author.Needs.{needs}
 use Rattle.sets.proofs.Set.insert.Statement.{statement}
 use Rattle.sets.proofs.Set.insert.Tie as tie
-use Rattle.sets.proofs.Set.insert.Reads as reads
-use Rattle.sets.proofs.Set.insert.Lts as lts
 
 shl-t6 : tie.Need-shl-t6
 shl-t6 c = search needs

@@ -2,9 +2,6 @@
 use borrow.Author.Needs.{needs}
 use Rattle.sets.proofs.Set.insert_if.Statement.{statement}
 use Rattle.sets.proofs.Set.insert_if.Tie as tie
-use Rattle.sets.proofs.Set.insert_if.Reads as reads
-use Rattle.sets.proofs.Set.insert_if.Lts as lts
-use Rattle.sets.proofs.Set.insert.Reads as insert-reads
 
 insert-requires : tie.Need-insert-requires
 insert-requires c κs = search needs

@@ -3,8 +3,6 @@ use borrow.Author.Needs.{needs}
 use Rattle.sets.specs.WordLaws.{trailing-has}
 use Rattle.sets.proofs.Set.lowest.Statement.{statement}
 use Rattle.sets.proofs.Set.lowest.Tie as tie
-use Rattle.sets.proofs.Set.lowest.Reads as reads
-use Rattle.sets.proofs.Set.lowest.Lts as lts
 
 returns : tie.Need-returns
 returns c = trailing-has 64 (c .before .args .self .bits) (search needs)

@@ -5,9 +5,6 @@ use mathlib.Core.Path.{_∙_, sym}
 use borrow.Author.Needs.{needs}
 use Rattle.sets.proofs.Set.remove.Statement.{statement}
 use Rattle.sets.proofs.Set.remove.Tie as tie
-use Rattle.sets.proofs.Set.remove.Reads as reads
-use Rattle.sets.proofs.Set.remove.Lts as lts
-use Rattle.sets.proofs.Set.has.Reads as has-reads
 
 has-requires : tie.Need-has-requires
 has-requires c κs = search needs

@@ -5,8 +5,6 @@ use Rattle.sets.specs.WalkLaws.{and-removed, removed-empty}
 use borrow.Author.Needs.{needs}
 use Rattle.sets.proofs.Set.rest.Statement.{statement}
 use Rattle.sets.proofs.Set.rest.Tie as tie
-use Rattle.sets.proofs.Set.rest.Reads as reads
-use Rattle.sets.proofs.Set.rest.Lts as lts
 
 sub-t4 : tie.Need-sub-t4
 sub-t4 c = omega arith

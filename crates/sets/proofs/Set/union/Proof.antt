@@ -3,8 +3,6 @@ use borrow.Author.Needs.{needs}
 use Rattle.sets.specs.SetLaws.{set-eq, or-united}
 use Rattle.sets.proofs.Set.union.Statement.{statement}
 use Rattle.sets.proofs.Set.union.Tie as tie
-use Rattle.sets.proofs.Set.union.Reads as reads
-use Rattle.sets.proofs.Set.union.Lts as lts
 
 returns : tie.Need-returns
 returns c = set-eq (or-united (c .before .before .args .self) (c .before .before .args .other) (search needs) (search needs))

@@ -1,114 +1,94 @@
-use Rattle.table.specs.Pass.{placesAt, allLead}
-use Rattle.table.proofs.Facts.{sized}
-use Rattle.table.specs.SoundLaws.{pass-is}
-use Rattle.table.specs.Pass.{seenAt}
-use Prim.Native.Nat.{ℕ, _≤_, _<_, _-_, _+_, _%_}
-use mathlib.Core.Path.{_≡_, refl, sym, ap, ap₂, _∙_}
+-- Each turn takes the lowest agent that is left; what holds before it is `Passed`. An agent that does not fit, or the second
+-- that moves a place, makes the table unsound; once nobody is left, the places decide.
+use Prim.Native.Nat.{ℕ}
+use mathlib.Core.Path.{sym, ap, ap₂, _∙_, subst}
+use mathlib.Core.Bool.{true}
 use native.Mathlib.Omega.{arith}
-use native.Mathlib.Nat.{mod-lt, zero-lt-suc}
-use borrow.Author.Needs.{needs}
-use lib.ListN.{getD, set, length}
-use Rattle.sets.specs.Word.{has}
-use Rattle.table.specs.Base.{foldUp, allBelow}
-use Rattle.table.specs.BaseLaws.{fold-none, fold-more}
-use Rattle.table.specs.Cell.{noPlace, noAgent, cellOf, nextAction}
-use Rattle.table.specs.Sound.{firstHeld, secondHeld, goingFrom}
-use Rattle.table.specs.Sound.{sound}
-use Rattle.table.specs.Pass.{agentTurn, seenAt, unseen}
+use Rattle.sets.specs.Set.{inserted}
+use Rattle.sets.specs.declared.Set.{Set}
+use Rattle.table.specs.Cell.{cellOf}
+use Rattle.table.specs.Sound.{firstHeld, secondHeldIn, goingFrom, agentFits}
+use Rattle.table.specs.Pass.{quiet}
+use Rattle.table.specs.AgentLaws.{home-out, row-out}
+use Rattle.table.specs.PassLaws.{Passed, passed-are, passed-start, passed-twice, passed-quiet, passed-busy}
+use Rattle.table.specs.SoundLaws.{lands-same}
+use Rattle.table.proofs.Facts.{sized}
 use Rattle.table.proofs.sound.is_sound.Statement.{statement}
 use Rattle.table.proofs.sound.is_sound.Tie as tie
-use Rattle.table.proofs.sound.is_sound.Reads as reads
-use Rattle.table.proofs.sound.is_sound.Lts as lts
-use Rattle.sets.proofs.Set.has.Reads as has-reads
-use Rattle.table.proofs.sound.agent_fits.Reads as agent-fits-reads
-use Rattle.table.proofs.sound.all_four.Reads as all-four-reads
-use Rattle.table.proofs.sound.all_lead.Reads as all-lead-reads
-use Rattle.table.proofs.at.Reads as at-reads
-use Rattle.table.proofs.sound.first_held.Reads as first-held-reads
-use Rattle.table.proofs.sound.going_from.Reads as going-from-reads
-use Rattle.table.proofs.sound.more.Reads as more-reads
-use Rattle.table.proofs.next_action.Reads as next-action-reads
-use Rattle.table.proofs.sound.places_fit.Reads as places-fit-reads
-use Rattle.table.proofs.sound.second_held.Reads as second-held-reads
-use Rattle.table.proofs.sound.stands_in.Reads as stands-in-reads
-
-abbrev Inv-loop : tie.InvT-loop
-Inv-loop c used given s₀ i₀ s i = (i ≤ 64) × (s ≡ foldUp (agentTurn c) i unseen)
-
-abbrev μ-loop : tie.MeasureT-loop
-μ-loop c used given s₀ i₀ s i = 64 - i
-
--- one turn of the loop
-turned : (c : tie.After-more Inv-loop μ-loop) → c .more .result ≡ agentTurn (c .before .before .before .before .before .before .before .before .before .before .before .before .before .before .before .before .before .before .before .before .before .before .before .args .t1) (c .before .before .before .before .before .before .before .before .before .before .before .before .before .before .before .before .before .before .before .before .loop .i) (c .before .before .before .before .before .before .before .before .before .before .before .before .before .before .before .before .before .before .before .before .loop .s)
-unfolding seenAt
-turned c =
-    let x = c .before .before .before .before .before .before .before .before .before .before .before .before .before .before .before .before .before .before .before .before .before .before .before .args .t1 in
-    let l = c .before .before .before .before .before .before .before .before .before .before .before .before .before .before .before .before .before .before .before .before .loop in
-    let a = getD (x .agents) (l .i) noAgent in
-    let na : c .before .before .before .before .before .before .before .before .before .before .before .next-action .result .kind ≡ nextAction a .kind = ap (λ v. v .kind) (c .before .before .before .before .before .before .before .before .before .before .before .next-action .ensures) in
-    let fh : c .before .before .before .before .before .before .before .before .first-held .result ≡ firstHeld a = c .before .before .before .before .before .before .before .before .first-held .ensures in
-    let sh : c .before .before .before .before .before .before .before .second-held .result ≡ secondHeld a (c .before .before .before .before .before .before .before .before .before .before .before .next-action .result .kind) (c .before .before .before .before .before .before .before .before .before .stands-in .result) = c .before .before .before .before .before .before .before .second-held .ensures in
-    let gf : c .before .going-from .result ≡ goingFrom a = c .before .going-from .ensures in
-    rw (
-      ← c .before .before .before .before .before .before .before .before .before .before .before .before .before .before .before .before .before .before .has .ensures,
-      c .before .before .before .before .before .before .before .before .before .before .before .before .before .before .before .before .before .if1 .taken,
-      ← c .before .before .before .before .before .before .before .before .before .before .before .before .before .before .before .at .ensures,
-      ← c .before .before .before .before .before .before .before .before .before .before .before .before .before .at2 .ensures,
-      ← na,
-      ← c .before .before .before .before .before .before .before .before .before .before .has2 .ensures,
-      ← c .before .before .before .before .before .before .before .before .before .stands-in .ensures,
-      ← fh,
-      ← sh,
-      ← c .before .before .before .before .before .before .at3 .ensures,
-      ← c .before .before .before .before .before .at4 .ensures,
-      ← c .before .before .agent-fits .ensures,
-      ← gf,
-    ) (c .more .ensures)
-
-still : (c : tie.Else1 Inv-loop μ-loop) → c .before .before .before .loop .s ≡ agentTurn (c .before .before .before .before .before .before .args .t1) (c .before .before .before .loop .i) (c .before .before .before .loop .s)
-still c = rw (← c .before .has .ensures, c .if1 .left)
+use Rattle.table.proofs.sound.is_sound.Proof.Turn.{Inv-loop, μ-loop, small, table, good, number, agent, this, some-left, lowest, fewer, moved-to, unfit, turned, kept, is-still, fits-still, second-is, fits-busy, moves}
+mod Turn
 
 loop-holds : tie.Need-loop-holds Inv-loop μ-loop
-loop-holds c = (omega arith, fold-none _ _)
+loop-holds c = let x = c .before .before .args .t1 in
+    passed-start x (sized x (c .before .before .good .0))
+
+first-requires : tie.Need-first-requires Inv-loop μ-loop
+first-requires c κs = tt
+
+rest-requires : tie.Need-rest-requires Inv-loop μ-loop
+rest-requires c κs = tt
+
+cast-k : tie.Need-cast-k Inv-loop μ-loop
+cast-k c = let h = small c in omega arith
+
+mul-a : tie.Need-mul-a Inv-loop μ-loop
+mul-a c = let h = small c in omega arith
+
+element-copy-out-a : tie.Need-element-copy-out-a Inv-loop μ-loop
+element-copy-out-a c = let h = small c in omega arith
 
 has-requires : tie.Need-has-requires Inv-loop μ-loop
 has-requires c κs = tt
 
-cast-k : tie.Need-cast-k Inv-loop μ-loop
-cast-k c = omega arith
+returns : tie.Need-returns Inv-loop μ-loop
+returns c = let h = c .before in
+    unfit h (home-out (table h) (sized (table h) (good h)) (number h) (this h) (sym (h .has .ensures) ∙ turned _ (c .if2 .taken)))
 
-mul-a : tie.Need-mul-a Inv-loop μ-loop
-mul-a c = omega arith
+row-of-requires : tie.Need-row-of-requires Inv-loop μ-loop
+row-of-requires c κs = tt
 
-element-copy-out-a : tie.Need-element-copy-out-a Inv-loop μ-loop
-element-copy-out-a c = omega arith
-
-at-requires : tie.Need-at-requires Inv-loop μ-loop
-at-requires c κs = tt
-
-mul-h : tie.Need-mul-h Inv-loop μ-loop
-mul-h c = omega arith
-
-element-copy-out-h : tie.Need-element-copy-out-h Inv-loop μ-loop
-element-copy-out-h c = omega arith
-
-at-requires-2 : tie.Need-at-requires-2 Inv-loop μ-loop
-at-requires-2 c κs = tt
-
-mul-t : tie.Need-mul-t Inv-loop μ-loop
-mul-t c = omega arith
-
-element-copy-out-t : tie.Need-element-copy-out-t Inv-loop μ-loop
-element-copy-out-t c = omega arith
-
-next-action-requires : tie.Need-next-action-requires Inv-loop μ-loop
-next-action-requires c κs = tt
+returns-2 : tie.Need-returns-2 Inv-loop μ-loop
+returns-2 c = let h = c .before .before .before .before in
+    unfit h (row-out (table h) (sized (table h) (good h)) (number h) (this h) (sym (c .before .before .row-of .ensures .0) ∙ turned _ (c .if3 .taken)))
 
 has-requires-2 : tie.Need-has-requires-2 Inv-loop μ-loop
 has-requires-2 c κs = tt
 
-stands-in-requires : tie.Need-stands-in-requires Inv-loop μ-loop
-stands-in-requires c κs = tt
+is-quiet-requires : tie.Need-is-quiet-requires Inv-loop μ-loop
+is-quiet-requires c κs = tt
+
+quiet-fits-requires : tie.Need-quiet-fits-requires Inv-loop μ-loop
+quiet-fits-requires c κs = tt
+
+returns-3 : tie.Need-returns-3 Inv-loop μ-loop
+returns-3 c = unfit (c .before .before .before .before .before .before .before .before .before .before .before) (fits-still (c .before) ∙ turned _ (c .if5 .taken))
+
+loop-less : tie.Need-loop-less Inv-loop μ-loop
+loop-less c = fewer (c .before .before .before .before .before .before .before .before .before .before .before)
+
+loop-again : tie.Need-loop-again Inv-loop μ-loop
+loop-again c = let h = c .before .before .before .before .before .before .before .before .before .before .before in
+    let l = h .before .before .before .before .before .before .loop in
+    subst (λ (z : Set). Passed (table h) (l .claimed) (l .going) z) (sym (h .before .before .rest2 .ensures))
+    (passed-quiet (table h) (sized (table h) (good h)) (l .claimed) (l .going) (l .rest) (l .inv) (some-left h) (moved-to h (agentFits (cellOf (table h))) true (fits-still (c .before) ∙ kept _ (c .if5 .left))) (moved-to h (λ n a. quiet (a .stage)) true (is-still (c .before .before .before .before))))
+
+at-requires : tie.Need-at-requires Inv-loop μ-loop
+at-requires c κs = tt
+
+mul-home : tie.Need-mul-home Inv-loop μ-loop
+mul-home c = omega arith
+
+element-copy-out-home : tie.Need-element-copy-out-home Inv-loop μ-loop
+element-copy-out-home c = omega arith
+
+at-requires-2 : tie.Need-at-requires-2 Inv-loop μ-loop
+at-requires-2 c κs = tt
+
+mul-chosen : tie.Need-mul-chosen Inv-loop μ-loop
+mul-chosen c = omega arith
+
+element-copy-out-chosen : tie.Need-element-copy-out-chosen Inv-loop μ-loop
+element-copy-out-chosen c = omega arith
 
 first-held-requires : tie.Need-first-held-requires Inv-loop μ-loop
 first-held-requires c κs = tt
@@ -122,60 +102,60 @@ at-requires-3 c κs = tt
 at-requires-4 : tie.Need-at-requires-4 Inv-loop μ-loop
 at-requires-4 c κs = tt
 
-element-copy-out-lf : tie.Need-element-copy-out-lf Inv-loop μ-loop
-element-copy-out-lf c = omega arith
+element-copy-out-first-lock : tie.Need-element-copy-out-first-lock Inv-loop μ-loop
+element-copy-out-first-lock c = omega arith
 
-element-copy-out-lg : tie.Need-element-copy-out-lg Inv-loop μ-loop
-element-copy-out-lg c = omega arith
-
-agent-fits-requires : tie.Need-agent-fits-requires Inv-loop μ-loop
-agent-fits-requires c κs = tt
+element-copy-out-second-lock : tie.Need-element-copy-out-second-lock Inv-loop μ-loop
+element-copy-out-second-lock c = omega arith
 
 going-from-requires : tie.Need-going-from-requires Inv-loop μ-loop
 going-from-requires c κs = tt
 
-more-requires : tie.Need-more-requires Inv-loop μ-loop
-more-requires c κs = tt
-
-add-i : tie.Need-add-i Inv-loop μ-loop
-add-i c = omega (arith, c .before .before .before .before .before .before .before .before .before .before .before .before .before .before .before .before .before .before .before .loop-test .taken)
-
-loop-less : tie.Need-loop-less Inv-loop μ-loop
-loop-less c = omega (arith, c .before .before .before .before .before .before .before .before .before .before .before .before .before .before .before .before .before .before .before .loop-test .taken)
-
-loop-again : tie.Need-loop-again Inv-loop μ-loop
-loop-again c = let l = c .before .before .before .before .before .before .before .before .before .before .before .before .before .before .before .before .before .before .before .before in
-    let x = l .before .before .before .args .t1 in
-    (omega (arith, c .before .before .before .before .before .before .before .before .before .before .before .before .before .before .before .before .before .before .before .loop-test .taken), turned c ∙ fold-more (agentTurn x) unseen (l .loop .s) (l .loop .i) (l .loop .inv .1))
-
-add-i-2 : tie.Need-add-i-2 Inv-loop μ-loop
-add-i-2 c = omega arith
-
-loop-less-2 : tie.Need-loop-less-2 Inv-loop μ-loop
-loop-less-2 c = omega arith
-
-loop-again-2 : tie.Need-loop-again-2 Inv-loop μ-loop
-loop-again-2 c = let l = c .before .before .before in
-    let x = l .before .before .before .args .t1 in
-    (omega arith, still c ∙ fold-more (agentTurn x) unseen (l .loop .s) (l .loop .i) (l .loop .inv .1))
-
 has-requires-3 : tie.Need-has-requires-3 Inv-loop μ-loop
 has-requires-3 c κs = tt
 
-places-fit-requires : tie.Need-places-fit-requires Inv-loop μ-loop
-places-fit-requires c κs = tt
+returns-4 : tie.Need-returns-4 Inv-loop μ-loop
+returns-4 c = let h = c .before .before .before .before .before .before .before .before .before .before .before .before .before .before .before .before .before .before .before .before in
+    let l = h .before .before .before .before .before .before .loop in
+    passed-twice (table h) (sized (table h) (good h)) (l .claimed) (l .going) (l .rest) (l .inv) (some-left h) (moves (c .before) ∙ c .if6 .taken)
 
-all-lead-requires : tie.Need-all-lead-requires Inv-loop μ-loop
-all-lead-requires c κs = tt
+busy-fits-requires : tie.Need-busy-fits-requires Inv-loop μ-loop
+busy-fits-requires c κs = tt
 
-all-four-requires : tie.Need-all-four-requires Inv-loop μ-loop
-all-four-requires c κs = tt
+returns-5 : tie.Need-returns-5 Inv-loop μ-loop
+returns-5 c = unfit (c .before .before .before .before .before .before .before .before .before .before .before .before .before .before .before .before .before .before .before .before .before .before) (fits-busy (c .before) ∙ turned _ (c .if7 .taken))
 
-returns : tie.Need-returns Inv-loop μ-loop
-returns c = let l = c .before .before .before .before .before .before .before in
-    let x = l .before .before .before .args .t1 in
-    let e : l .loop .s ≡ foldUp (agentTurn x) 64 unseen = l .loop .inv .1 ∙ ap (λ (n : ℕ). foldUp (agentTurn x) n unseen) (omega arith) in
-    c .all-four .ensures ∙ rw (c .before .all-lead .ensures, c .before .before .places-fit .ensures, c .before .before .before .has3 .ensures, e) (pass-is x (sized x (l .before .before .before .good .0)))
+insert-requires : tie.Need-insert-requires Inv-loop μ-loop
+insert-requires c κs = tt
+
+insert-requires-2 : tie.Need-insert-requires-2 Inv-loop μ-loop
+insert-requires-2 c κs = tt
+
+insert-requires-3 : tie.Need-insert-requires-3 Inv-loop μ-loop
+insert-requires-3 c κs = tt
+
+loop-less-2 : tie.Need-loop-less-2 Inv-loop μ-loop
+loop-less-2 c = fewer (c .before .before .before .before .before .before .before .before .before .before .before .before .before .before .before .before .before .before .before .before .before .before .before .before .before)
+
+loop-again-2 : tie.Need-loop-again-2 Inv-loop μ-loop
+loop-again-2 c = let h = c .before .before .before .before .before .before .before .before .before .before .before .before .before .before .before .before .before .before .before .before .before .before .before .before .before in
+    let l = h .before .before .before .before .before .before .loop in
+    let x = table h in
+    let e = lowest h in
+    passed-are x
+    (c .before .insert2 .ensures ∙ ap₂ inserted (c .before .before .insert .ensures ∙ ap (inserted (l .claimed)) (c .before .before .before .before .before .before .before .before .before .before .before .before .before .first-held .ensures ∙ ap (λ (n : ℕ). firstHeld (agent h n)) e))
+    (second-is (c .before .before .before .before .before .before .before .before .before .before .before .before) ∙ ap (λ (n : ℕ). secondHeldIn (cellOf x) (agent h n)) e))
+    (c .insert3 .ensures ∙ ap (inserted (l .going)) (c .before .before .before .before .before .before .before .going-from .ensures ∙ ap (λ (n : ℕ). goingFrom (agent h n)) e))
+    (h .before .before .rest2 .ensures)
+    (passed-busy (table h) (sized (table h) (good h)) (l .claimed) (l .going) (l .rest) (l .inv) (some-left h) (moved-to h (agentFits (cellOf x)) true (fits-busy (c .before .before .before .before) ∙ kept _ (c .before .before .before .if7 .left))) (moves (c .before .before .before .before .before .before) ∙ c .before .before .before .before .before .if6 .left))
+
+lands-fit-requires : tie.Need-lands-fit-requires Inv-loop μ-loop
+lands-fit-requires c κs = tt
+
+returns-6 : tie.Need-returns-6 Inv-loop μ-loop
+returns-6 c = let l = c .before .before .before .before .before .loop in
+    let x = c .before .before .before .before .before .before .before .before .args .t1 in
+    c .lands-fit .ensures ∙ lands-same x (sized x (c .before .before .before .before .before .before .before .before .good .0)) (l .claimed) (l .going) (l .rest) (l .inv) (c .before .before .before .if1 .left)
 
 pub is-sound-spec : {M : Type 1} → statement M
 is-sound-spec =
@@ -184,36 +164,42 @@ is-sound-spec =
     Inv-loop
     μ-loop
     loop-holds
-    has-requires
+    first-requires
+    rest-requires
     cast-k
     mul-a
     element-copy-out-a
-    at-requires
-    mul-h
-    element-copy-out-h
-    at-requires-2
-    mul-t
-    element-copy-out-t
-    next-action-requires
+    has-requires
+    returns
+    row-of-requires
+    returns-2
     has-requires-2
-    stands-in-requires
+    is-quiet-requires
+    quiet-fits-requires
+    returns-3
+    loop-less
+    loop-again
+    at-requires
+    mul-home
+    element-copy-out-home
+    at-requires-2
+    mul-chosen
+    element-copy-out-chosen
     first-held-requires
     second-held-requires
     at-requires-3
     at-requires-4
-    element-copy-out-lf
-    element-copy-out-lg
-    agent-fits-requires
+    element-copy-out-first-lock
+    element-copy-out-second-lock
     going-from-requires
-    more-requires
-    add-i
-    loop-less
-    loop-again
-    add-i-2
+    has-requires-3
+    returns-4
+    busy-fits-requires
+    returns-5
+    insert-requires
+    insert-requires-2
+    insert-requires-3
     loop-less-2
     loop-again-2
-    has-requires-3
-    places-fit-requires
-    all-lead-requires
-    all-four-requires
-    returns)
+    lands-fit-requires
+    returns-6)
