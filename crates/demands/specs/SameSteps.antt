@@ -80,14 +80,15 @@ module _ (c : State) (i : Sound c) (x : ℕ) (g : c .given x ≡ true) (t : Plai
   plain-took locks stage remembered chosen wish p = turned locks stage remembered chosen (upd (t .pick) x (pickOf t x wish))
       (λ s k. upd-same (t .pick) x (pickOf t x wish) ∙ p s k) (λ y n. upd-other (t .pick) x y (pickOf t x wish) n)
 
-  -- where p is the place that the agent holds, the plain tree picks what the cell chooses
-  pub plain-choice : (wish : ℕ) → heldIn (t .tree) x ≡ a .remembered → pickOf t x wish ≡ choice (c .land) a wish
+  -- where p is the place that the agent holds, the plain tree picks what the cell chooses for enter and open
+  pub plain-choice : (wish : ℕ) → kindOf a ≢ 2 → heldIn (t .tree) x ≡ a .remembered → pickOf t x wish ≡ choice (c .land) a wish
   unfolding pickOf
-  plain-choice wish e = choose-alike (landIn t) (c .land) (same-places c t (i .places) m) (nextOf (t .tree) x .kind) (nextOf (t .tree) x .name)
+  plain-choice wish n e = rw (ne-eqb (nextOf (t .tree) x .kind) 2 (λ k. n (sym (ap (λ v. v .kind) next) ∙ k)))
+      (choose-alike (landIn t) (c .land) (same-places c t (i .places) m) (nextOf (t .tree) x .kind) (nextOf (t .tree) x .name)
       (t .tree .home x) (heldIn (t .tree) x) wish
       ∙ ap (λ (v : Action). choose (c .land) (v .kind) (v .name) (t .tree .home x) (heldIn (t .tree) x) wish) next
       ∙ ap (λ (h : ℕ). choose (c .land) (kindOf a) (nameOf a) h (heldIn (t .tree) x) wish) home
-      ∙ ap (λ (p : ℕ). choose (c .land) (kindOf a) (nameOf a) (a .home) p wish) e
+      ∙ ap (λ (p : ℕ). choose (c .land) (kindOf a) (nameOf a) (a .home) p wish) e)
 
   -- where the agent's own place stands
   around : t .tree .parent (t .tree .home x) ≡ parentIn (c .land) (a .home)

@@ -49,10 +49,12 @@ landIn t = record
 abbrev pub heldIn : Tree → ℕ → ℕ
 heldIn t a = cond (eqb (nextOf t a .kind) 3) (t .home a) (t .parent (t .home a))
 
--- "the place that stage 2 would choose here with this wish, if any"
+-- "the place that stage 2 would choose here with this wish, if any"; an exit chooses none
 unfoldable pub pickOf : Plain → ℕ → ℕ → ℕ
 unfolding landIn
-pickOf t a wish = choose (landIn t) (nextOf (t .tree) a .kind) (nextOf (t .tree) a .name) (t .tree .home a) (heldIn (t .tree) a) wish
+pickOf t a wish =
+  cond (eqb (nextOf (t .tree) a .kind) 2) none
+  (choose (landIn t) (nextOf (t .tree) a .kind) (nextOf (t .tree) a .name) (t .tree .home a) (heldIn (t .tree) a) wish)
 
 -- ---- one call
 
