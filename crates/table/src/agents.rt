@@ -17,22 +17,21 @@ pub struct Row {
     pub kind: u8,
 }
 
+const OUT_OF_RANGE: Row = Row {
+    fit: false,
+    kind: 0,
+};
+
 // Whether the unused actions are in range, and the kind of the next one, or 0 where none is left.
 pub fn row_of(a: Agent) -> Row
     ensures { λ r. ⌜ r .fit ≡ actionsFit a ⌝ }
     ensures { λ r. ⌜ Known (r .fit) (r .kind) (kindOf a) ⌝ }
 {
     if a.next > a.count {
-        return Row {
-            fit: false,
-            kind: 0,
-        };
+        return OUT_OF_RANGE;
     }
     if a.count > 16 {
-        return Row {
-            fit: false,
-            kind: 0,
-        };
+        return OUT_OF_RANGE;
     }
     if a.next == a.count {
         return Row { fit: true, kind: 0 };
@@ -44,23 +43,14 @@ pub fn row_of(a: Agent) -> Row
         let k = j as usize;
         let this = a.actions[k].kind;
         if this < 1 {
-            return Row {
-                fit: false,
-                kind: 0,
-            };
+            return OUT_OF_RANGE;
         }
         if this > 3 {
-            return Row {
-                fit: false,
-                kind: 0,
-            };
+            return OUT_OF_RANGE;
         }
         let name = a.actions[k].name;
         if name < 1 {
-            return Row {
-                fit: false,
-                kind: 0,
-            };
+            return OUT_OF_RANGE;
         }
         j += 1;
     }

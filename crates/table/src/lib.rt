@@ -19,12 +19,15 @@ pub struct Place {
     pub way: u8,
 }
 
+// One action: a kind (1 enter, 2 exit, 3 open) and a name.
 #[repr(C)]
 pub struct Action {
     pub kind: u8,
     pub name: u16,
 }
 
+// One agent: where it lives, its stage and what it remembers there, and its row of actions, of which those from next on
+// are unused.
 #[repr(C)]
 pub struct Agent {
     pub home: u8,
@@ -36,6 +39,7 @@ pub struct Agent {
     pub actions: [Action; 16],
 }
 
+// The table: places with their locks (64: free), agents, and which numbers of each are in use.
 #[repr(C)]
 pub struct Cell {
     pub places: [Place; 64],
