@@ -1,0 +1,11 @@
+-- The walk over a set starts with all its members.
+use borrow.Author.Needs.{needs}
+use Rattle.sets.specs.WalkLaws.{rest-start}
+use Rattle.lister.proofs.members.Statement.{statement}
+use Rattle.lister.proofs.members.Tie as tie
+
+returns : tie.Need-returns
+returns c = rest-start _ (search needs)
+
+pub members-spec : {M : Type 1} → statement M
+members-spec = tie.close (tie.spec returns)

@@ -1,0 +1,252 @@
+-- One turn of the load loop, on the table of the cell so far: what is left of the file loads to what the whole file loads to.
+-- The loop keeps a table and the set of agents whose rows are full; each record changes one element and one set, as the definition does.
+use mathlib.Core.Path.{_≡_, refl, sym, ap, ap₂, _∙_, subst}
+use mathlib.Core.Bool.{Bool, true, false, _||_}
+use mathlib.Core.List.{List}
+use mathlib.Core.Logic.{_≢_, _⊎_, inl, inr}
+use Prim.Native.Nat.{ℕ, zero, suc, _+_, _%_, _<_, _≤_}
+use native.Mathlib.Omega.{arith}
+use lib.Dec.{ltb, leb, eqb, lit<}
+use lib.ListN.{length, getD, set}
+use borrow.Author.Tests.{eq-eqb, ne-eqb, lt-ltb, le-ltb, le-leb, lt-leb, ltb-true, ltb-false, leb-false}
+use Rattle.sets.specs.Word.{wordOf}
+use Rattle.sets.specs.Set.{member, setOf, inserted, insertedIf}
+use Rattle.sets.specs.SetLaws.{set-eq, member-set, set-ext}
+use Rattle.sets.specs.declared.Set.{Set}
+use Rattle.table.specs.Base.{upd, tab}
+use Rattle.table.specs.BaseLaws.{eq?, upd-at, upd-other, getD-tab, set-tab}
+use Rattle.table.specs.Cell.{Land, State, none, noPlace, noAgent, bareTable, cellOf, tableOf}
+use Rattle.table.specs.Bounds.{Sized}
+use Rattle.table.specs.CellLaws.{table-eq, back}
+use Rattle.table.specs.declared.Place.{Place}
+use Rattle.table.specs.declared.Agent.{Agent}
+use Rattle.table.specs.declared.Cell.{Cell}
+use Rattle.meaning.specs.declared.Record.{Record}
+use Rattle.meaning.specs.declared.Record.the-variants.{PlaceRecord, AgentRecord, ActionRecord, EndRecord, Faulty}
+use Rattle.meaning.specs.declared.Verdict.the-variants.{Accepted, Rejected}
+use Rattle.meaning.specs.Update.{linkedPlace, withHome}
+use Rattle.meaning.specs.File.{recordAt, addPlace, withAction, addAgent, addAction, isFull, Load, accepted, refused, loadRecord, loadFrom, load, loaded, loadOf}
+use Rattle.meaning.specs.FileLaws.{Fits, place, agent, action, end, faulty, record-fits, record-same}
+
+-- ---- the load from an offset on
+
+-- the load from an offset on, with the table d and the full agents so far, comes to the load of the whole file
+pub record Rest (s : List ℕ) (at : ℕ) (d : Cell) (full : Set) : Type 0 where
+  pub cell : State
+  pub turns : ℕ
+  pub is : d ≡ tableOf cell
+  pub filled : full ≡ setOf (isFull cell)
+  pub enough : length s < turns + at
+  pub rest : loadFrom turns cell s at ≡ load s
+
+sized-bare : Sized bareTable
+unfolding bareTable
+sized-bare = record { places = refl; locks = refl; agents = refl; used = lit< tt; given = lit< tt }
+
+-- no row of the bare floor is full
+none-full : 0 ≡ setOf (isFull (cellOf bareTable)) .bits
+unfolding cellOf bareTable wordOf
+none-full = refl
+
+-- the loop starts with the bare floor and the whole file
+pub rest-all : (s : List ℕ) (d : Cell) (full : Set) → d ≡ bareTable → full .bits ≡ 0 → Rest s 0 d full
+unfolding load
+rest-all s d full e f = record
+  { cell = cellOf bareTable; turns = suc (length s)
+  ; is = e ∙ sym (back bareTable sized-bare)
+  ; filled = set-eq (f ∙ none-full)
+  ; enough = omega arith; rest = refl }
+
+module _ (s : List ℕ) (at : ℕ) (d : Cell) (full : Set) (r : Rest s at d full) where
+  abbrev c : State
+  c = r .cell
+
+  used-at : (j : ℕ) → j < 64 → member (d .used) j ≡ c .land .used j
+  unfolding tableOf
+  used-at j l = ap (λ (t : Cell). member (t .used) j) (r .is) ∙ member-set (c .land .used) j l
+
+  given-at : (j : ℕ) → j < 64 → member (d .given) j ≡ c .given j
+  unfolding tableOf
+  given-at j l = ap (λ (t : Cell). member (t .given) j) (r .is) ∙ member-set (c .given) j l
+
+  full-at : (j : ℕ) → j < 64 → member full j ≡ isFull c j
+  full-at j l = ap (λ (f : Set). member f j) (r .filled) ∙ member-set (isFull c) j l
+
+  -- x is the record that the program reads
+  abbrev Reads : Record → Type 0
+  Reads x = x ≡ recordAt (member (d .used)) (member (d .given)) (member full) s at
+
+  -- it is the definition's
+  read : recordAt (member (d .used)) (member (d .given)) (member full) s at ≡ recordAt (c .land .used) (c .given) (isFull c) s at
+  read = record-same _ _ _ _ _ _ used-at given-at full-at s at
+
+  fits : {x : Record} → Reads x → Fits (member (d .used)) (member (d .given)) (member full) x
+  fits q = subst (Fits (member (d .used)) (member (d .given)) (member full)) (sym q) (record-fits (member (d .used)) (member (d .given)) (member full) s at)
+
+  -- ---- the end of the file
+
+  pub short : length s ≤ at → refused 1 (length s) ≡ load s
+  unfolding loadFrom
+  short l = go (r .turns) refl
+    where
+      go : (k : ℕ) → r .turns ≡ k → refused 1 (length s) ≡ load s
+      go zero e = sym (ap (λ (n : ℕ). loadFrom n c s at) e) ∙ r .rest
+      go (suc k) e = sym (ap (λ (n : ℕ). loadFrom n c s at) e ∙ rw (le-ltb at (length s) l)) ∙ r .rest
+
+  module _ (low : at < length s) where
+    more : (k : ℕ) × (r .turns ≡ suc k)
+    more = go (r .turns) refl
+      where
+        go : (k : ℕ) → r .turns ≡ k → (k : ℕ) × (r .turns ≡ suc k)
+        go zero e = absurd (omega (arith, r .enough))
+        go (suc k) e = (k, e)
+
+    -- what the load comes to where the record is x
+    turn-is : (x : Record) → Reads x → loadRecord (λ v i. loadFrom (more .0) v s i) c s at x ≡ load s
+    unfolding loadFrom
+    turn-is x q = sym (rw (lt-ltb at (length s) low, ← read, ← q)) ∙ ap (λ (n : ℕ). loadFrom n c s at) (sym (more .1)) ∙ r .rest
+
+    pub stopped : (n : ℕ) → Reads (Faulty n) → refused n at ≡ load s
+    unfolding loadRecord
+    stopped n q = turn-is (Faulty n) q
+
+    pub past-end : Reads EndRecord → at + 1 < length s → refused 9 (at + 1) ≡ load s
+    unfolding loadRecord
+    past-end q l = sym (rw (lt-ltb (at + 1) (length s) l)) ∙ turn-is EndRecord q
+
+    pub ended : Reads EndRecord → length s ≤ at + 1 → accepted c ≡ load s
+    unfolding loadRecord
+    ended q l = sym (rw (le-ltb (at + 1) (length s) l)) ∙ turn-is EndRecord q
+
+    -- ---- one element of the table
+
+    module _ (n i : ℕ) (l : n < 64) (e : i ≡ n % 64) where
+      same : i ≡ n
+      same = omega arith
+
+      pub agent-at : getD (d .agents) i noAgent ≡ c .agent n
+      unfolding tableOf
+      agent-at = ap₂ (λ (t : Cell) (j : ℕ). getD (t .agents) j noAgent) (r .is) same ∙ getD-tab (c .agent) 64 n noAgent l
+
+      agent-put : (a : Agent) → set (d .agents) i a ≡ tab (upd (c .agent) n a) 64 0
+      unfolding tableOf
+      agent-put a = ap₂ (λ (t : Cell) (j : ℕ). set (t .agents) j a) (r .is) same ∙ set-tab noAgent (c .agent) 64 n a l
+
+      place-put : (x : Place) → set (d .places) i x ≡ tab (upd (c .land .place) n x) 64 0
+      unfolding tableOf
+      place-put x = ap₂ (λ (t : Cell) (j : ℕ). set (t .places) j x) (r .is) same ∙ set-tab noPlace (c .land .place) 64 n x l
+
+    -- one number more in a set
+    one-more : (f : ℕ → Bool) (t u : Set) (n : ℕ) → ((j : ℕ) → j < 64 → member t j ≡ f j) → u ≡ inserted t n → u .bits ≡ setOf (λ j. eqb j n || f j) .bits
+    one-more f t u n g e = ap (λ (v : Set). v .bits) (e ∙ set-ext _ _ (λ j k. ap (_||_ (eqb j n)) (g j k)))
+
+    -- ---- a place record
+
+    -- the table with one place more
+    abbrev newPlace : ℕ → ℕ → ℕ → Set → Cell
+    newPlace p m i u = record { places = set (d .places) i (linkedPlace m p); locks = d .locks; agents = d .agents; used = u; given = d .given }
+
+    pub rest-place : (n p m i : ℕ) (u : Set) → Reads (PlaceRecord n p m) → i ≡ n % 64 → u ≡ inserted (d .used) n → Rest s (at + 5) (newPlace p m i u) full
+    unfolding tableOf addPlace loadRecord
+    rest-place n p m i u q e f = go (fits q)
+      where
+        go : Fits (member (d .used)) (member (d .given)) (member full) (PlaceRecord n p m) → Rest s (at + 5) (newPlace p m i u) full
+        go (place one l under new known named) = record
+          { cell = addPlace c n p m
+          ; turns = more .0
+          ; is = table-eq (place-put n i l e _) (ap (λ (t : Cell). t .locks) (r .is)) (ap (λ (t : Cell). t .agents) (r .is))
+              (one-more (c .land .used) (d .used) u n used-at f) (ap (λ (t : Cell). t .given .bits) (r .is))
+          ; filled = r .filled
+          ; enough = omega (arith, r .enough, more .1)
+          ; rest = turn-is (PlaceRecord n p m) q }
+
+    -- ---- an agent record
+
+    home-full : (n h j : ℕ) → isFull c j ≡ isFull (addAgent c n h) j
+    unfolding addAgent
+    home-full n h j = go (eq? j n)
+      where
+        go : (j ≡ n) ⊎ (j ≢ n) → leb 16 (c .agent j .count) ≡ leb 16 (upd (c .agent) n (withHome (c .agent n) h) j .count)
+        go (inl e) = ap (λ (k : ℕ). leb 16 (c .agent k .count)) e ∙ sym (ap (λ (a : Agent). leb 16 (a .count)) (upd-at (c .agent) n j (withHome (c .agent n) h) e))
+        go (inr q) = sym (ap (λ (a : Agent). leb 16 (a .count)) (upd-other (c .agent) n j (withHome (c .agent n) h) q))
+
+    -- the table with one agent changed
+    abbrev newAgent : ℕ → Agent → Set → Cell
+    newAgent i a u = record { places = d .places; locks = d .locks; agents = set (d .agents) i a; used = d .used; given = u }
+
+    pub rest-agent : (n h i : ℕ) (a : Agent) (u : Set) → Reads (AgentRecord n h) → i ≡ n % 64 → a ≡ withHome (getD (d .agents) i noAgent) h
+      → u ≡ inserted (d .given) n → Rest s (at + 3) (newAgent i a u) full
+    unfolding tableOf addAgent loadRecord
+    rest-agent n h i a u q e b f = go (fits q)
+      where
+        go : Fits (member (d .used)) (member (d .given)) (member full) (AgentRecord n h) → Rest s (at + 3) (newAgent i a u) full
+        go (agent l under new known) = record
+          { cell = addAgent c n h
+          ; turns = more .0
+          ; is = table-eq (ap (λ (t : Cell). t .places) (r .is)) (ap (λ (t : Cell). t .locks) (r .is))
+              (ap (set (d .agents) i) (b ∙ ap (λ (x : Agent). withHome x h) (agent-at n i l e)) ∙ agent-put n i l e (withHome (c .agent n) h))
+              (ap (λ (t : Cell). t .used .bits) (r .is)) (one-more (c .given) (d .given) u n given-at f)
+          ; filled = r .filled ∙ set-ext _ _ (λ j k. home-full n h j)
+          ; enough = omega (arith, r .enough, more .1)
+          ; rest = turn-is (AgentRecord n h) q }
+
+    -- ---- an action record
+
+    module _ (n k m i : ℕ) (q : Reads (ActionRecord n k m)) (e : i ≡ n % 64) where
+      low-room : (n < 64) × (isFull c n ≡ false)
+      low-room = go (fits q)
+        where
+          go : Fits (member (d .used)) (member (d .given)) (member full) (ActionRecord n k m) → (n < 64) × (isFull c n ≡ false)
+          go (action l known room one three named) = (l, sym (full-at n l) ∙ room)
+
+      abbrev l : n < 64
+      l = low-room .0
+
+      pub has-room : getD (d .agents) i noAgent .count < 16
+      has-room = rw (agent-at n i l e) (leb-false 16 (c .agent n .count) (low-room .1))
+
+      full-there : (j : ℕ) → j ≡ n → isFull (addAction c n k m) j ≡ leb 16 (c .agent n .count + 1)
+      unfolding addAction withAction
+      full-there j f = ap (λ (a : Agent). leb 16 (a .count)) (upd-at (c .agent) n j (withAction (c .agent n) k m) f)
+
+      full-else : (j : ℕ) → j ≢ n → isFull (addAction c n k m) j ≡ isFull c j
+      unfolding addAction withAction
+      full-else j f = ap (λ (a : Agent). leb 16 (a .count)) (upd-other (c .agent) n j (withAction (c .agent n) k m) f)
+
+      filled-now : (b : Bool) → b ≡ ltb 15 (c .agent n .count + 1) → insertedIf full n b ≡ setOf (isFull (addAction c n k m))
+      filled-now true f = set-ext _ _ (λ j h. go j h (eq? j n))
+        where
+          go : (j : ℕ) → j < 64 → (j ≡ n) ⊎ (j ≢ n) → (eqb j n || member full j) ≡ isFull (addAction c n k m) j
+          go j h (inl t) = rw (eq-eqb j n t) (sym (full-there j t ∙ le-leb 16 (c .agent n .count + 1) (omega (arith, ltb-true 15 (c .agent n .count + 1) (sym f)))))
+          go j h (inr t) = rw (ne-eqb j n t) (full-at j h ∙ sym (full-else j t))
+      filled-now false f = r .filled ∙ set-ext _ _ (λ j h. go j (eq? j n))
+        where
+          go : (j : ℕ) → (j ≡ n) ⊎ (j ≢ n) → isFull c j ≡ isFull (addAction c n k m) j
+          go j (inl t) = ap (isFull c) t ∙ low-room .1 ∙ sym (full-there j t ∙ lt-leb 16 (c .agent n .count + 1) (omega (arith, ltb-false 15 (c .agent n .count + 1) (sym f))))
+          go j (inr t) = sym (full-else j t)
+
+      pub rest-action : (a : Agent) (f : Set) → a ≡ withAction (getD (d .agents) i noAgent) k m → f ≡ insertedIf full n (ltb 15 (a .count))
+        → Rest s (at + 5) (newAgent i a (d .given)) f
+      unfolding tableOf addAction loadRecord withAction
+      rest-action a f b h = record
+        { cell = addAction c n k m
+        ; turns = more .0
+        ; is = table-eq (ap (λ (t : Cell). t .places) (r .is)) (ap (λ (t : Cell). t .locks) (r .is))
+            (ap (set (d .agents) i) new ∙ agent-put n i l e (withAction (c .agent n) k m))
+            (ap (λ (t : Cell). t .used .bits) (r .is)) (ap (λ (t : Cell). t .given .bits) (r .is))
+        ; filled = h ∙ filled-now (ltb 15 (a .count)) (ap (λ (x : Agent). ltb 15 (x .count)) new)
+        ; enough = omega (arith, r .enough, more .1)
+        ; rest = turn-is (ActionRecord n k m) q }
+        where
+          new : a ≡ withAction (c .agent n) k m
+          new = b ∙ ap (λ (x : Agent). withAction x k m) (agent-at n i l e)
+
+-- ---- the answers
+
+pub answer-refused : (t : Cell) (s : List ℕ) (n o : ℕ) → refused n o ≡ load s → record { cell = t; verdict = Rejected n o } ≡ loadOf t s
+unfolding loadOf loaded
+answer-refused t s n o e = ap (loaded t) e
+
+pub answer-accepted : (t d : Cell) (s : List ℕ) (c : State) → d ≡ tableOf c → accepted c ≡ load s → record { cell = d; verdict = Accepted } ≡ loadOf t s
+unfolding loadOf loaded
+answer-accepted t d s c q e = ap (λ (x : Cell). record { cell = x; verdict = Accepted }) q ∙ ap (loaded t) e

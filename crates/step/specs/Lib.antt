@@ -1,0 +1,7 @@
+pub mod Parts
+pub mod StepLaws
+pub mod GatherLaws
+pub mod ChooseLaws
+pub mod WakeLaws
+pub mod OpenLaws
+pub mod CarryLaws

@@ -1,0 +1,64 @@
+-- Arrays that are read and stored at any number, the next action, and a step's answer. Assumes nothing.
+-- Idea: at and past 64 an array reads its default and a store changes nothing, as for the total functions of a cell.
+use mathlib.Core.Path.{_≡_, sym, ap, _∙_, subst}
+use mathlib.Core.Bool.{Bool, true, false, cond}
+use mathlib.Core.List.{List}
+use Prim.Native.Nat.{ℕ, zero, suc, _+_, _≤_, _<_, zero-le}
+use native.Mathlib.Omega.{arith}
+use lib.Dec.{eqb}
+use lib.ListN.{getD, length, List·getD-eq-default}
+use Rattle.sets.specs.Word.{bit, countOf}
+use Rattle.table.specs.Base.{tab, upd}
+use Rattle.table.specs.BaseLaws.{tab-getD, getD-tab, tab-ext, upd-other}
+use Rattle.table.specs.Cell.{nextAction, tableOf}
+use Rattle.table.specs.declared.Action.{Action}
+use Rattle.table.specs.declared.Agent.{Agent}
+use Rattle.table.specs.declared.Cell.{Cell}
+use Rattle.meaning.specs.declared.Word.{Word}
+use Rattle.meaning.specs.declared.Answer.the-variants.{Did}
+use Rattle.meaning.specs.declared.Stepped.{Stepped}
+use Rattle.meaning.specs.Step.{Outcome}
+use Rattle.meaning.specs.Run.{made}
+
+-- ---- arrays of 64
+
+-- at and past 64 there is nothing to read
+pub read-past : {A : Type 0} (d : A) (l : List A) (q : ℕ) → length l ≡ 64 → 64 ≤ q → getD l q d ≡ d
+read-past d l q e m = List·getD-eq-default l d (subst (λ (n : ℕ). n ≤ q) (sym e) m)
+
+-- and nothing to store
+pub store-past : {A : Type 0} (d : A) (l : List A) (q : ℕ) (v : A) → length l ≡ 64 → 64 ≤ q → l ≡ tab (upd (λ j. getD l j d) q v) 64 0
+store-past d l q v e m = sym (tab-getD d l 64 e) ∙ tab-ext d 64 _ _ (λ j k. sym (upd-other (λ j. getD l j d) q j v (λ h. omega arith)))
+
+-- a store into a table that was made
+pub store-tab : {A : Type 0} (d : A) (f : ℕ → A) (l : List A) (q : ℕ) (v : A) → l ≡ tab f 64 0 → tab (upd (λ j. getD l j d) q v) 64 0 ≡ tab (upd f q v) 64 0
+unfolding upd
+store-tab {A} d f l q v e = tab-ext d 64 _ _ (λ j k. ap (cond (eqb j q) v) (ap (λ (z : List A). getD z j d) e ∙ getD-tab f 64 j d k))
+
+-- ---- the next action
+
+-- a test of the kind that was read is a test of the next action's kind
+pub kind-test : (a : Agent) (x : Action) (k : ℕ) (b : Bool) → x ≡ nextAction a → eqb (x .kind) k ≡ b → eqb (nextAction a .kind) k ≡ b
+kind-test a x k b e t = sym (ap (λ (y : Action). eqb (y .kind) k) e) ∙ t
+
+-- ---- a step's answer
+
+-- a table and an answer that are those of an outcome
+pub did : (d : Cell) (w : Word) (n : ℕ) (o : Outcome) → d ≡ tableOf (o .cell) → w ≡ o .word → n ≡ o .woken → record { cell = d; answer = Did w n } ≡ made o
+unfolding made
+did d w n o e f g = λ i. record { cell = e i; answer = Did (f i) (g i) }
+
+-- ---- numbers
+
+-- no more than 64 are counted
+pub count-small : (n : ℕ) (f : ℕ → Bool) → countOf n f ≤ n
+unfolding countOf
+count-small zero f = zero-le
+count-small (suc n) f = go (f 0) (count-small n (λ i. f (suc i)))
+  where
+    go : (b : Bool) → countOf n (λ i. f (suc i)) ≤ n → bit b + countOf n (λ i. f (suc i)) ≤ suc n
+    go true h = omega arith
+    go false h = omega arith
+
+pub positive : {n : ℕ} → (n ≡ 0 → ⊥) → 0 < n
+positive h = omega arith

@@ -1,0 +1,200 @@
+// Changes of agents, locks and places, and the steps in which a place moves.
+use super::choose::linked;
+use super::choose::place_at;
+use meaning::Answer;
+use meaning::Stepped;
+use meaning::Word;
+use sets::Set;
+use table::Agent;
+use table::Cell;
+use table::Place;
+ghost use mathlib.Core.Path.{_≡_};
+ghost use mathlib.Core.Bool.{_&&_, cond};
+ghost use Prim.Native.Nat.{_<_};
+ghost use lib.Dec.{eqb, ltb};
+ghost use lib.ListN.{getD};
+ghost use Rattle.table.specs.Base.{tab, upd};
+ghost use Rattle.table.specs.Cell.{cellOf};
+ghost use Rattle.meaning.specs.Update.{atStage, useUp, withParent, withWay};
+ghost use Rattle.meaning.specs.Step.{asleepOn};
+ghost use Rattle.meaning.specs.Run.{made};
+ghost use Rattle.step.specs.Parts.{movePlace};
+
+// The agent with its stage, remembered and chosen place.
+pub fn at_stage(a: Agent, stage: u8, remembered: u8, chosen: u8) -> Agent
+    ensures { λ r. ⌜ r ≡ atStage a stage remembered chosen ⌝ }
+{
+    let mut b = a;
+    b.stage = stage;
+    b.remembered = remembered;
+    b.chosen = chosen;
+    b
+}
+
+// The agent once its next action is used up.
+pub fn use_up(a: Agent) -> Agent
+    requires { ⌜ a .next < 255 ⌝ }
+    ensures { λ r. ⌜ r ≡ useUp a ⌝ }
+{
+    let mut b = a;
+    b.next = a.next + 1;
+    b
+}
+
+// The stage after opened or came: 0, or 8 if no action is left.
+pub fn rest_stage(next: u8, count: u8) -> u8
+    ensures { λ r. ⌜ r ≡ cond (ltb next count) 0 8 ⌝ }
+{
+    if next < count { 0 } else { 8 }
+}
+
+// The lock of q, or 0 where there is no such place.
+pub fn lock_at(ls: [u8; 64], q: u8) -> u8
+    ensures { λ r. ⌜ r ≡ getD ls q 0 ⌝ }
+{
+    if q < 64 {
+        let k = q as usize;
+        ls[k]
+    } else {
+        0
+    }
+}
+
+// The locks once that of q is v.
+pub fn with_lock(ls: [u8; 64], q: u8, v: u8) -> [u8; 64]
+    ensures { λ r. ⌜ r ≡ tab (upd (λ j. getD ls j 0) q v) 64 0 ⌝ }
+{
+    let mut ms = ls;
+    if q < 64 {
+        let k = q as usize;
+        ms[k] = v;
+    }
+    ms
+}
+
+// The locks once those of p and q are released.
+pub fn released(ls: [u8; 64], p: u8, q: u8) -> [u8; 64]
+    ensures { λ r. ⌜ r ≡ tab (Rattle.meaning.specs.Update.released (λ j. getD ls j 0) p q) 64 0 ⌝ }
+{
+    let ms = with_lock(ls, p, 64);
+    with_lock(ms, q, 64)
+}
+
+// The places once q is x.
+fn with_place(ps: [Place; 64], q: u8, x: Place) -> [Place; 64]
+    ensures { λ r. ⌜ r ≡ tab (upd (λ j. getD ps j Rattle.table.specs.Cell.noPlace) q x) 64 0 ⌝ }
+{
+    let mut qs = ps;
+    if q < 64 {
+        let k = q as usize;
+        qs[k] = x;
+    }
+    qs
+}
+
+// The place, on its way to d.
+fn sent(x: Place, d: u8) -> Place
+    ensures { λ r. ⌜ r ≡ withWay (withParent x d) 1 ⌝ }
+{
+    let mut y = x;
+    y.parent = d;
+    y.way = 1;
+    y
+}
+
+// The place, linked to where it was on its way to.
+fn linked_up(x: Place) -> Place
+    ensures { λ r. ⌜ r ≡ withWay x 0 ⌝ }
+{
+    let mut y = x;
+    y.way = 0;
+    y
+}
+
+// Whether an agent is asleep on p, q or r.
+pub fn asleep_on(a: Agent, p: u8, q: u8, r: u8) -> bool
+    ensures { λ z. ⌜ z ≡ asleepOn p q r a ⌝ }
+{
+    if a.stage == 7 {
+        if a.remembered == p {
+            return true;
+        }
+        if a.remembered == q {
+            return true;
+        }
+        return a.remembered == r;
+    }
+    false
+}
+
+// Place h becomes y, the locks of p and q are released, all asleep on p, q or r are woken, agent x becomes b.
+fn move_place(c: Cell, x: u8, h: u8, y: Place, p: u8, q: u8, r: u8, b: Agent, w: Word) -> Stepped
+    requires { ⌜ x < 64 ⌝ }
+    ensures { λ z. ⌜ z ≡ made (movePlace (cellOf c) x h y p q r b w) ⌝ }
+{
+    let mut d = c;
+    let mut sleepers = Set::EMPTY;
+    let mut rest = d.given;
+    while rest.bits != 0 {
+        let j = rest.first();
+        rest = rest.rest();
+        let k = j as usize;
+        let a = d.agents[k];
+        if asleep_on(a, p, q, r) {
+            let e = at_stage(a, 0, 0, 0);
+            d.agents[k] = e;
+            sleepers = sleepers.insert(j);
+        }
+    }
+    let ps = d.places;
+    let qs = with_place(ps, h, y);
+    d.places = qs;
+    let ls = d.locks;
+    let ms = released(ls, p, q);
+    d.locks = ms;
+    let k = x as usize;
+    d.agents[k] = b;
+    let n = sleepers.count() as u8;
+    Stepped {
+        cell: d,
+        answer: Answer::Did(w, n),
+    }
+}
+
+// Stage 3 of enter and exit: its place goes on its way to d.
+pub fn leave(c: Cell, x: u8, a: Agent, d: u8) -> Stepped
+    requires { ⌜ x < 64 ⌝ }
+    requires { ⌜ a .next < 255 ⌝ }
+    ensures { λ r. ⌜ r ≡ made (Rattle.meaning.specs.Step.leave (cellOf c) x a d) ⌝ }
+{
+    let ps = c.places;
+    let h = place_at(ps, a.home);
+    let y = sent(h, d);
+    let u = use_up(a);
+    let b = at_stage(u, 4, 0, 0);
+    move_place(c, x, a.home, y, a.remembered, a.home, a.home, b, Word::Left)
+}
+
+// The place that the destination d, in use or not, is linked to, or d.
+fn beyond(known: bool, x: Place, d: u8) -> u8
+    ensures { λ r. ⌜ r ≡ cond (known && eqb (x .way) 0) (x .parent) d ⌝ }
+{
+    if linked(known, x) { x.parent } else { d }
+}
+
+// Stage 6: its place is linked to d.
+pub fn arrive(c: Cell, x: u8, a: Agent, d: u8) -> Stepped
+    requires { ⌜ x < 64 ⌝ }
+    ensures { λ r. ⌜ r ≡ made (Rattle.meaning.specs.Step.arrive (cellOf c) x a d) ⌝ }
+{
+    let ps = c.places;
+    let used = c.used;
+    let h = place_at(ps, a.home);
+    let y = linked_up(h);
+    let t = place_at(ps, d);
+    let u = used.has(d);
+    let r = beyond(u, t, d);
+    let s = rest_stage(a.next, a.count);
+    let b = at_stage(a, s, 0, 0);
+    move_place(c, x, a.home, y, a.home, d, r, b, Word::Came)
+}

@@ -1,0 +1,138 @@
+#!/usr/bin/env python3
+"""Writes the files `cell` and `order` of every example and of every test case of walk, from their readable form below.
+
+Run it from anywhere: python3 examples/make.py
+What walk must print for each stands beside them in `expected` and is not written here.
+"""
+import pathlib
+
+TOP = pathlib.Path(__file__).resolve().parent.parent
+ENTER, EXIT, OPEN = 1, 2, 3
+
+
+# ---- the cell file, record by record
+
+def place(number, parent, name):
+    return bytes([1, number, parent, name % 256, name // 256])
+
+
+def agent(number, home, *actions):
+    """An agent and its row of actions, each a pair of kind and name."""
+    row = b"".join(bytes([3, number, kind, name % 256, name // 256]) for kind, name in actions)
+    return bytes([2, number, home]) + row
+
+
+END = bytes([4])
+
+
+# ---- the order
+
+def calls(agents, wish=255):
+    """One call for each agent named, all with one wish; 255 is no wish."""
+    return b"".join(bytes([x, wish]) for x in agents)
+
+
+# ---- examples: what an engineer may want to see first
+
+EXAMPLES = {
+    # 7[enter 9] | 9[exit 7]: document 01's own
+    "worked": (
+        place(1, 0, 7) + place(2, 0, 9) + agent(0, 1, (ENTER, 9)) + agent(1, 2, (EXIT, 7)) + END,
+        calls([0, 1, 0, 1, 0, 0, 1, 1, 0, 0, 0, 0, 1])),
+    # 1[enter 2.exit 2] | 2[enter 1.exit 1]: source 002 section 3, moves in different places race
+    "race-two-places": (
+        place(1, 0, 1) + place(2, 0, 2) + agent(0, 1, (ENTER, 2), (EXIT, 2)) + agent(1, 2, (ENTER, 1), (EXIT, 1)) + END,
+        calls([0, 1] * 12 + [0] * 16 + [1] * 16)),
+    # 1[2[enter 3.exit 3 | exit 1.enter 1] | 3[]]: source 002 section 3, one place may go down or up
+    "race-up-or-down": (
+        place(1, 0, 1) + place(2, 1, 2) + place(3, 1, 3) + agent(0, 2, (ENTER, 3), (EXIT, 3)) + agent(1, 2, (EXIT, 1), (ENTER, 1)) + END,
+        calls([0, 1] * 24 + [0] * 12 + [1] * 12)),
+    # a bonder 20 with a worn holder 30, a magazine 40 with a fresh holder 31: the worn one goes out and the fresh one in
+    "change-of-holder": (
+        place(1, 0, 20) + place(2, 1, 30) + place(3, 0, 40) + place(4, 3, 31)
+        + agent(0, 2, (EXIT, 20), (ENTER, 40)) + agent(1, 4, (EXIT, 40), (ENTER, 20)) + END,
+        calls([0, 1, 1, 0, 0, 1, 1, 0] * 6)),
+    # open 1 | 1[] | 2[enter 1]: an opener waits until what is on its way into its tray has come
+    "open-waits": (
+        place(1, 0, 1) + place(2, 0, 2) + agent(0, 0, (OPEN, 1)) + agent(1, 2, (ENTER, 1)) + END,
+        calls([1, 1, 1, 1, 0, 0, 0, 1, 1, 1, 0, 0, 0, 0, 0])),
+}
+
+
+# ---- test cases: the corners
+
+def full_cell():
+    """63 places, 64 agents, sixteen actions each: the longest file there is."""
+    places = b"".join(place(q, (q - 1) // 2, 65535 - q % 3) for q in range(1, 64))
+    agents = b"".join(agent(x, x % 64, *[(1 + (x + j) % 3, 65533 + (x * j) % 3) for j in range(16)]) for x in range(64))
+    return places + agents + END
+
+
+def deep_cell():
+    """63 places, each in the one before, and an agent that walks the innermost one out."""
+    places = b"".join(place(q, q - 1, q) for q in range(1, 64))
+    return places + agent(9, 63, *[(EXIT, n) for n in range(62, 46, -1)]) + END
+
+
+def mixed(seed, count):
+    """A row of agent numbers that looks random and is always the same."""
+    row, x = [], seed
+    for _ in range(count):
+        x = (x * 1103515245 + 12345) % 2 ** 31
+        row.append(x // 65536 % 64)
+    return row
+
+
+TWO = place(1, 0, 7) + place(2, 0, 7) + agent(0, 1, (ENTER, 7)) + END
+NONE = b""
+
+CASES = {
+    "empty-file": (NONE, NONE),
+    "bare-floor": (END, NONE),
+    "no-end": (place(1, 0, 7), NONE),
+    "cut-body": (place(1, 0, 7) + bytes([1, 0x40]), NONE),
+    "unknown-kind": (place(1, 0, 7) + bytes([5]), NONE),
+    "number-too-large": (place(0x40, 0, 7) + END, NONE),
+    "place-zero": (place(0, 0, 7) + END, NONE),
+    "given-twice": (place(1, 0, 7) + place(1, 0, 8) + END, NONE),
+    "not-yet-given": (place(5, 5, 7) + END, NONE),
+    "name-zero": (place(1, 0, 0) + END, NONE),
+    "action-kind-four": (agent(0, 0, (4, 7)) + END, NONE),
+    "seventeenth-action": (agent(0, 0, *[(ENTER, 7)] * 17) + END, NONE),
+    "sixteen-actions": (agent(0, 0, *[(ENTER, 7)] * 16) + END, calls([0, 0])),
+    "bytes-after-the-end": (END + END, NONE),
+    "long-file": (place(63, 0, 65535) + END + bytes(20000), NONE),
+    "long-order-of-a-refused-file": (bytes([9]), calls([0] * 100)),
+    "no-order": (TWO, NONE),
+    "odd-order": (TWO, calls([0, 0]) + bytes([0])),
+    "no-such-agent": (TWO, calls([0, 1, 63, 64, 255, 0])),
+    "wishes": (place(1, 0, 7) + place(2, 0, 9) + place(3, 0, 9) + agent(0, 1, (ENTER, 9)) + END,
+               calls([0, 0], 3) + calls([0], 3) + calls([0, 0, 0, 0], 64)),
+    "own-sibling": (place(1, 0, 7) + agent(0, 1, (ENTER, 7)) + END, calls([0] * 4)),
+    "opened-with-agents": (
+        place(1, 0, 1) + place(2, 1, 2) + agent(0, 0, (OPEN, 1), (OPEN, 2)) + agent(1, 1, (ENTER, 2)) + agent(2, 2, (EXIT, 1)) + END,
+        calls([1, 2, 1, 2, 1, 2, 0, 0, 0, 0, 1, 1, 1, 2, 2, 2, 0, 0, 0, 0, 0, 1, 2, 0])),
+    # an agent that holds a lock at stage 2 lives in the place that is opened: the lock is released
+    "lock-lost-by-opening": (
+        place(1, 0, 2) + place(2, 1, 1) + agent(0, 0, (OPEN, 1)) + agent(1, 2, (EXIT, 2)) + agent(2, 2, (ENTER, 2)) + END,
+        calls([2, 1, 1, 1, 1, 1, 1, 1, 2, 0, 0, 0, 0, 2, 2, 0])),
+    "full-cell": (full_cell(), calls(mixed(7, 3000))),
+    "deep-cell": (deep_cell(), calls([9] * 113)),
+    "nested-moves": (
+        place(1, 0, 1) + place(2, 0, 2) + place(3, 1, 3) + place(4, 3, 4)
+        + agent(0, 4, (EXIT, 3), (EXIT, 1), (ENTER, 2)) + agent(1, 1, (ENTER, 2)) + agent(2, 3, (EXIT, 1)) + agent(3, 0, (OPEN, 2)) + END,
+        calls([0, 1, 2, 3, 0, 0, 1, 2, 1, 3, 2, 2] * 14)),
+    "past-the-limit": (TWO, calls([0] * 7 + [5] * 16377 + [0] * 50)),
+}
+
+
+def write(folder, files):
+    folder.mkdir(parents=True, exist_ok=True)
+    (folder / "cell").write_bytes(files[0])
+    (folder / "order").write_bytes(files[1])
+
+
+for name, files in EXAMPLES.items():
+    write(TOP / "examples" / name, files)
+for name, files in CASES.items():
+    write(TOP / "tests" / "walk" / name, files)
