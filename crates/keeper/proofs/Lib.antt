@@ -1,0 +1,4 @@
+pub mod Walk
+pub mod Lent
+pub mod Stored
+pub mod Asks
