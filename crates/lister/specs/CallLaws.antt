@@ -1,11 +1,11 @@
 -- The whole call: measured first, then written or refused. Assumes nothing.
 -- Idea: a writer that is lent nothing changes nothing, and answers the length that decides.
 use mathlib.Core.Path.{_≡_, refl, sym, ap, _∙_, subst}
-use mathlib.Core.Bool.{Bool, true, false, _&&_, cond}
+use mathlib.Core.Bool.{Bool, true, false, cond}
 use mathlib.Core.List.{List, [], _∷_, _++_}
-use Prim.Native.Nat.{ℕ, zero, suc, _<_, _≤_}
+use Prim.Native.Nat.{ℕ, _<_, _≤_}
 use native.Mathlib.Omega.{arith}
-use lib.Dec.{eqb, ltb, leb}
+use lib.Dec.{ltb, leb}
 use lib.ListN.{length}
 use borrow.Author.Tests.{eq-eqb, ne-eqb, lt-ltb, le-ltb, le-leb, lt-leb, leb-true, leb-false}
 use Rattle.table.specs.Base.{tab}
@@ -14,7 +14,6 @@ use Rattle.table.specs.Cell.{State}
 use Rattle.table.specs.Sound.{sound}
 use Rattle.meaning.specs.Text.{overlay}
 use Rattle.meaning.specs.Listing.{listing, listAnswer, listBuffer}
-use Rattle.meaning.specs.declared.Listed.{Listed}
 use Rattle.meaning.specs.declared.Listed.the-variants.{Length, Unlisted}
 use Rattle.text.specs.Wrote.{capped, Wrote}
 use Rattle.text.specs.TextLaws.{capped-low, capped-high, over-length, over-nil, wrote-as}

@@ -1,20 +1,19 @@
 -- The arrays that a cell is laid out in say what the cell says. Assumes nothing.
 -- Idea: a member of the word of p is a place that stands in p, or an agent that is listed in p; 64 is no place.
-use mathlib.Core.Path.{_≡_, refl, sym, ap, ap₂, _∙_}
+use mathlib.Core.Path.{_≡_, refl, ap, _∙_}
 use mathlib.Core.Bool.{Bool, true, false, not, _&&_, cond}
 use mathlib.Core.List.{List}
 use Prim.Native.Nat.{ℕ, _<_}
 use native.Mathlib.Omega.{arith}
-use lib.Dec.{eqb, ltb}
+use lib.Dec.{eqb}
 use lib.ListN.{getD}
 use borrow.Author.Tests.{ne-eqb}
-use Rattle.sets.specs.Word.{has, wordOf}
+use Rattle.sets.specs.Word.{has}
 use Rattle.sets.specs.WordLaws.{has-word}
 use Rattle.sets.specs.Set.{member}
 use Rattle.sets.specs.declared.Set.{Set}
 use Rattle.table.specs.BaseLaws.{clash, getD-tab}
-use Rattle.table.specs.Cell.{State, cellOf, noPlace, hasAction}
-use Rattle.table.specs.declared.Place.{Place}
+use Rattle.table.specs.Cell.{cellOf, noPlace, hasAction}
 use Rattle.table.specs.declared.Cell.{Cell}
 use Rattle.meaning.specs.Listing.{listsIn, standsUnder}
 use Rattle.lister.specs.Sheet.{namesOf, parentsOf, listedAt, groupedOf, Rows, sheetOf}

@@ -1,6 +1,6 @@
 -- A walk over a set that puts each member into the word of its key. Assumes nothing.
 -- Idea: before turn i the word of p has the members below i whose key is p.
-use mathlib.Core.Path.{_≡_, refl, sym, ap, ap₂, _∙_}
+use mathlib.Core.Path.{_≡_, refl, sym, ap, _∙_}
 use mathlib.Core.Logic.{_≢_, _⊎_, inl, inr}
 use mathlib.Core.Bool.{Bool, true, false, _&&_}
 use mathlib.Core.List.{List}
@@ -8,15 +8,15 @@ use Prim.Native.Nat.{ℕ, _+_, _<_, _≤_}
 use native.Mathlib.Omega.{arith}
 use lib.Dec.{eqb, ltb}
 use lib.ListN.{getD, set, replicate, length-replicate, getD-replicate}
-use borrow.Author.Tests.{eq-eqb, ne-eqb, lt-ltb, le-ltb, ltb-true, ltb-false}
+use borrow.Author.Tests.{eq-eqb, ne-eqb, lt-ltb, ltb-true, ltb-false}
 use Rattle.sets.specs.Word.{wordOf, upto}
 use Rattle.sets.specs.WordLaws.{word-ext}
 use Rattle.sets.specs.Set.{member, inserted}
 use Rattle.sets.specs.SetLaws.{collect-none, collect-more}
-use Rattle.sets.specs.WalkLaws.{lowestIn, Rest, rest-lt, rest-member, rest-from, rest-skip, rest-end}
+use Rattle.sets.specs.WalkLaws.{lowestIn, Rest, rest-member, rest-from, rest-skip, rest-end}
 use Rattle.sets.specs.declared.Set.{Set}
 use Rattle.table.specs.Base.{upd, tab}
-use Rattle.table.specs.BaseLaws.{Told, yea, nay, told, eq?, and-cong, upd-at, upd-other, getD-tab, as-tab, tab-ext, set-tab}
+use Rattle.table.specs.BaseLaws.{Told, yea, nay, told, eq?, upd-at, upd-other, getD-tab, as-tab, tab-ext, set-tab}
 use Rattle.lister.specs.Sheet.{groupedOf}
 
 -- the members of f below m are those below i, where there are none between

@@ -7,3 +7,4 @@ pub mod GroupLaws
 pub mod RowLaws
 pub mod DrawnLaws
 pub mod CallLaws
+pub mod DepthLaws

@@ -1,9 +1,9 @@
 -- A walk over the members of a set that joins one part for each, and skipped turns. Assumes nothing.
 -- Idea: a turn that is skipped joins nothing, so the fold may jump to the next member.
-use mathlib.Core.Path.{_≡_, refl, sym, ap, ap₂, _∙_, subst}
+use mathlib.Core.Path.{_≡_, refl, sym, ap, _∙_, subst}
 use mathlib.Core.Logic.{_≢_, _⊎_, inl, inr}
-use mathlib.Core.Bool.{Bool, true, false, cond}
-use mathlib.Core.List.{List, [], _∷_, _++_}
+use mathlib.Core.Bool.{Bool, false, cond}
+use mathlib.Core.List.{List, [], _++_}
 use Prim.Native.Nat.{ℕ, zero, suc, _+_, _*_, _-_, _<_, _≤_}
 use native.Mathlib.Omega.{arith}
 use lib.Dec.{eqb}
@@ -57,6 +57,7 @@ row-cut texts lengths x m n h e =
   let z : 256 * x + n - 256 * x ≡ getD lengths x 0 = omega arith in
   ap (λ (k : ℕ). take k (drop (256 * x) texts)) z ∙ ap (λ (k : ℕ). take (getD lengths k 0) (drop (256 * k) texts)) e
 
+-- the same text under another name
 pub added-as : {t u b e : List ℕ} {at r : ℕ} → t ≡ u → Added t b e at r → Added u b e at r
 added-as {t} {u} {b} {e} {at} {r} q v = subst (λ (l : List ℕ). Added l b e at r) q v
 
@@ -70,17 +71,21 @@ taken-lt r k e = omega (arith, rest-lt r k)
 pub left-over : {g : ℕ → Bool} {i x : ℕ} {s t : Set} → Rest g i s → 0 < s .bits → x ≡ lowestIn s → t ≡ removed s (lowestIn s) → Rest g (x + 1) t
 left-over {g} {i} {x} {s} {t} r k e q = subst (λ (z : ℕ). Rest g (z + 1) t) (sym e) (subst (λ (z : Set). Rest g (lowestIn s + 1) z) (sym q) (rest-more r k))
 
+-- and it is less
 pub left-less : {g : ℕ → Bool} {i : ℕ} {s t : Set} → Rest g i s → 0 < s .bits → t ≡ removed s (lowestIn s) → t .bits < s .bits
 left-less {g} {i} {s} r k e = subst (λ (z : Set). z .bits < s .bits) (sym e) (removed-less s (r .small) k)
 
 module _ (by : List ℕ) (g : ℕ → Bool) (F : ℕ → List ℕ) (s₀ : List ℕ) where
+  -- turns that join nothing
   pub skipped : (i m : ℕ) → i ≤ m → ((j : ℕ) → i ≤ j → j < m → g j ≡ false) → foldUp (join by g F s₀) i s₀ ≡ foldUp (join by g F s₀) m s₀
   skipped i m l h = fold-skip (join by g F s₀) s₀ i m l (λ j a b t. ap (λ (z : Bool). cond z (joined by t (F j)) t) (h j a b))
 
   module _ {i : ℕ} {s : Set} (r : Rest g i s) where
+    -- one member more
     pub walk-more : {b e : List ℕ} {n : ℕ} → 0 < s .bits → Wrote (joined by (foldUp (join by g F s₀) i s₀) (F (lowestIn s))) b e n → Wrote (foldUp (join by g F s₀) (lowestIn s + 1) s₀) b e n
     walk-more k w = joined-more by g F s₀ (lowestIn s) (rest-member r k)
         (wrote-as (ap (λ (t : List ℕ). joined by t (F (lowestIn s))) (skipped i (lowestIn s) (rest-from r k) (rest-skip r k))) w)
 
+    -- none is left
     pub walk-done : {b e : List ℕ} {n : ℕ} → s .bits ≡ 0 → Wrote (foldUp (join by g F s₀) i s₀) b e n → Wrote (foldUp (join by g F s₀) 64 s₀) b e n
     walk-done k w = wrote-as (skipped i 64 (r .end) (rest-end r k)) w

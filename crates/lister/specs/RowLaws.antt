@@ -4,7 +4,7 @@ use mathlib.Core.Path.{_≡_, refl, sym, ap, ap₂, _∙_}
 use mathlib.Core.Logic.{_≢_, _⊎_, inl, inr}
 use mathlib.Core.Bool.{Bool, true, false, _&&_}
 use mathlib.Core.List.{List, [], _∷_, _++_}
-use Prim.Native.Nat.{ℕ, zero, suc, _+_, _*_, _-_, _<_, _≤_}
+use Prim.Native.Nat.{ℕ, _+_, _*_, _-_, _<_, _≤_}
 use native.Mathlib.Nat.{le-of-suc-le-suc, not-suc-le-zero}
 use native.Mathlib.Omega.{arith}
 use lib.ListN.{length, getD, set, replicate, take, drop, length-set, length-drop, length-replicate, getD-replicate, take-append-drop}
@@ -21,7 +21,7 @@ use Rattle.meaning.specs.Text.{overlay}
 use Rattle.meaning.specs.Listing.{agentText}
 use Rattle.text.specs.Wrote.{Wrote}
 use Rattle.text.specs.TextLaws.{part, back, part-is, back-is}
-use Rattle.lister.specs.Sheet.{rowAt, listedAt, Rows}
+use Rattle.lister.specs.Sheet.{rowAt, isListed, listedAt, Rows}
 use Rattle.lister.specs.PutLaws.{exactly, back-long}
 
 -- ---- lists
@@ -46,9 +46,6 @@ cut-same xs ys d n k l m = only ys ∙ sym (ap (λ (z : List ℕ). take n (drop 
 -- ---- rows
 
 module _ (texts lengths ys t : List ℕ) (m n : ℕ) (fits : 256 * m + 192 ≤ length texts) (w : Wrote t (part (256 * m) texts) ys n) (small : n ≤ 192) where
-  after : List ℕ
-  after = back (256 * m) texts ys
-
   is-after : back (256 * m) texts ys ≡ take (256 * m) texts ++ overlay t (drop (256 * m) texts)
   is-after = back-is (256 * m) texts ys ∙ ap (λ (l : List ℕ). take (256 * m) texts ++ l) (w .text ∙ ap (overlay t) (part-is (256 * m) texts))
 
@@ -69,10 +66,6 @@ module _ (texts lengths ys t : List ℕ) (m n : ℕ) (fits : 256 * m + 192 ≤ l
       ∙ cut-same texts (overlay t (drop (256 * m) texts)) (256 * x) (getD lengths x 0) (256 * m) (omega arith) (omega arith)
 
 -- ---- the rows of a cell
-
--- agent x has unused actions
-abbrev pub isListed : State → ℕ → Bool
-isListed c x = c .given x && hasAction (c .agent x)
 
 -- the rows of the agents below i are filled
 pub record Filled (c : State) (lengths texts : List ℕ) (i : ℕ) : Type 0 where

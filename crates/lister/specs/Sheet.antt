@@ -14,7 +14,6 @@ use Rattle.table.specs.declared.Place.{Place}
 use Rattle.meaning.specs.Text.{ascii, decimal, gap, joined, overlay}
 use Rattle.meaning.specs.Listing.{agentText, bracketed}
 use Rattle.text.specs.Wrote.{capped}
-use Rattle.text.specs.TextLaws.{join}
 
 -- ---- the arrays that are lent
 
@@ -26,9 +25,13 @@ namesOf ps = tab (λ q. getD ps q noPlace .name) 64 0
 unfoldable pub parentsOf : List Place → List ℕ
 parentsOf ps = tab (λ q. cond (eqb q 0) 64 (getD ps q noPlace .parent)) 64 0
 
+-- x is an agent with unused actions
+abbrev pub isListed : State → ℕ → Bool
+isListed c x = c .given x && hasAction (c .agent x)
+
 -- where each agent is listed: its home, or 64 where it has no unused action
 unfoldable pub listedAt : State → ℕ → ℕ
-listedAt c x = cond (c .given x && hasAction (c .agent x)) (c .agent x .home) 64
+listedAt c x = cond (isListed c x) (c .agent x .home) 64
 
 -- for each number below 64, the word of the members whose key it is
 unfoldable pub groupedOf : Set → List ℕ → List ℕ
@@ -41,7 +44,7 @@ rowAt texts lengths x = take (getD lengths x 0) (drop (256 * x) texts)
 -- every agent with unused actions has its place and its row
 pub record Rows (c : State) (homes lengths texts : List ℕ) : Type 0 where
   pub home : homes ≡ tab (listedAt c) 64 0
-  pub row : (x : ℕ) → x < 64 → (c .given x && hasAction (c .agent x)) ≡ true → rowAt texts lengths x ≡ agentText (c .agent x)
+  pub row : (x : ℕ) → x < 64 → isListed c x ≡ true → rowAt texts lengths x ≡ agentText (c .agent x)
 
 -- ---- the text
 
@@ -60,7 +63,7 @@ dot = ascii "."
 -- the parts of which P holds, by number, joined by bars after a text s
 unfoldable pub parts : (ℕ → Bool) → (ℕ → List ℕ) → List ℕ → List ℕ
 unfolding gap tab
-parts P F s = foldUp (join bar P F s) 64 s
+parts P F s = foldUp (λ k t. cond (P k) (joined bar t (F k)) t) 64 s
 
 -- what the arrays say: which places stand in a place, which agents are listed in it, names, and agents' texts
 pub record Sheet : Type 0 where
@@ -69,6 +72,7 @@ pub record Sheet : Type 0 where
   pub name : ℕ → ℕ
   pub text : ℕ → List ℕ
 
+-- the sheet of five arrays: words of places, words of agents, names, rows and their lengths
 abbrev pub sheetOf : List ℕ → List ℕ → List ℕ → List ℕ → List ℕ → Sheet
 sheetOf places agents names texts lengths = record
   { stands = λ p. has (getD places p 0)

@@ -1,13 +1,13 @@
 -- The text of a sheet, level by level, and the sheet of a cell: its text is the listing. Assumes nothing.
 -- Idea: two sheets that say the same below 64 make the same text.
-use mathlib.Core.Path.{_≡_, refl, sym, ap, ap₂, _∙_}
-use mathlib.Core.Bool.{Bool, true, false, _&&_, cond}
+use mathlib.Core.Path.{_≡_, refl, ap, ap₂, _∙_}
+use mathlib.Core.Bool.{Bool, true, cond}
 use mathlib.Core.List.{List, [], _∷_, _++_}
 use Prim.Native.Nat.{ℕ, zero, suc, _+_, _-_, _<_, _≤_}
 use native.Mathlib.Omega.{arith}
 use native.Mathlib.Numerals.{sub-one}
 use lib.Dec.{eqb}
-use lib.ListN.{length, getD}
+use lib.ListN.{length}
 use Rattle.table.specs.Base.{tab, foldUp}
 use Rattle.table.specs.BaseLaws.{cond-cong}
 use Rattle.table.specs.Cell.{State}

@@ -82,7 +82,16 @@ fn write_place(
 {
     let open = write_head(names[q], buf);
     let from = text::least(open, buf.len());
-    let n = write_contents(places, agents, names, texts, lengths, q, depth, &mut buf[from..]);
+    let n = write_contents(
+        places,
+        agents,
+        names,
+        texts,
+        lengths,
+        q,
+        depth,
+        &mut buf[from..],
+    );
     let full = text::plus(open, n);
     text::add_byte(b']', full, buf)
 }
@@ -110,7 +119,16 @@ fn write_contents(
         let q = left.first() as usize;
         let mid = add_bar(at, buf);
         let from = text::least(mid, buf.len());
-        let n = write_place(places, agents, names, texts, lengths, q, depth - 1, &mut buf[from..]);
+        let n = write_place(
+            places,
+            agents,
+            names,
+            texts,
+            lengths,
+            q,
+            depth - 1,
+            &mut buf[from..],
+        );
         at = text::plus(mid, n);
         left = left.rest();
     }
@@ -151,7 +169,14 @@ fn write_if(c: Cell, whole: bool, buf: &mut [u8]) -> usize
     let agents = sheet::grouped(c.given, &homes);
     if whole {
         let none: usize = 0;
-        let n = write_floor(&places, &agents, &names, &texts, &lengths, &mut buf[none..none]);
+        let n = write_floor(
+            &places,
+            &agents,
+            &names,
+            &texts,
+            &lengths,
+            &mut buf[none..none],
+        );
         if buf.len() < n {
             return n;
         }

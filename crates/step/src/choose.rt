@@ -11,7 +11,7 @@ ghost use Rattle.meaning.specs.Step.{qualifies};
 ghost use Rattle.step.specs.Parts.{landOf, childNamed};
 
 // Place q, or an empty one where there is none.
-pub fn place_at(ps: [Place; 64], q: u8) -> Place
+pub(super) fn place_at(ps: [Place; 64], q: u8) -> Place
     ensures { λ r. ⌜ r ≡ getD ps q noPlace ⌝ }
 {
     if q < 64 {
@@ -23,14 +23,14 @@ pub fn place_at(ps: [Place; 64], q: u8) -> Place
 }
 
 // Whether a place, in use or not, is linked.
-pub fn linked(known: bool, x: Place) -> bool
+pub(super) fn linked(known: bool, x: Place) -> bool
     ensures { λ r. ⌜ r ≡ (known && eqb (x .way) 0) ⌝ }
 {
     if known { x.way == 0 } else { false }
 }
 
 // Whether a place, in use or not, is linked to p.
-pub fn linked_to(known: bool, x: Place, p: u8) -> bool
+pub(super) fn linked_to(known: bool, x: Place, p: u8) -> bool
     ensures { λ r. ⌜ r ≡ (known && (eqb (x .way) 0 && eqb (x .parent) p)) ⌝ }
 {
     if known {
@@ -97,7 +97,7 @@ fn unawaited(ps: [Place; 64], used: Set, among: Set) -> Set
 }
 
 // The places on which the action (kind, n) of an agent that lives in home and holds p fires.
-pub fn qualifying(ps: [Place; 64], used: Set, kind: u8, n: u16, home: u8, p: u8) -> Set
+pub(super) fn qualifying(ps: [Place; 64], used: Set, kind: u8, n: u16, home: u8, p: u8) -> Set
     ensures { λ r. ⌜ r ≡ setOf (qualifies (landOf ps used) kind n home p) ⌝ }
 {
     if kind == 1 {

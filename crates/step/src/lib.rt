@@ -18,7 +18,7 @@ ghost use Rattle.meaning.specs.Step;
 ghost use Rattle.step.specs.Parts.{Says};
 
 // What a step changes in the cell.
-pub enum Change {
+enum Change {
     // Nothing; the word.
     Still(Word),
     // The agent's stage and remembered place; the word.

@@ -21,7 +21,7 @@ ghost use Rattle.meaning.specs.Run.{made};
 ghost use Rattle.step.specs.Parts.{movePlace};
 
 // The agent with its stage, remembered and chosen place.
-pub fn at_stage(a: Agent, stage: u8, remembered: u8, chosen: u8) -> Agent
+pub(super) fn at_stage(a: Agent, stage: u8, remembered: u8, chosen: u8) -> Agent
     ensures { λ r. ⌜ r ≡ atStage a stage remembered chosen ⌝ }
 {
     let mut b = a;
@@ -32,7 +32,7 @@ pub fn at_stage(a: Agent, stage: u8, remembered: u8, chosen: u8) -> Agent
 }
 
 // The agent once its next action is used up.
-pub fn use_up(a: Agent) -> Agent
+pub(super) fn use_up(a: Agent) -> Agent
     requires { ⌜ a .next < 255 ⌝ }
     ensures { λ r. ⌜ r ≡ useUp a ⌝ }
 {
@@ -42,14 +42,14 @@ pub fn use_up(a: Agent) -> Agent
 }
 
 // The stage after opened or came: 0, or 8 if no action is left.
-pub fn rest_stage(next: u8, count: u8) -> u8
+pub(super) fn rest_stage(next: u8, count: u8) -> u8
     ensures { λ r. ⌜ r ≡ cond (ltb next count) 0 8 ⌝ }
 {
     if next < count { 0 } else { 8 }
 }
 
 // The lock of q, or 0 where there is no such place.
-pub fn lock_at(ls: [u8; 64], q: u8) -> u8
+pub(super) fn lock_at(ls: [u8; 64], q: u8) -> u8
     ensures { λ r. ⌜ r ≡ getD ls q 0 ⌝ }
 {
     if q < 64 {
@@ -61,7 +61,7 @@ pub fn lock_at(ls: [u8; 64], q: u8) -> u8
 }
 
 // The locks once that of q is v.
-pub fn with_lock(ls: [u8; 64], q: u8, v: u8) -> [u8; 64]
+pub(super) fn with_lock(ls: [u8; 64], q: u8, v: u8) -> [u8; 64]
     ensures { λ r. ⌜ r ≡ tab (upd (λ j. getD ls j 0) q v) 64 0 ⌝ }
 {
     let mut ms = ls;
@@ -73,7 +73,7 @@ pub fn with_lock(ls: [u8; 64], q: u8, v: u8) -> [u8; 64]
 }
 
 // The locks once those of p and q are released.
-pub fn released(ls: [u8; 64], p: u8, q: u8) -> [u8; 64]
+pub(super) fn released(ls: [u8; 64], p: u8, q: u8) -> [u8; 64]
     ensures { λ r. ⌜ r ≡ tab (Rattle.meaning.specs.Update.released (λ j. getD ls j 0) p q) 64 0 ⌝ }
 {
     let ms = with_lock(ls, p, 64);
@@ -112,7 +112,7 @@ fn linked_up(x: Place) -> Place
 }
 
 // Whether an agent is asleep on p, q or r.
-pub fn asleep_on(a: Agent, p: u8, q: u8, r: u8) -> bool
+pub(super) fn asleep_on(a: Agent, p: u8, q: u8, r: u8) -> bool
     ensures { λ z. ⌜ z ≡ asleepOn p q r a ⌝ }
 {
     if a.stage == 7 {
@@ -162,7 +162,7 @@ fn move_place(c: Cell, x: u8, h: u8, y: Place, p: u8, q: u8, r: u8, b: Agent, w:
 }
 
 // Stage 3 of enter and exit: its place goes on its way to d.
-pub fn leave(c: Cell, x: u8, a: Agent, d: u8) -> Stepped
+pub(super) fn leave(c: Cell, x: u8, a: Agent, d: u8) -> Stepped
     requires { ⌜ x < 64 ⌝ }
     requires { ⌜ a .next < 255 ⌝ }
     ensures { λ r. ⌜ r ≡ made (Rattle.meaning.specs.Step.leave (cellOf c) x a d) ⌝ }
@@ -183,7 +183,7 @@ fn beyond(known: bool, x: Place, d: u8) -> u8
 }
 
 // Stage 6: its place is linked to d.
-pub fn arrive(c: Cell, x: u8, a: Agent, d: u8) -> Stepped
+pub(super) fn arrive(c: Cell, x: u8, a: Agent, d: u8) -> Stepped
     requires { ⌜ x < 64 ⌝ }
     ensures { λ r. ⌜ r ≡ made (Rattle.meaning.specs.Step.arrive (cellOf c) x a d) ⌝ }
 {

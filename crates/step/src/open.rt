@@ -154,7 +154,7 @@ fn lets_go(a: Agent, t: u8) -> bool
 }
 
 // Stage 3 of open: place t is dissolved into p.
-pub fn dissolve(c: Cell, x: u8, a: Agent, p: u8, t: u8) -> Stepped
+pub(super) fn dissolve(c: Cell, x: u8, a: Agent, p: u8, t: u8) -> Stepped
     requires { ⌜ x < 64 ⌝ }
     requires { ⌜ a .next < 255 ⌝ }
     ensures { λ r. ⌜ r ≡ made (Rattle.meaning.specs.Step.dissolve (cellOf c) x a p t) ⌝ }

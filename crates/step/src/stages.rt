@@ -16,7 +16,7 @@ ghost use Rattle.meaning.specs.Step;
 ghost use Rattle.step.specs.Parts.{Says, SaysAnywhere};
 
 // Stage 0, looking: the parent, or for open its own place, or asleep with no linked parent.
-pub fn look(a: Agent, ps: [Place; 64], used: Set) -> Change
+pub(super) fn look(a: Agent, ps: [Place; 64], used: Set) -> Change
     ensures { λ r. ⌜ Says ps used a r Rattle.meaning.specs.Step.look ⌝ }
 {
     let x = table::next_action(a);
@@ -32,7 +32,7 @@ pub fn look(a: Agent, ps: [Place; 64], used: Set) -> Change
 }
 
 // Stage 1, found: lock the remembered place.
-pub fn lock_first(a: Agent) -> Change
+pub(super) fn lock_first(a: Agent) -> Change
     ensures { λ r. ⌜ SaysAnywhere a r Rattle.meaning.specs.Step.lockFirst ⌝ }
 {
     Change::Take(a.remembered, 2, a.remembered, 0)
@@ -67,7 +67,7 @@ fn lock_second(a: Agent, q: u8) -> Change
 }
 
 // Stage 2, holding p: back where its place is no longer linked to p, else the choice.
-pub fn hold(a: Agent, ps: [Place; 64], used: Set, wish: u8) -> Change
+pub(super) fn hold(a: Agent, ps: [Place; 64], used: Set, wish: u8) -> Change
     ensures { λ r. ⌜ Says ps used a r (λ c x b. Rattle.meaning.specs.Step.hold c x b wish) ⌝ }
 {
     let x = table::next_action(a);
@@ -89,7 +89,7 @@ fn target(kind: u8, p: u8, chosen: u8) -> u8
 }
 
 // Stage 3, holding both: leave or dissolve, or back where the action no longer fires.
-pub fn act(a: Agent, ps: [Place; 64], used: Set) -> Change
+pub(super) fn act(a: Agent, ps: [Place; 64], used: Set) -> Change
     ensures { λ r. ⌜ Says ps used a r Rattle.meaning.specs.Step.act ⌝ }
 {
     let x = table::next_action(a);
@@ -112,7 +112,7 @@ pub fn act(a: Agent, ps: [Place; 64], used: Set) -> Change
 }
 
 // Stages 4 to 6, on its way: lock its own place, then the destination, then link.
-pub fn travel(a: Agent, ps: [Place; 64], used: Set) -> Change
+pub(super) fn travel(a: Agent, ps: [Place; 64], used: Set) -> Change
     ensures { λ r. ⌜ Says ps used a r Rattle.meaning.specs.Step.travel ⌝ }
 {
     if a.stage == 4 {
@@ -126,7 +126,7 @@ pub fn travel(a: Agent, ps: [Place; 64], used: Set) -> Change
 }
 
 // Stages 7 and 8, asleep and done: nothing changes.
-pub fn idle(a: Agent, s: u8) -> Change
+pub(super) fn idle(a: Agent, s: u8) -> Change
     ensures { λ r. ⌜ SaysAnywhere a r (λ c x b. cond (eqb s 7) (Rattle.meaning.specs.Step.still c Asleep) (Rattle.meaning.specs.Step.still c Done)) ⌝ }
 {
     if s == 7 {

@@ -1,7 +1,7 @@
 -- The two writers, by what is left of the depth: twice the depth for contents, and one more for a place.
 -- Before each turn of contents the agents and the places that were taken are written.
 use mathlib.Core.Path.{refl, sym, ap}
-use mathlib.Core.List.{List, []}
+use mathlib.Core.List.{List}
 use Prim.Native.Nat.{ℕ, _+_, _-_, _<_, _≤_}
 use native.Mathlib.Omega.{arith}
 use lib.ListN.{length}
@@ -84,6 +84,7 @@ pub +write-contents+write-place-spec : {M : Type 1} → statement M
     write-contents.Post
     Inv
     μ
+    -- ---- contents writer
     (λ c. wrote-as (sym (contents-none _ _ _ (c .if1 .taken))) (begun _))
     (λ c. omega (arith, c .before .before .before .pre .1 .0))
     (λ c. c .before .before .before .pre .1 .0)
@@ -91,6 +92,7 @@ pub +write-contents+write-place-spec : {M : Type 1} → statement M
     (λ c. omega (arith, c .before .before .before .before .before .before .before .before .pre .1 .0))
     (λ c. c .before .before .before .before .before .before .before .before .pre .1 .0)
     (λ c κs. tt)
+    -- before the first turn the agents are written
     (λ c. let sheet = (sheetOf (c .before .before .before .before .before .before .before .before .before .before .args .places .now) (c .before .before .before .before .before .before .before .before .before .before .args .agents .now) (c .before .before .before .before .before .before .before .before .before .before .args .names .now) (c .before .before .before .before .before .before .before .before .before .before .args .texts .now) (c .before .before .before .before .before .before .before .before .before .before .args .lengths .now)) in
     let p = c .before .before .before .before .before .before .before .before .before .before .args .p in
     let depth = c .before .before .before .before .before .before .before .before .before .before .args .depth in
@@ -103,16 +105,19 @@ pub +write-contents+write-place-spec : {M : Type 1} → statement M
     (λ c. least-le _ _ _ (c .least .ensures) .1)
     (λ c. let h = least-le _ _ _ (c .least .ensures) in omega (arith, h .1))
     (λ c. search needs)
+    -- the depth falls
     (λ c κs. (omega (arith, c .before .before .before .before .before .before .before .before .before .before .before .before .before .before .before .before .before .before .before .before .pre .0, c .before .before .before .before .before .before .before .before .before .before .before .before .before .before .before .before .before .if1 .left), (taken-lt (c .before .before .before .before .before .before .before .before .before .loop .inv .1 .0) (c .before .before .before .before .before .before .before .if2 .taken) (c .before .before .before .before .before .before .first .ensures), c .before .before .before .before .before .before .before .before .before .before .before .before .before .before .before .before .before .before .before .before .pre .1 .1)))
     (λ c κs. tt)
     (λ c κs. tt)
     (λ c. left-less (c .before .before .before .before .before .before .before .before .before .before .before .before .before .before .loop .inv .1 .0) (c .before .before .before .before .before .before .before .before .before .before .before .before .if2 .taken) (c .rest .ensures))
+    -- one place more
     (λ c. let sheet = (sheetOf (c .before .before .before .before .before .before .before .before .before .before .before .before .before .before .before .before .before .before .before .before .before .before .before .before .before .args .places .now) (c .before .before .before .before .before .before .before .before .before .before .before .before .before .before .before .before .before .before .before .before .before .before .before .before .before .args .agents .now) (c .before .before .before .before .before .before .before .before .before .before .before .before .before .before .before .before .before .before .before .before .before .before .before .before .before .args .names .now) (c .before .before .before .before .before .before .before .before .before .before .before .before .before .before .before .before .before .before .before .before .before .before .before .before .before .args .texts .now) (c .before .before .before .before .before .before .before .before .before .before .before .before .before .before .before .before .before .before .before .before .before .before .before .before .before .args .lengths .now)) in
     let p = c .before .before .before .before .before .before .before .before .before .before .before .before .before .before .before .before .before .before .before .before .before .before .before .before .before .args .p in
     let depth = c .before .before .before .before .before .before .before .before .before .before .before .before .before .before .before .before .before .before .before .before .before .before .before .before .before .args .depth in
     (lowestIn (c .before .before .before .before .before .before .before .before .before .before .before .before .before .before .loop .left) + 1, (left-over (c .before .before .before .before .before .before .before .before .before .before .before .before .before .before .loop .inv .1 .0) (c .before .before .before .before .before .before .before .before .before .before .before .before .if2 .taken) refl (c .rest .ensures), λ b r w. walk-more bar (sheet .stands p) (placeOn (depth - 1) sheet) (agentsOn sheet p) (c .before .before .before .before .before .before .before .before .before .before .before .before .before .before .loop .inv .1 .0) (c .before .before .before .before .before .before .before .before .before .before .before .before .if2 .taken)
       (placed r (c .before .before .before .before .before .before .before .before .before .before .before .before .before .before .loop .inv .1 .1 b r w) (c .before .before .before .before .before .before .before .before .before .add-bar .ensures) (c .before .before .before .before .before .before .least .ensures) (wrote-as (ap (placeOn (depth - 1) sheet) (c .before .before .before .before .before .before .before .before .before .before .before .first .ensures)) (c .before .before .before .before .write-place .ensures)) (c .before .plus .ensures)))))
     (λ c. wrote-length (c .before .before .loop .inv .1 .1 _ (omega (arith, c .before .before .before .before .before .before .before .before .before .before .before .before .before .good)) (c .before .before .before .before .before .before .before .write-agents .ensures)))
+    -- no place is left
     (λ c. let sheet = (sheetOf (c .before .before .before .before .before .before .before .before .before .before .before .before .before .args .places .now) (c .before .before .before .before .before .before .before .before .before .before .before .before .before .args .agents .now) (c .before .before .before .before .before .before .before .before .before .before .before .before .before .args .names .now) (c .before .before .before .before .before .before .before .before .before .before .before .before .before .args .texts .now) (c .before .before .before .before .before .before .before .before .before .before .before .before .before .args .lengths .now)) in
     let p = c .before .before .before .before .before .before .before .before .before .before .before .before .before .args .p in
     let depth = c .before .before .before .before .before .before .before .before .before .before .before .before .before .args .depth in
@@ -131,6 +136,7 @@ pub +write-contents+write-place-spec : {M : Type 1} → statement M
     )
     (write-place-at t)
     write-place.Post
+    -- ---- place writer
     (λ c. omega (arith, c .before .before .pre .1 .0))
     (λ c. c .before .before .pre .1 .0)
     (λ c κs. tt)
@@ -138,8 +144,10 @@ pub +write-contents+write-place-spec : {M : Type 1} → statement M
     (λ c. least-le _ _ _ (c .least .ensures) .1)
     (λ c. let h = least-le _ _ _ (c .least .ensures) in omega (arith, h .1))
     (λ c. search needs)
+    -- so does the measure
     (λ c κs. (omega (arith, c .before .before .before .before .before .before .before .before .before .pre .0), c .before .before .before .before .before .before .before .before .before .pre .1))
     (λ c κs. tt)
     (λ c κs. tt)
     (λ c. wrote-length (place-written (c .before .before .before .before .before .before .before .before .before .before .before .before .before .before .before .before .before .args .depth) (sheetOf (c .before .before .before .before .before .before .before .before .before .before .before .before .before .before .before .before .before .args .places .now) (c .before .before .before .before .before .before .before .before .before .before .before .before .before .before .before .before .before .args .agents .now) (c .before .before .before .before .before .before .before .before .before .before .before .before .before .before .before .before .before .args .names .now) (c .before .before .before .before .before .before .before .before .before .before .before .before .before .before .before .before .before .args .texts .now) (c .before .before .before .before .before .before .before .before .before .before .before .before .before .before .before .before .before .args .lengths .now)) (c .before .before .before .before .before .before .before .before .before .before .before .before .before .before .before .before .before .args .q) (omega (arith, c .before .before .before .before .before .before .before .before .before .before .before .before .before .before .before .before .before .good)) (c .before .before .before .before .before .before .before .before .before .before .before .before .write-head .ensures) (c .before .before .before .before .before .before .before .before .before .least .ensures) (c .before .before .before .before .before .before .before .write-contents .ensures) (c .before .before .before .before .plus .ensures) (c .before .before .add-byte .ensures)))
+    -- name, contents, bracket
     (λ c. place-written (c .before .before .before .before .before .before .before .before .before .before .before .before .before .before .before .before .before .args .depth) (sheetOf (c .before .before .before .before .before .before .before .before .before .before .before .before .before .before .before .before .before .args .places .now) (c .before .before .before .before .before .before .before .before .before .before .before .before .before .before .before .before .before .args .agents .now) (c .before .before .before .before .before .before .before .before .before .before .before .before .before .before .before .before .before .args .names .now) (c .before .before .before .before .before .before .before .before .before .before .before .before .before .before .before .before .before .args .texts .now) (c .before .before .before .before .before .before .before .before .before .before .before .before .before .before .before .before .before .args .lengths .now)) (c .before .before .before .before .before .before .before .before .before .before .before .before .before .before .before .before .before .args .q) (omega (arith, c .before .before .before .before .before .before .before .before .before .before .before .before .before .before .before .before .before .good)) (c .before .before .before .before .before .before .before .before .before .before .before .before .write-head .ensures) (c .before .before .before .before .before .before .before .before .before .least .ensures) (c .before .before .before .before .before .before .before .write-contents .ensures) (c .before .before .before .before .plus .ensures) (c .before .before .add-byte .ensures))

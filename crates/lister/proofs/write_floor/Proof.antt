@@ -1,5 +1,4 @@
 -- Where the contents have no length there is nothing in the buffer yet.
-use native.Mathlib.Omega.{arith}
 use borrow.Author.Needs.{needs}
 use Rattle.lister.specs.Sheet.{sheetOf}
 use Rattle.lister.specs.CallLaws.{floor-none, floor-some}

@@ -3,8 +3,6 @@ use native.Mathlib.Omega.{arith}
 use borrow.Author.Needs.{needs}
 use Rattle.text.specs.TextLaws.{wrote-length}
 use Rattle.lister.specs.PutLaws.{number-put}
-use lib.ListN.{length-set}
-use mathlib.Core.Path.{_∙_}
 use Rattle.lister.proofs.rows.put_number.Statement.{statement}
 use Rattle.lister.proofs.rows.put_number.Tie as tie
 

@@ -1,5 +1,4 @@
 -- Measured, or written where there is room for the longest, or digit by digit.
-use native.Mathlib.Omega.{arith}
 use borrow.Author.Needs.{needs}
 use Rattle.lister.specs.PutLaws.{lent-nothing}
 use Rattle.lister.proofs.rows.write_name.Statement.{statement}

@@ -1,8 +1,7 @@
 -- Before turn i the names below i stand in the row.
-use mathlib.Core.Path.{_≡_, refl, sym}
+use mathlib.Core.Path.{_≡_, refl}
 use Prim.Native.Nat.{_≤_, _-_}
 use native.Mathlib.Omega.{arith}
-use borrow.Author.Needs.{needs}
 use lib.ListN.{getD}
 use Rattle.table.specs.Base.{tab}
 use Rattle.table.specs.Cell.{noPlace}

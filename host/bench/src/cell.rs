@@ -1,0 +1,74 @@
+//! The cell as a host lends it, one struct for both keepers, and sets of numbers below 64 as words.
+
+/// No place and no agent; the lock of a place that is free.
+pub const NONE: u8 = 64;
+
+/// One place. Way 0: linked to its parent; otherwise on its way to it, or the floor.
+#[repr(C)]
+#[derive(Clone, Copy, PartialEq, Eq, Debug)]
+pub struct Place {
+    pub name: u16,
+    pub parent: u8,
+    pub way: u8,
+}
+
+/// An action: 1 enter, 2 exit, 3 open, and a name.
+#[repr(C)]
+#[derive(Clone, Copy, PartialEq, Eq, Debug)]
+pub struct Action {
+    pub kind: u8,
+    pub name: u16,
+}
+
+/// An agent: its unused actions are those from `next` to before `count`.
+#[repr(C)]
+#[derive(Clone, Copy, PartialEq, Eq, Debug)]
+pub struct Agent {
+    pub home: u8,
+    pub stage: u8,
+    pub remembered: u8,
+    pub chosen: u8,
+    pub next: u8,
+    pub count: u8,
+    pub actions: [Action; 16],
+}
+
+/// The cell: places and agents by number, the lock of each place, and the numbers in use.
+#[repr(C)]
+#[derive(Clone, Copy, PartialEq, Eq, Debug)]
+pub struct Cell {
+    pub places: [Place; 64],
+    pub locks: [u8; 64],
+    pub agents: [Agent; 64],
+    pub used: u64,
+    pub given: u64,
+}
+
+const _: () = assert!(size_of::<Place>() == 4 && size_of::<Agent>() == 70 && size_of::<Cell>() == 4816);
+
+impl Cell {
+    /// A bare floor: one place, no lock held, no agents.
+    pub const BARE: Cell = {
+        let mut places = [Place { name: 0, parent: 0, way: 0 }; 64];
+        places[0].way = 1;
+        let actions = [Action { kind: 0, name: 0 }; 16];
+        let agent = Agent { home: 0, stage: 8, remembered: 0, chosen: 0, next: 0, count: 0, actions };
+        Cell { places, locks: [NONE; 64], agents: [agent; 64], used: 1, given: 0 }
+    };
+}
+
+/// Whether i is in the set.
+pub fn has(set: u64, i: u8) -> bool {
+    i < 64 && set >> i & 1 == 1
+}
+
+/// The members of a set, lowest first.
+pub fn members(mut set: u64) -> impl Iterator<Item = u8> {
+    std::iter::from_fn(move || {
+        (set != 0).then(|| {
+            let lowest = set.trailing_zeros() as u8;
+            set &= set - 1;
+            lowest
+        })
+    })
+}

@@ -1,0 +1,186 @@
+//! The cells that are measured, as cell files, and the orders that are stepped on them.
+
+use crate::cell::{members, Action, Cell};
+use crate::keeper::Keeper;
+use crate::peer::Peer;
+
+/// Pseudo-random numbers from a fixed seed, so that every run measures the same.
+pub struct Random(pub u64);
+
+impl Random {
+    pub fn below(&mut self, bound: usize) -> usize {
+        self.0 ^= self.0 << 13;
+        self.0 ^= self.0 >> 7;
+        self.0 ^= self.0 << 17;
+        (self.0 % bound as u64) as usize
+    }
+
+    pub fn one_of<T: Copy>(&mut self, values: &[T]) -> T {
+        values[self.below(values.len())]
+    }
+}
+
+/// A cell as a file will give it: places 1, 2, .. with parent and name, agents 0, 1, .. with home and actions.
+#[derive(Default)]
+pub struct Sketch {
+    pub places: Vec<(u8, u16)>,
+    pub agents: Vec<(u8, Vec<Action>)>,
+}
+
+pub fn enter(name: u16) -> Action {
+    Action { kind: 1, name }
+}
+
+pub fn exit(name: u16) -> Action {
+    Action { kind: 2, name }
+}
+
+pub fn open(name: u16) -> Action {
+    Action { kind: 3, name }
+}
+
+impl Sketch {
+    /// The bytes of its cell file.
+    pub fn file(&self) -> Vec<u8> {
+        let mut file = Vec::new();
+        for (i, &(parent, name)) in self.places.iter().enumerate() {
+            let [low, high] = name.to_le_bytes();
+            file.extend([1, i as u8 + 1, parent, low, high]);
+        }
+        for (x, (home, actions)) in self.agents.iter().enumerate() {
+            file.extend([2, x as u8, *home]);
+            for action in actions {
+                let [low, high] = action.name.to_le_bytes();
+                file.extend([3, x as u8, action.kind, low, high]);
+            }
+        }
+        file.push(4);
+        file
+    }
+
+    /// The same cell, but every action names a place that there is none of, so that no move is made.
+    pub fn finding_nothing(mut self) -> Sketch {
+        self.agents.iter_mut().flat_map(|(_, row)| row).for_each(|action| action.name = 999);
+        self
+    }
+
+    /// The cell that its file gives.
+    pub fn cell(&self) -> Cell {
+        let mut cell = Cell::BARE;
+        assert_eq!(Peer::load(&mut cell, &self.file()), 0, "the file is accepted");
+        cell
+    }
+}
+
+/// A bare floor with so many agents without actions on it.
+pub fn empty(agents: usize) -> Sketch {
+    Sketch { places: vec![], agents: vec![(0, vec![]); agents] }
+}
+
+/// The worked example of document 01: two places, two agents, 27 bytes.
+pub fn worked() -> Sketch {
+    Sketch { places: vec![(0, 7), (0, 9)], agents: vec![(1, vec![enter(9)]), (2, vec![exit(7)])] }
+}
+
+/// Two bonders (20, 21) with a holder each (30, 31), two magazines (40, 41) with trays (50, 51) and a box (70), two capillaries
+/// (60, 61); holders, trays and capillaries change places and one agent opens the box.
+pub fn typical() -> Sketch {
+    let places = vec![(0, 20), (0, 21), (0, 40), (0, 41), (1, 30), (2, 31), (3, 50), (3, 50), (4, 51), (5, 60), (6, 61), (4, 70)];
+    let agents = vec![
+        (5, vec![exit(20), enter(40), exit(40), enter(21)]),
+        (6, vec![exit(21), enter(41), exit(41), enter(20)]),
+        (7, vec![exit(40), enter(20), exit(20), enter(40)]),
+        (9, vec![exit(41), enter(21), exit(21), enter(41)]),
+        (10, vec![exit(30), exit(40), enter(50)]),
+        (11, vec![exit(31), enter(51)]),
+        (4, vec![open(70)]),
+        (0, vec![open(61), open(99)]),
+    ];
+    Sketch { places, agents }
+}
+
+/// Places and agents at random: one action in `rare` opens, the others enter or exit.
+pub fn random(random: &mut Random, places: usize, agents: usize, actions: usize, names: usize, rare: usize) -> Sketch {
+    let name = |random: &mut Random| 1 + random.below(names) as u16;
+    let mut sketch = Sketch::default();
+    for q in 0..places {
+        sketch.places.push((random.below(q + 1) as u8, name(random)));
+    }
+    for _ in 0..agents {
+        let home = random.below(places + 1) as u8;
+        let row = (0..actions).map(|_| {
+            let kind = if random.below(rare) == 0 { 3 } else { 1 + random.below(2) as u8 };
+            Action { kind, name: name(random) }
+        });
+        let row = row.collect();
+        sketch.agents.push((home, row));
+    }
+    sketch
+}
+
+/// 63 places, 64 agents, sixteen actions each.
+pub fn full() -> Sketch {
+    random(&mut Random(7), 63, 64, 16, 2, 8)
+}
+
+/// A chain 63 deep. Every fourth place has an agent that takes it out of the one around it and back, eight times; as many agents look for
+/// something to enter and find nothing; one opens the last place.
+pub fn chain() -> Sketch {
+    let mut sketch = Sketch { places: (0..63).map(|q| (q, 100 + q as u16)).collect(), agents: vec![] };
+    for q in (4..62).step_by(4) {
+        let around = sketch.places[q as usize - 2].1;
+        sketch.agents.push((q, (0..16).map(|i| if i % 2 == 0 { exit(around) } else { enter(around) }).collect()));
+        sketch.agents.push((q - 2, vec![enter(999); 16]));
+    }
+    sketch.agents.push((62, vec![open(sketch.places[62].1)]));
+    sketch
+}
+
+/// The cell of the longest file and of the longest listing: 63 places and 64 agents with sixteen actions, all on the floor.
+pub fn longest() -> Sketch {
+    Sketch { places: vec![(0, 65_535); 63], agents: vec![(0, vec![enter(65_535); 16]); 64] }
+}
+
+/// A busy order: until all agents are at rest, or so many calls. Nine of ten calls go to an agent that is not at rest.
+pub fn busy(start: &Cell, most: usize) -> Vec<(u8, u8)> {
+    let mut random = Random(99);
+    let (mut cell, mut order) = (*start, vec![]);
+    let given: Vec<u8> = members(start.given).collect();
+    loop {
+        let restless: Vec<u8> = given.iter().copied().filter(|&x| cell.agents[x as usize].stage < 7).collect();
+        if restless.is_empty() || order.len() == most {
+            return order;
+        }
+        let among = if random.below(10) == 0 { &given } else { &restless };
+        let agent = random.one_of(among);
+        let wish = random.below(80) as u8;
+        Peer::step(&mut cell, agent, wish);
+        order.push((agent, wish));
+    }
+}
+
+/// A cell in which nothing more happens while one agent, which holds a lock, is not called: the others are held, asleep or done. With it
+/// an order of calls to those others.
+pub fn at_rest(start: &Cell, calls: usize) -> (Cell, Vec<(u8, u8)>) {
+    let mut cell = *start;
+    let mut holder = None;
+    loop {
+        let before = cell;
+        for x in members(start.given).filter(|&x| holder != Some(x)).collect::<Vec<_>>() {
+            Peer::step(&mut cell, x, 255);
+            if holder.is_none() && cell.agents[x as usize].stage == 2 {
+                holder = Some(x);
+                break;
+            }
+        }
+        if cell == before {
+            break;
+        }
+    }
+    let mut others: Vec<u8> = members(start.given).filter(|&x| holder != Some(x)).collect();
+    if others.is_empty() {
+        others.push(0);
+    }
+    let mut random = Random(5);
+    (cell, (0..calls).map(|_| (random.one_of(&others), random.below(80) as u8)).collect())
+}

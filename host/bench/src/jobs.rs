@@ -1,0 +1,145 @@
+//! What is measured: jobs that either keeper can do, each a lap of calls.
+
+use crate::cell::Cell;
+use crate::cells::{self, Random, Sketch};
+use crate::keeper::Keeper;
+use crate::peer::Peer;
+use crate::walk::{self, walk};
+use std::hint::black_box;
+
+/// A lap of calls.
+pub enum Job {
+    /// The calls of an order on a cell, which is set back before each lap.
+    Step { start: Box<Cell>, order: Vec<(u8, u8)> },
+    /// The load of a file.
+    Load { file: Vec<u8> },
+    /// The listing of a cell into a buffer of this size.
+    List { cell: Box<Cell>, room: usize },
+    /// The soundness check of a cell.
+    Check { cell: Box<Cell> },
+    /// Whether all agents are asleep or done.
+    Idle { cell: Box<Cell> },
+    /// A whole walk: a file and an order.
+    Walk { file: Vec<u8>, order: Vec<u8> },
+    /// A copy of a cell, by no keeper: what a call by value pays, and how far apart two equal things are measured.
+    Copy { cell: Box<Cell> },
+}
+
+/// A job with its name and the ratio it should stay within.
+pub struct Workload {
+    pub name: String,
+    pub goal: Option<f64>,
+    pub job: Job,
+}
+
+/// What a lap writes to.
+pub struct Room {
+    pub cell: Cell,
+    pub text: Vec<u8>,
+}
+
+impl Room {
+    pub fn new() -> Room {
+        Room { cell: Cell::BARE, text: vec![b'#'; walk::ROOM] }
+    }
+}
+
+impl Job {
+    /// The calls of a lap; a walk counts as one.
+    pub fn calls(&self) -> usize {
+        match self {
+            Job::Step { order, .. } => order.len(),
+            _ => 1,
+        }
+    }
+
+    /// One lap; the answer keeps the calls from being left out.
+    pub fn lap<K: Keeper>(&self, room: &mut Room) -> u64 {
+        match self {
+            Job::Step { start, order } => {
+                room.cell = **start;
+                order.iter().fold(0, |sum, &(agent, wish)| sum + K::step(&mut room.cell, agent, wish))
+            }
+            Job::Load { file } => K::load(&mut room.cell, file),
+            Job::List { cell, room: size } => K::list(cell, &mut room.text[..*size]),
+            Job::Check { cell } => K::check(cell),
+            Job::Idle { cell } => K::idle(cell),
+            Job::Walk { file, order } => walk::<K>(file, order, &mut room.cell, &mut room.text) as u64,
+            Job::Copy { cell } => {
+                room.cell = **cell;
+                black_box(&room.cell).used
+            }
+        }
+    }
+}
+
+const STEP: Option<f64> = Some(1.2);
+const LIST: Option<f64> = Some(1.5);
+const WALK: Option<f64> = Some(1.2);
+
+/// Calls that change nothing: of agents that are held, asleep or done.
+fn quiet(sketch: Sketch) -> Job {
+    let (start, order) = cells::at_rest(&sketch.cell(), 400);
+    Job::Step { start: Box::new(start), order }
+}
+
+/// Calls that move places: after so many from the load on, to rest or four hundred.
+fn busy(sketch: Sketch, before: usize) -> Job {
+    let mut start = Box::new(sketch.cell());
+    for (agent, wish) in cells::busy(&start, before) {
+        Peer::step(&mut start, agent, wish);
+    }
+    Job::Step { order: cells::busy(&start, 400), start }
+}
+
+/// All that is measured, in the order of the table.
+pub fn workloads() -> Vec<Workload> {
+    let boxed = |sketch: &Sketch| Box::new(sketch.cell());
+    let load = |sketch: Sketch| Job::Load { file: sketch.file() };
+    let list = |sketch: Sketch| Job::List { cell: boxed(&sketch), room: 13_043 };
+    let check = |sketch: Sketch| Job::Check { cell: boxed(&sketch) };
+    let idle = |sketch: Sketch| Job::Idle { cell: boxed(&sketch) };
+    let whole = |sketch: Sketch| {
+        let mut random = Random(31);
+        let agents = sketch.agents.len();
+        let order = (0..16_384).flat_map(|_| [random.below(agents) as u8, random.below(80) as u8]).collect();
+        Job::Walk { file: sketch.file(), order }
+    };
+    let of = |name: &str, goal, job| Workload { name: name.to_string(), goal, job };
+    vec![
+        of("step, no agents", STEP, quiet(cells::empty(0))),
+        of("step, one agent, done", STEP, quiet(cells::empty(1))),
+        of("step, typical, at rest", STEP, quiet(cells::typical())),
+        of("step, typical, busy", STEP, busy(cells::typical(), 0)),
+        of("step, full, at rest", STEP, quiet(cells::full().finding_nothing())),
+        of("step, full, busy", STEP, busy(cells::full(), 300)),
+        of("step, chain, at rest", STEP, quiet(cells::chain())),
+        of("step, chain, busy", STEP, busy(cells::chain(), 0)),
+        of("check, typical", None, check(cells::typical())),
+        of("check, full", None, check(cells::full())),
+        of("idle, typical", None, idle(cells::typical())),
+        of("idle, full", None, idle(cells::full())),
+        of("load, worked example", None, load(cells::worked())),
+        of("load, typical", None, load(cells::typical())),
+        of("load, longest", None, load(cells::longest())),
+        of("list, typical", LIST, list(cells::typical())),
+        of("list, full", LIST, list(cells::full())),
+        of("list, chain", LIST, list(cells::chain())),
+        of("list, longest", LIST, list(cells::longest())),
+        of("walk, typical", WALK, whole(cells::typical())),
+        of("walk, full", WALK, whole(cells::full())),
+        of("a copy of the cell", None, Job::Copy { cell: boxed(&cells::full()) }),
+    ]
+}
+
+/// Steps that change nothing, against the number of places and against the number of agents in use, four actions an agent; each is named by
+/// its line of CSV.
+pub fn sweep() -> Vec<Workload> {
+    let places = (0..=63).step_by(3).map(|places| ("places", places, 8));
+    let agents = (0..=64).step_by(4).map(|agents| ("agents", 12, agents));
+    let sized = |(series, places, agents)| {
+        let sketch = cells::random(&mut Random(11), places, agents, 4, 4, 8).finding_nothing();
+        Workload { name: format!("{series},{places},{agents}"), goal: None, job: quiet(sketch) }
+    };
+    places.chain(agents).map(sized).collect()
+}

@@ -1,0 +1,46 @@
+//! The calls of a keeper, and the proved keeper behind its C exports.
+
+use crate::cell::Cell;
+
+/// A keeper: bits 0 to 7 of an answer are 0 or the refusal's number, what else there is to say stands above them.
+pub trait Keeper {
+    fn bare(cell: &mut Cell) -> u64;
+    fn load(cell: &mut Cell, file: &[u8]) -> u64;
+    fn step(cell: &mut Cell, agent: u8, wish: u8) -> u64;
+    fn list(cell: &Cell, text: &mut [u8]) -> u64;
+    fn check(cell: &Cell) -> u64;
+    fn idle(cell: &Cell) -> u64;
+}
+
+extern "C" {
+    fn keeper_bare(cell: *mut Cell) -> u64;
+    fn keeper_load(cell: *mut Cell, file: *const u8, len: usize) -> u64;
+    fn keeper_step(cell: *mut Cell, agent: u8, wish: u8) -> u64;
+    fn keeper_list(cell: *const Cell, text: *mut u8, room: usize) -> u64;
+    fn keeper_check(cell: *const Cell) -> u64;
+    fn keeper_idle(cell: *const Cell) -> u64;
+}
+
+/// The proved keeper, as libkeeper.a exports it.
+pub struct Proved;
+
+impl Keeper for Proved {
+    fn bare(cell: &mut Cell) -> u64 {
+        unsafe { keeper_bare(cell) }
+    }
+    fn load(cell: &mut Cell, file: &[u8]) -> u64 {
+        unsafe { keeper_load(cell, file.as_ptr(), file.len()) }
+    }
+    fn step(cell: &mut Cell, agent: u8, wish: u8) -> u64 {
+        unsafe { keeper_step(cell, agent, wish) }
+    }
+    fn list(cell: &Cell, text: &mut [u8]) -> u64 {
+        unsafe { keeper_list(cell, text.as_mut_ptr(), text.len()) }
+    }
+    fn check(cell: &Cell) -> u64 {
+        unsafe { keeper_check(cell) }
+    }
+    fn idle(cell: &Cell) -> u64 {
+        unsafe { keeper_idle(cell) }
+    }
+}

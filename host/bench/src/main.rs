@@ -1,0 +1,105 @@
+//! What a call of the proved keeper costs beside a plain Rust keeper with the same tests, in one process.
+//!
+//! `bench [--quick] [NAME]` prints the table, of the workloads whose names contain NAME. `--sweep` prints the cost of a step against the
+//! size of the cell, as CSV. `--words` prints what the step calls answer. `--count` makes one lap of each for the script `instructions`.
+
+mod cell;
+mod cells;
+mod compare;
+mod jobs;
+mod keeper;
+mod measure;
+mod peer;
+mod walk;
+
+use jobs::{sweep, workloads, Job, Room, Workload};
+use keeper::{Keeper, Proved};
+use measure::{measure, Pace};
+use peer::Peer;
+
+fn main() {
+    let (options, names): (Vec<String>, Vec<String>) = std::env::args().skip(1).partition(|word| word.starts_with("--"));
+    let option = |name: &str| options.iter().any(|word| word == name);
+    let pace = if option("--quick") { Pace::QUICK } else { Pace::CAREFUL };
+    let mut workloads = if option("--sweep") { sweep() } else { workloads() };
+    workloads.retain(|workload| names.iter().all(|name| workload.name.contains(name.as_str())));
+    if option("--count") {
+        return count(&workloads);
+    }
+    match compare::compare(&workloads, pace.random_cells) {
+        Ok(calls) => eprintln!("the peer and the keeper agree on {calls} calls"),
+        Err(what) => {
+            eprintln!("the peer and the keeper differ: {what}");
+            std::process::exit(1);
+        }
+    }
+    if option("--words") {
+        words(&workloads);
+    } else if option("--sweep") {
+        csv(&workloads, &pace);
+    } else {
+        table(&workloads, &pace);
+    }
+}
+
+/// The table: each workload with the time of a call.
+fn table(workloads: &[Workload], pace: &Pace) {
+    println!("{:<26}{:>12}{:>12}{:>8}{:>7}", "", "peer ns", "keeper ns", "ratio", "goal");
+    for workload in workloads {
+        let cost = measure(&workload.job, pace);
+        let goal = workload.goal.map_or(String::new(), |goal| format!("{goal:.1}"));
+        let above = if workload.goal.is_some_and(|goal| cost.ratio > goal) { "  above" } else { "" };
+        println!("{:<26}{:>12.1}{:>12.1}{:>8.2}{goal:>7}{above}", workload.name, cost.peer, cost.keeper, cost.ratio);
+    }
+}
+
+/// The sweep as CSV.
+fn csv(workloads: &[Workload], pace: &Pace) {
+    println!("series,places,agents,peer,keeper");
+    for workload in workloads {
+        let cost = measure(&workload.job, pace);
+        println!("{},{:.1},{:.1}", workload.name, cost.peer, cost.keeper);
+    }
+}
+
+/// How often each word is answered in a lap of the step workloads, and the places in use before and after.
+fn words(workloads: &[Workload]) {
+    const WORDS: [&str; 11] = ["looked", "took", "held", "back", "slept", "left", "came", "opened", "", "asleep", "done"];
+    for workload in workloads {
+        let Job::Step { start, order } = &workload.job else { continue };
+        let mut cell = **start;
+        let (mut counts, mut refused) = ([0; 11], 0);
+        for &(agent, wish) in order {
+            let answer = Peer::step(&mut cell, agent, wish);
+            if answer & 255 == 0 {
+                counts[(answer >> 8 & 255) as usize] += 1;
+            } else {
+                refused += 1;
+            }
+        }
+        let said: Vec<String> = WORDS.iter().zip(counts).filter(|(_, n)| *n > 0).map(|(word, n)| format!("{word} {n}")).collect();
+        let (before, after) = (start.used.count_ones() - 1, cell.used.count_ones() - 1);
+        println!("{}: {} calls, refused {refused}, {}; places {before} to {after}", workload.name, order.len(), said.join(", "));
+    }
+}
+
+/// One lap of each workload by each keeper, with a line that says which.
+fn count(workloads: &[Workload]) {
+    for workload in workloads {
+        for (side, lap) in [("peer", Job::lap::<Peer> as Lap), ("keeper", Job::lap::<Proved>)] {
+            let mut room = Room::new();
+            lap(&workload.job, &mut room);
+            measured_lap(lap, &workload.job, &mut room);
+            println!("{}\t{side}\t{}", workload.name, workload.job.calls());
+        }
+    }
+}
+
+type Lap = fn(&Job, &mut Room) -> u64;
+
+/// What the script `instructions` counts; it finds the function by its name.
+#[no_mangle]
+#[inline(never)]
+fn measured_lap(lap: Lap, job: &Job, room: &mut Room) -> u64 {
+    std::hint::black_box(lap(job, room))
+}

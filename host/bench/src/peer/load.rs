@@ -1,0 +1,90 @@
+//! The cell of a cell file: one record after another, from a bare floor.
+
+use crate::cell::{has, Action, Cell, Place};
+
+/// A refused file: the number and the byte offset.
+pub struct Refused {
+    pub number: u8,
+    pub offset: usize,
+}
+
+/// A record taken apart.
+enum Record {
+    Place { number: u8, parent: u8, name: u16 },
+    Agent { number: u8, home: u8 },
+    Action { agent: u8, action: Action },
+    End,
+}
+
+/// The cell of a whole file, or the first refusal.
+pub fn load(file: &[u8]) -> Result<Cell, Refused> {
+    let mut cell = Cell::BARE;
+    let mut at = 0;
+    while at < file.len() {
+        let record = record(&cell, &file[at..]).map_err(|number| Refused { number, offset: at })?;
+        match record {
+            Record::Place { number, parent, name } => {
+                cell.places[number as usize] = Place { name, parent, way: 0 };
+                cell.used |= 1 << number;
+                at += 5;
+            }
+            Record::Agent { number, home } => {
+                cell.agents[number as usize].home = home;
+                cell.given |= 1 << number;
+                at += 3;
+            }
+            Record::Action { agent, action } => {
+                let agent = &mut cell.agents[agent as usize];
+                agent.actions[agent.count as usize] = action;
+                agent.count += 1;
+                agent.stage = 0;
+                at += 5;
+            }
+            Record::End if at + 1 < file.len() => return Err(Refused { number: 9, offset: at + 1 }),
+            Record::End => return Ok(cell),
+        }
+    }
+    Err(Refused { number: 1, offset: file.len() })
+}
+
+/// The record at the start of the bytes, or the number of its refusal.
+fn record(cell: &Cell, bytes: &[u8]) -> Result<Record, u8> {
+    match *bytes {
+        [1, number, parent, low, high, ..] => place(cell, number, parent, u16::from_le_bytes([low, high])),
+        [2, number, home, ..] => agent(cell, number, home),
+        [3, agent, kind, low, high, ..] => action(cell, agent, Action { kind, name: u16::from_le_bytes([low, high]) }),
+        [4, ..] => Ok(Record::End),
+        [1..=3, ..] => Err(1),
+        _ => Err(2),
+    }
+}
+
+fn place(cell: &Cell, number: u8, parent: u8, name: u16) -> Result<Record, u8> {
+    match () {
+        _ if number == 0 || number > 63 || parent > 63 => Err(3),
+        _ if has(cell.used, number) => Err(4),
+        _ if !has(cell.used, parent) => Err(5),
+        _ if name == 0 => Err(6),
+        _ => Ok(Record::Place { number, parent, name }),
+    }
+}
+
+fn agent(cell: &Cell, number: u8, home: u8) -> Result<Record, u8> {
+    match () {
+        _ if number > 63 || home > 63 => Err(3),
+        _ if has(cell.given, number) => Err(4),
+        _ if !has(cell.used, home) => Err(5),
+        _ => Ok(Record::Agent { number, home }),
+    }
+}
+
+fn action(cell: &Cell, agent: u8, action: Action) -> Result<Record, u8> {
+    match () {
+        _ if agent > 63 => Err(3),
+        _ if !has(cell.given, agent) => Err(5),
+        _ if !matches!(action.kind, 1..=3) => Err(7),
+        _ if action.name == 0 => Err(6),
+        _ if cell.agents[agent as usize].count >= 16 => Err(8),
+        _ => Ok(Record::Action { agent, action }),
+    }
+}

@@ -1,0 +1,83 @@
+//! The peer: a plain Rust keeper with the same calls, the same tests at every call, and the same answers.
+//!
+//! The cell is changed in place. Nothing is remembered between calls, so every call tests soundness in full, as the proved keeper does.
+//! The calls are not inlined into the loops that measure them, as those of the library are not.
+
+mod list;
+mod load;
+mod sound;
+mod step;
+
+use crate::cell::{has, members, Cell};
+use crate::keeper::Keeper;
+use sound::sound;
+
+/// Refusal: unsound table.
+const UNSOUND: u64 = 10;
+/// Refusal: no such agent.
+const NO_SUCH_AGENT: u64 = 11;
+/// Refusal: listing longer than the buffer.
+const TOO_LONG: u64 = 12;
+
+/// The plain Rust keeper.
+pub struct Peer;
+
+impl Keeper for Peer {
+    #[inline(never)]
+    fn bare(cell: &mut Cell) -> u64 {
+        *cell = Cell::BARE;
+        0
+    }
+
+    #[inline(never)]
+    fn load(cell: &mut Cell, file: &[u8]) -> u64 {
+        match load::load(file) {
+            Ok(loaded) => {
+                *cell = loaded;
+                0
+            }
+            Err(refused) => (refused.offset as u64) << 8 | refused.number as u64,
+        }
+    }
+
+    #[inline(never)]
+    fn step(cell: &mut Cell, agent: u8, wish: u8) -> u64 {
+        if !sound(cell) {
+            return UNSOUND;
+        }
+        if !has(cell.given, agent) {
+            return NO_SUCH_AGENT;
+        }
+        let (word, woken) = step::step(cell, agent, wish);
+        (woken as u64) << 16 | (word as u64) << 8
+    }
+
+    #[inline(never)]
+    fn list(cell: &Cell, text: &mut [u8]) -> u64 {
+        if !sound(cell) {
+            return UNSOUND;
+        }
+        match list::list(cell, text) {
+            Some(length) => (length as u64) << 8,
+            None => TOO_LONG,
+        }
+    }
+
+    #[inline(never)]
+    fn check(cell: &Cell) -> u64 {
+        if sound(cell) {
+            0
+        } else {
+            UNSOUND
+        }
+    }
+
+    #[inline(never)]
+    fn idle(cell: &Cell) -> u64 {
+        if !sound(cell) {
+            return UNSOUND;
+        }
+        let at_rest = members(cell.given).all(|x| cell.agents[x as usize].stage >= 7);
+        (at_rest as u64) << 8
+    }
+}

@@ -1,0 +1,237 @@
+//! One lock step of an agent, in place, on a table that is sound.
+
+use super::sound::{linked, linked_to};
+use crate::cell::{has, members, Action, Agent, Cell, Place, NONE};
+
+/// The word of an answer, with its number.
+#[derive(Clone, Copy)]
+pub enum Word {
+    Looked = 0,
+    Took = 1,
+    Held = 2,
+    Back = 3,
+    Slept = 4,
+    Left = 5,
+    Came = 6,
+    Opened = 7,
+    Asleep = 9,
+    Done = 10,
+}
+
+/// A word and the number of agents woken.
+type Answer = (Word, u32);
+
+const ENTER: u8 = 1;
+const EXIT: u8 = 2;
+const OPEN: u8 = 3;
+
+impl Agent {
+    /// Sets the stage with the remembered and the chosen place, 0 where there is none.
+    fn stand(&mut self, stage: u8, remembered: u8, chosen: u8) {
+        (self.stage, self.remembered, self.chosen) = (stage, remembered, chosen);
+    }
+
+    /// Looks for the next action, or is done.
+    fn rest(&mut self) {
+        self.stand(if self.next < self.count { 0 } else { 8 }, 0, 0);
+    }
+
+    fn asleep_on(&self, place: u8) -> bool {
+        self.stage == 7 && self.remembered == place
+    }
+}
+
+/// The agent's stage decides the step.
+pub fn step(cell: &mut Cell, x: u8, wish: u8) -> Answer {
+    match cell.agents[x as usize].stage {
+        0 => look(cell, x),
+        1 => {
+            let p = cell.agents[x as usize].remembered;
+            take(cell, x, p, (2, p, 0))
+        }
+        2 => hold(cell, x, wish),
+        3 => act(cell, x),
+        4 => {
+            let home = cell.agents[x as usize].home;
+            take(cell, x, home, (5, 0, 0))
+        }
+        5 => {
+            let destination = cell.places[cell.agents[x as usize].home as usize].parent;
+            take(cell, x, destination, (6, 0, 0))
+        }
+        6 => arrive(cell, x),
+        7 => (Word::Asleep, 0),
+        _ => (Word::Done, 0),
+    }
+}
+
+/// The next action; a sound table has one at stages 0 to 3.
+fn next_action(agent: &Agent) -> Action {
+    agent.actions[agent.next as usize]
+}
+
+/// Locks q for agent x, which then stands at a stage with its remembered and chosen place; or held.
+fn take(cell: &mut Cell, x: u8, q: u8, (stage, remembered, chosen): (u8, u8, u8)) -> Answer {
+    let lock = &mut cell.locks[q as usize];
+    if *lock != NONE {
+        return (Word::Held, 0);
+    }
+    *lock = x;
+    cell.agents[x as usize].stand(stage, remembered, chosen);
+    (Word::Took, 0)
+}
+
+fn release(cell: &mut Cell, q: u8) {
+    cell.locks[q as usize] = NONE;
+}
+
+/// Wakes the given agents that satisfy a test, and counts them.
+fn wake(cell: &mut Cell, sleeps: impl Fn(&Agent) -> bool) -> u32 {
+    let mut woken = 0;
+    for y in members(cell.given) {
+        let agent = &mut cell.agents[y as usize];
+        if sleeps(agent) {
+            agent.stand(0, 0, 0);
+            woken += 1;
+        }
+    }
+    woken
+}
+
+fn look(cell: &mut Cell, x: u8) -> Answer {
+    let agent = &mut cell.agents[x as usize];
+    let (home, place) = (agent.home, &cell.places[agent.home as usize]);
+    if next_action(agent).kind == OPEN {
+        agent.stand(1, home, 0);
+        (Word::Looked, 0)
+    } else if place.way == 0 {
+        agent.stand(1, place.parent, 0);
+        (Word::Looked, 0)
+    } else {
+        agent.stand(7, home, 0);
+        (Word::Slept, 0)
+    }
+}
+
+/// Whether an action of an agent that lives in home and holds p fires on q; exit fires on p itself.
+fn fires(cell: &Cell, action: Action, home: u8, p: u8, q: u8) -> bool {
+    let named = has(cell.used, q) && cell.places[q as usize].name == action.name;
+    named
+        && match action.kind {
+            ENTER => q != home && linked_to(cell, q, p),
+            EXIT => q == p && linked(cell, p),
+            _ => linked_to(cell, q, p) && !awaited(cell, q),
+        }
+}
+
+/// Whether something is on its way to q.
+fn awaited(cell: &Cell, q: u8) -> bool {
+    members(cell.used & !1).any(|r| cell.places[r as usize].way != 0 && cell.places[r as usize].parent == q)
+}
+
+/// The wished place if the action fires on it, else the lowest number on which it does.
+fn choose(cell: &Cell, action: Action, home: u8, p: u8, wish: u8) -> Option<u8> {
+    let fits = |q: u8| fires(cell, action, home, p, q);
+    if action.kind == EXIT {
+        fits(p).then_some(p)
+    } else if fits(wish) {
+        Some(wish)
+    } else {
+        members(cell.used).find(|&q| fits(q))
+    }
+}
+
+fn hold(cell: &mut Cell, x: u8, wish: u8) -> Answer {
+    let agent = &cell.agents[x as usize];
+    let (home, p, action) = (agent.home, agent.remembered, next_action(agent));
+    if action.kind != OPEN && !linked_to(cell, home, p) {
+        release(cell, p);
+        cell.agents[x as usize].stand(0, 0, 0);
+        return (Word::Back, 0);
+    }
+    match choose(cell, action, home, p, wish) {
+        None => {
+            release(cell, p);
+            cell.agents[x as usize].stand(7, p, 0);
+            (Word::Slept, 0)
+        }
+        Some(q) => match action.kind {
+            ENTER => take(cell, x, home, (3, p, q)),
+            EXIT => take(cell, x, home, (3, p, 0)),
+            _ => take(cell, x, q, (3, p, q)),
+        },
+    }
+}
+
+fn act(cell: &mut Cell, x: u8) -> Answer {
+    let agent = &cell.agents[x as usize];
+    let (home, p, chosen, action) = (agent.home, agent.remembered, agent.chosen, next_action(agent));
+    if !fires(cell, action, home, p, if action.kind == EXIT { p } else { chosen }) {
+        release(cell, p);
+        release(cell, if action.kind == OPEN { chosen } else { home });
+        cell.agents[x as usize].stand(0, 0, 0);
+        return (Word::Back, 0);
+    }
+    match action.kind {
+        ENTER => leave(cell, x, p, chosen),
+        EXIT => leave(cell, x, p, cell.places[p as usize].parent),
+        _ => open(cell, x, p, chosen),
+    }
+}
+
+fn leave(cell: &mut Cell, x: u8, p: u8, destination: u8) -> Answer {
+    let home = cell.agents[x as usize].home;
+    let place = &mut cell.places[home as usize];
+    (place.parent, place.way) = (destination, 1);
+    release(cell, p);
+    release(cell, home);
+    let woken = wake(cell, |agent| agent.asleep_on(p) || agent.asleep_on(home));
+    let agent = &mut cell.agents[x as usize];
+    agent.next += 1;
+    agent.stand(4, 0, 0);
+    (Word::Left, woken)
+}
+
+/// Dissolves place t into p.
+fn open(cell: &mut Cell, x: u8, p: u8, t: u8) -> Answer {
+    for lock in &mut cell.locks {
+        if cell.agents.get(*lock as usize).is_some_and(|agent| agent.home == t && agent.stage == 2) {
+            *lock = NONE;
+        }
+    }
+    release(cell, p);
+    release(cell, t);
+    let woken = wake(cell, |agent| agent.asleep_on(p) || agent.asleep_on(t) || agent.stage == 7 && agent.home == t);
+    for y in members(cell.given) {
+        let agent = &mut cell.agents[y as usize];
+        if agent.home == t {
+            agent.home = p;
+            agent.stand(if agent.stage == 8 { 8 } else { 0 }, 0, 0);
+        } else if agent.stage == 1 && agent.remembered == t {
+            agent.stand(0, 0, 0);
+        }
+    }
+    for place in &mut cell.places {
+        if place.parent == t {
+            place.parent = p;
+        }
+    }
+    cell.places[t as usize] = Place { name: 0, parent: 0, way: 0 };
+    cell.used &= !(1 << t);
+    let agent = &mut cell.agents[x as usize];
+    agent.next += 1;
+    agent.rest();
+    (Word::Opened, woken)
+}
+
+fn arrive(cell: &mut Cell, x: u8) -> Answer {
+    let home = cell.agents[x as usize].home;
+    let destination = cell.places[home as usize].parent;
+    let beyond = if linked(cell, destination) { cell.places[destination as usize].parent } else { destination };
+    cell.places[home as usize].way = 0;
+    release(cell, home);
+    release(cell, destination);
+    let woken = wake(cell, |agent| agent.asleep_on(home) || agent.asleep_on(destination) || agent.asleep_on(beyond));
+    cell.agents[x as usize].rest();
+    (Word::Came, woken)
+}

@@ -1,0 +1,161 @@
+/* Each call of keeper.h: what it answers, and that a refusal changes nothing. */
+#include "../keeper.h"
+
+#include <stdio.h>
+#include <stdlib.h>
+#include <string.h>
+
+static int tests;
+
+/* Ends the program where something does not hold. */
+#define HOLDS(test) holds((test) ? 1 : 0, #test, __LINE__)
+
+static void holds(int test, const char *text, int line)
+{
+    tests++;
+    if (!test) {
+        fprintf(stderr, "calls.c:%d: %s does not hold\n", line, text);
+        exit(1);
+    }
+}
+
+/* The paper's cell, `7[enter 9] | 9[exit 7]`. */
+static const uint8_t example[27] = {1, 1, 0, 7, 0, 1, 2, 0, 9, 0, 2, 0, 1, 3, 0, 1, 9, 0, 2, 1, 2, 3, 1, 2, 7, 0, 4};
+
+/* A copy of these bytes in memory of exactly their size, so that a sanitizer sees a byte too many. */
+static uint8_t *exactly(const void *bytes, size_t length)
+{
+    uint8_t *copy = malloc(length == 0 ? 1 : length);
+
+    if (copy == NULL)
+        exit(1);
+    memcpy(copy, bytes, length);
+    return copy;
+}
+
+/* The answer to a file that must be refused, after which the cell must be as it was. */
+static uint64_t refused(keeper_cell *cell, const uint8_t *bytes, size_t length)
+{
+    keeper_cell *before = (keeper_cell *)(void *)exactly(cell, sizeof *cell);
+    uint8_t *file = exactly(bytes, length);
+    uint64_t answer = keeper_load(cell, file, length);
+
+    HOLDS(keeper_refusal(answer) != 0);
+    HOLDS(memcmp(cell, before, sizeof *cell) == 0);
+    HOLDS(memcmp(file, bytes, length) == 0);
+    free(before);
+    free(file);
+    return answer;
+}
+
+static void loads(keeper_cell *cell)
+{
+    static const uint8_t after_the_end[2] = {4, 4};
+    static const uint8_t no_parent[6] = {1, 5, 5, 7, 0, 4};
+    static const uint8_t too_large[6] = {1, 64, 0, 7, 0, 4};
+    static const uint8_t largest[6] = {1, 63, 0, 7, 0, 4};
+    uint64_t answer;
+
+    HOLDS(keeper_load(cell, example, sizeof example) == 0);
+    answer = refused(cell, example, 0);
+    HOLDS(keeper_refusal(answer) == KEEPER_CUT_SHORT && keeper_offset(answer) == 0);
+    answer = refused(cell, example, 5);
+    HOLDS(keeper_refusal(answer) == KEEPER_CUT_SHORT && keeper_offset(answer) == 5);
+    answer = refused(cell, example + 1, 3);
+    HOLDS(keeper_refusal(answer) == KEEPER_CUT_SHORT && keeper_offset(answer) == 0);
+    answer = refused(cell, after_the_end, 2);
+    HOLDS(keeper_refusal(answer) == KEEPER_AFTER_THE_END && keeper_offset(answer) == 1);
+    answer = refused(cell, no_parent, 6);
+    HOLDS(keeper_refusal(answer) == KEEPER_NOT_YET_GIVEN && keeper_offset(answer) == 0);
+    answer = refused(cell, too_large, 6);
+    HOLDS(keeper_refusal(answer) == KEEPER_TOO_LARGE && keeper_offset(answer) == 0);
+    HOLDS(keeper_load(cell, largest, 6) == 0);
+    HOLDS(cell->places[63].name == 7 && cell->places[63].parent == 0 && cell->places[63].way == 0);
+    HOLDS(cell->used == (1 | (uint64_t)1 << 63) && cell->given == 0 && cell->locks[63] == KEEPER_FREE);
+}
+
+static void steps(keeper_cell *cell)
+{
+    static const uint8_t agents[13] = {0, 1, 0, 1, 0, 0, 1, 1, 0, 0, 0, 0, 1};
+    static const char *const words[13] = {"looked", "looked", "took", "held", "took", "left", "took",
+                                          "slept",  "took",   "took", "came", "done", "looked"};
+    keeper_cell before;
+
+    HOLDS(keeper_load(cell, example, sizeof example) == 0);
+    for (int at = 0; at < 13; at++) {
+        uint64_t answer = keeper_step(cell, agents[at], 255);
+        HOLDS(keeper_refusal(answer) == 0);
+        HOLDS(strcmp(keeper_word_name(keeper_word(answer)), words[at]) == 0);
+        HOLDS(keeper_woken(answer) == (keeper_word(answer) == KEEPER_CAME ? 1 : 0));
+        HOLDS(keeper_check(cell) == 0);
+        HOLDS(keeper_idle(cell) == 0);
+    }
+    memcpy(&before, cell, sizeof before);
+    HOLDS(keeper_step(cell, 2, 0) == KEEPER_NO_SUCH_AGENT);
+    HOLDS(keeper_step(cell, 64, 0) == KEEPER_NO_SUCH_AGENT);
+    HOLDS(keeper_step(cell, 255, 0) == KEEPER_NO_SUCH_AGENT);
+    HOLDS(memcmp(cell, &before, sizeof before) == 0);
+}
+
+static void listings(keeper_cell *cell)
+{
+    static const char listing[22] = {'7', '[', 'e', 'n', 't', 'e', 'r', ' ', '9', ']', ' ',
+                                     '|', ' ', '9', '[', 'e', 'x', 'i', 't', ' ', '7', ']'};
+
+    HOLDS(keeper_load(cell, example, sizeof example) == 0);
+    for (size_t room = 0; room < 40; room++) {
+        uint8_t dots[40];
+        uint8_t *text;
+        uint64_t answer;
+        size_t length = room < 22 ? 0 : 22;
+
+        memset(dots, '.', sizeof dots);
+        text = exactly(dots, room);
+        answer = keeper_list(cell, text, room);
+        HOLDS(keeper_refusal(answer) == (room < 22 ? KEEPER_LISTING_TOO_LONG : 0));
+        HOLDS(keeper_length(answer) == length);
+        HOLDS(memcmp(text, listing, length) == 0);
+        HOLDS(memcmp(text + length, dots, room - length) == 0);
+        free(text);
+    }
+}
+
+static void unsound(keeper_cell *cell)
+{
+    keeper_cell before;
+    uint8_t text[2] = {1, 2};
+
+    memset(cell, 0xFF, sizeof *cell);
+    memcpy(&before, cell, sizeof before);
+    HOLDS(keeper_check(cell) == KEEPER_UNSOUND);
+    HOLDS(keeper_idle(cell) == KEEPER_UNSOUND);
+    HOLDS(keeper_step(cell, 64, 0) == KEEPER_UNSOUND);
+    HOLDS(keeper_list(cell, text, 0) == KEEPER_UNSOUND && keeper_list(cell, text, 2) == KEEPER_UNSOUND);
+    HOLDS(memcmp(cell, &before, sizeof before) == 0 && text[0] == 1 && text[1] == 2);
+    HOLDS(keeper_bare(cell) == 0 && keeper_check(cell) == 0);
+    HOLDS(keeper_all_rest(keeper_idle(cell)) == 1);
+    HOLDS(keeper_length(keeper_list(cell, text, 1)) == 1 && text[0] == '0' && text[1] == 2);
+}
+
+static void texts(void)
+{
+    HOLDS(strcmp(keeper_refusal_text(KEEPER_NO_SUCH_AGENT), "no such agent") == 0);
+    for (unsigned refusal = 1; refusal <= 12; refusal++)
+        HOLDS(strcmp(keeper_refusal_text(refusal), "unknown") != 0);
+    HOLDS(strcmp(keeper_refusal_text(13), "unknown") == 0);
+    HOLDS(strcmp(keeper_word_name(8), "unknown") == 0);
+}
+
+int main(void)
+{
+    static keeper_cell cell;
+
+    HOLDS(keeper_bare(&cell) == 0);
+    loads(&cell);
+    steps(&cell);
+    listings(&cell);
+    unsound(&cell);
+    texts();
+    printf("%d passed, 0 failed\n", tests);
+    return 0;
+}

@@ -1,0 +1,115 @@
+/*
+** How much stack the calls use: each runs in a thread whose stack was filled with a pattern, and what has lost it below the caller was
+** used. The cells are full: all places in each other or side by side, all agents with sixteen actions; all agents step, many times.
+*/
+#define _POSIX_C_SOURCE 200809L
+#include "../keeper.h"
+
+#include <pthread.h>
+#include <stdio.h>
+#include <stdlib.h>
+#include <string.h>
+
+#define ROOM (1024 * 1024)
+#define PATTERN 0xA5
+
+static keeper_cell cell;
+static uint8_t file[KEEPER_FILE_LONGEST];
+static size_t file_length;
+static uint8_t text[KEEPER_LISTING_LONGEST];
+static uint8_t agent;
+
+static void bare(void) { keeper_bare(&cell); }
+static void load(void) { keeper_load(&cell, file, file_length); }
+static void step(void) { keeper_step(&cell, agent, 255); }
+static void list(void) { keeper_list(&cell, text, sizeof text); }
+static void check(void) { keeper_check(&cell); }
+static void idle(void) { keeper_idle(&cell); }
+
+/* A call to measure, the stack that it runs on, and what it used. */
+typedef struct measured {
+    void (*call)(void);
+    const uint8_t *stack;
+    size_t used;
+} measured;
+
+/* In the thread: makes the call, and finds the lowest byte of the stack that has lost the pattern. */
+static void *run(void *lent)
+{
+    measured *here = lent;
+    const uint8_t *top = (const uint8_t *)&here;
+    const uint8_t *lowest = here->stack;
+
+    here->call();
+    while (lowest < top && *lowest == PATTERN)
+        lowest++;
+    here->used = (size_t)(top - lowest);
+    return NULL;
+}
+
+/* Raises `most` to the bytes of stack that the call uses. */
+static void measure(void (*call)(void), size_t *most)
+{
+    static void *stack;
+    measured here = {call, NULL, 0};
+    pthread_attr_t attributes;
+    pthread_t thread;
+
+    if (stack == NULL && posix_memalign(&stack, 4096, ROOM) != 0)
+        exit(1);
+    memset(stack, PATTERN, ROOM);
+    here.stack = stack;
+    if (pthread_attr_init(&attributes) != 0 || pthread_attr_setstack(&attributes, stack, ROOM) != 0)
+        exit(1);
+    if (pthread_create(&thread, &attributes, run, &here) != 0 || pthread_join(thread, NULL) != 0)
+        exit(1);
+    pthread_attr_destroy(&attributes);
+    *most = here.used > *most ? here.used : *most;
+}
+
+static void record(const uint8_t *bytes, size_t length)
+{
+    memcpy(file + file_length, bytes, length);
+    file_length += length;
+}
+
+/* A full cell: places in each other or side by side, an agent in each, with sixteen actions of this kind. */
+static void make_file(int nested, uint8_t kind)
+{
+    file_length = 0;
+    for (uint8_t place = 1; place < 64; place++)
+        record((uint8_t[]){1, place, (uint8_t)(nested ? place - 1 : 0), 255, 255}, 5);
+    for (uint8_t number = 0; number < 64; number++) {
+        record((uint8_t[]){2, number, number}, 3);
+        for (int action = 0; action < 16; action++)
+            record((uint8_t[]){3, number, kind, 255, 255}, 5);
+    }
+    record((uint8_t[]){4}, 1);
+}
+
+int main(void)
+{
+    size_t used[6] = {0, 0, 0, 0, 0, 0};
+    void (*const calls[6])(void) = {bare, load, check, idle, list, step};
+    const char *const names[6] = {"bare", "load", "check", "idle", "list", "step"};
+    size_t most = 0;
+
+    for (uint8_t kind = 1; kind <= 3; kind++) {
+        for (int nested = 0; nested < 2; nested++) {
+            make_file(nested, kind);
+            measure(bare, &used[0]);
+            for (int call = 1; call < 5; call++)
+                measure(calls[call], &used[call]);
+            for (int turn = 0; turn < 8 * 64; turn++) {
+                agent = (uint8_t)(turn / 8);
+                measure(step, &used[5]);
+            }
+        }
+    }
+    for (int call = 0; call < 6; call++) {
+        printf("stack used by keeper_%s: %zu bytes\n", names[call], used[call]);
+        most = used[call] > most ? used[call] : most;
+    }
+    printf("stack used: %zu bytes, promised: at most %d\n", most, KEEPER_STACK);
+    return most <= KEEPER_STACK ? 0 : 1;
+}

@@ -1,0 +1,44 @@
+#!/bin/sh
+# Runs the example host, with and without sanitizers, on the worked example and on absent, refused and odd files; then the other tests.
+set -eu
+folder=$(mktemp -d)
+trap 'rm -rf "$folder"' EXIT
+passed=0
+
+# case_of NAME CELL ORDER EXPECTED: the files as printf writes them ('-' for an absent file), and what must be printed.
+case_of() {
+    rm -f "$folder/cell" "$folder/order"
+    [ "$2" = - ] || printf "$2" > "$folder/cell"
+    [ "$3" = - ] || printf "$3" > "$folder/order"
+    printf "$4" > "$folder/expected"
+    for program in target/walk target/walk-sanitized; do
+        "$program" "$folder/cell" "$folder/order" > "$folder/printed"
+        if ! cmp -s "$folder/expected" "$folder/printed"; then
+            echo "$1: $program printed"
+            cat "$folder/printed"
+            exit 1
+        fi
+        passed=$((passed + 1))
+    done
+}
+
+cell='\001\001\000\007\000\001\002\000\011\000\002\000\001\003\000\001\011\000\002\001\002\003\001\002\007\000\004'
+order='\000\377\001\377\000\377\001\377\000\377\000\377\001\377\001\377\000\377\000\377\000\377\000\377\001\377'
+lines='0 looked 0\n1 looked 0\n0 took 0\n1 held 0\n0 took 0\n0 left 0\n1 took 0\n1 slept 0\n0 took 0\n0 took 0\n0 came 1\n0 done 0\n1 looked 0\n'
+
+case_of 'worked example' "$cell" "$order" "start 7[enter 9] | 9[exit 7]\n${lines}end 9[exit 7 | 7[]]\n"
+case_of 'odd last byte' "$cell" "$order"'\000' "start 7[enter 9] | 9[exit 7]\n${lines}end 9[exit 7 | 7[]]\n"
+case_of 'no such agent' "$cell" '\100\000\002\000' 'start 7[enter 9] | 9[exit 7]\n64 refused 11\n2 refused 11\nend 7[enter 9] | 9[exit 7]\n'
+case_of 'absent order' '\004' - 'start 0\nend 0\n'
+case_of 'absent cell' - "$order" 'refused 1 0\n'
+case_of 'empty cell' '' "$order" 'refused 1 0\n'
+case_of 'after the end' '\004\004' "$order" 'refused 9 1\n'
+case_of 'no end' '\001\001\000\007\000' "$order" 'refused 1 5\n'
+
+for program in calls calls-sanitized header; do
+    printf '%s: ' "$program"
+    "target/$program"
+    passed=$((passed + 1))
+done
+target/stack
+echo "$((passed + 1)) passed, 0 failed"

@@ -1,0 +1,68 @@
+/*
+** A host: reads a cell file and an order of pairs agent, wish, steps through it, and prints what each step did.
+**
+**     walk [CELL [ORDER]]
+**
+** The files are `cell` and `order` unless named. An absent file reads as empty; an odd last byte and pairs past the limit are passed over.
+*/
+#include "../keeper.h"
+
+#include <stdio.h>
+
+/* How many pairs of an order are taken. */
+#define PAIRS 16384
+
+/* Reads the file's first bytes, up to `room`, and answers how many there were. */
+static size_t read_file(const char *name, uint8_t *bytes, size_t room)
+{
+    FILE *file = fopen(name, "rb");
+    size_t length;
+
+    if (file == NULL)
+        return 0;
+    length = fread(bytes, 1, room, file);
+    fclose(file);
+    return length;
+}
+
+/* Prints a line of a word and the listing. */
+static void print_listing(const char *word, const keeper_cell *cell)
+{
+    static uint8_t text[KEEPER_LISTING_LONGEST];
+    uint64_t answer = keeper_list(cell, text, sizeof text);
+
+    printf("%s %.*s\n", word, (int)keeper_length(answer), (const char *)text);
+}
+
+/* Makes the step and prints a line of the agent, the answer and the number woken. */
+static void print_step(keeper_cell *cell, uint8_t agent, uint8_t wish)
+{
+    uint64_t answer = keeper_step(cell, agent, wish);
+
+    if (keeper_refusal(answer) != 0)
+        printf("%d refused %u\n", agent, keeper_refusal(answer));
+    else
+        printf("%d %s %u\n", agent, keeper_word_name(keeper_word(answer)), keeper_woken(answer));
+}
+
+int main(int count, char **names)
+{
+    static keeper_cell cell;
+    static uint8_t file[KEEPER_FILE_DECIDING];
+    static uint8_t order[2 * PAIRS];
+    size_t file_length = read_file(count > 1 ? names[1] : "cell", file, sizeof file);
+    size_t order_length = read_file(count > 2 ? names[2] : "order", order, sizeof order);
+    uint64_t answer;
+
+    keeper_bare(&cell);
+    answer = keeper_load(&cell, file, file_length);
+    if (keeper_refusal(answer) != 0) {
+        printf("refused %u %zu\n", keeper_refusal(answer), keeper_offset(answer));
+        return 0;
+    }
+    print_listing("start", &cell);
+    for (size_t at = 0; at + 1 < order_length; at += 2)
+        print_step(&cell, order[at], order[at + 1]);
+    print_listing("end", &cell);
+    return 0;
+}

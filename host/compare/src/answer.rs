@@ -1,0 +1,66 @@
+//! The library's answers as keeper.h lays them out: what the model's answers are as numbers, and what a number says.
+
+use model::{Refused, Stepped, Word};
+
+/// The words with their numbers.
+const WORDS: [(Word, u64); 10] = [
+    (Word::Looked, 0),
+    (Word::Took, 1),
+    (Word::Held, 2),
+    (Word::Back, 3),
+    (Word::Slept, 4),
+    (Word::Left, 5),
+    (Word::Came, 6),
+    (Word::Opened, 7),
+    (Word::Asleep, 9),
+    (Word::Done, 10),
+];
+
+/// The answer of a load: 0, or the refusal's number and the offset above it.
+pub fn of_load(refused: Option<Refused>) -> u64 {
+    refused.map_or(0, |refused| refused.number as u64 | (refused.offset as u64) << 8)
+}
+
+/// The answer of a step: the refusal's number, or the word in bits 8 to 15 and the number woken in bits 16 to 23.
+pub fn of_step(stepped: Result<Stepped, u8>) -> u64 {
+    match stepped {
+        Err(number) => number as u64,
+        Ok(Stepped { word, woken }) => {
+            let number = WORDS.iter().find(|entry| entry.0 == word).expect("every word has a number").1;
+            number << 8 | (woken as u64) << 16
+        }
+    }
+}
+
+/// The answer of a listing, an idle call or a check: the refusal's number, or a value above it.
+pub fn of_value(value: Result<usize, u8>) -> u64 {
+    match value {
+        Err(number) => number as u64,
+        Ok(value) => (value as u64) << 8,
+    }
+}
+
+/// A step's answer in words.
+pub fn step_text(answer: u64) -> String {
+    match (answer & 255, WORDS.iter().find(|entry| entry.1 == (answer >> 8 & 255))) {
+        (0, Some((word, _))) if answer >> 24 == 0 => format!("{} {}", word.text(), answer >> 16),
+        _ => value_text(answer),
+    }
+}
+
+/// A load's answer in words.
+pub fn load_text(answer: u64) -> String {
+    match answer & 255 {
+        0 => value_text(answer),
+        number => format!("refused {number} at {}", answer >> 8),
+    }
+}
+
+/// Any other answer in words.
+pub fn value_text(answer: u64) -> String {
+    match (answer & 255, answer >> 8) {
+        (0, value) => format!("{value}"),
+        (number, 0) => format!("refused {number}"),
+        (number, above) => format!("refused {number} with {above} above it"),
+    }
+}

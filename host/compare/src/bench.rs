@@ -1,0 +1,124 @@
+//! Document 01's worked example and bench cases, and files that every byte is changed in.
+
+use crate::call::Call;
+use model::{file_of, walk};
+
+/// A case: the cell file, the agents that step, and what `walk` writes.
+pub struct Case {
+    pub file: Vec<u8>,
+    pub agents: Vec<u8>,
+    pub written: String,
+}
+
+impl Case {
+    /// The calls of the case.
+    pub fn calls(&self) -> Vec<Call> {
+        let steps = self.agents.iter().map(|&agent| Call::Step { agent, wish: 255 });
+        std::iter::once(Call::Load(self.file.clone())).chain(steps).collect()
+    }
+
+    /// The model writes what the paper says.
+    pub fn holds_of_the_model(&self) -> bool {
+        let order: Vec<u8> = self.agents.iter().flat_map(|&agent| [agent, 255]).collect();
+        walk(&self.file, &order) == self.written
+    }
+}
+
+/// A case whose file is refused with this number at this offset.
+fn refused(file: &[u8], number: u8, offset: usize) -> Case {
+    Case { file: file.to_vec(), agents: vec![], written: format!("refused {number} {offset}\n") }
+}
+
+/// A case of one agent that answers these words, with nobody to wake.
+fn alone(term: &str, words: &str, end: &str) -> Case {
+    let lines: String = words.split(' ').map(|word| format!("0 {word} 0\n")).collect();
+    let agents = vec![0; words.split(' ').count()];
+    Case { file: file_of(term), agents, written: format!("start {term}\n{lines}end {end}\n") }
+}
+
+/// The worked example and the bench cases.
+pub fn cases() -> Vec<Case> {
+    let example = "start 7[enter 9] | 9[exit 7]\n0 looked 0\n1 looked 0\n0 took 0\n1 held 0\n0 took 0\n0 left 0\n1 took 0\n1 slept 0\n\
+                   0 took 0\n0 took 0\n0 came 1\n0 done 0\n1 looked 0\nend 9[exit 7 | 7[]]\n";
+    let sixteen = [&[2, 0, 0][..], &[3, 0, 2, 9, 0].repeat(16), &[4]].concat();
+    let seventeen = [&[2, 0, 0][..], &[3, 0, 2, 9, 0].repeat(17), &[4]].concat();
+    let listed = ["exit 9"; 16].join(".");
+    vec![
+        Case {
+            file: vec![1, 1, 0, 7, 0, 1, 2, 0, 9, 0, 2, 0, 1, 3, 0, 1, 9, 0, 2, 1, 2, 3, 1, 2, 7, 0, 4],
+            agents: vec![0, 1, 0, 1, 0, 0, 1, 1, 0, 0, 0, 0, 1],
+            written: example.to_string(),
+        },
+        refused(&[], 1, 0),
+        Case { file: vec![4], agents: vec![], written: "start 0\nend 0\n".to_string() },
+        refused(&[4, 4], 9, 1),
+        refused(&[1, 1, 0, 7, 0], 1, 5),
+        refused(&[1, 5, 5, 7, 0, 4], 5, 0),
+        refused(&[1, 1, 0, 0, 0, 4], 6, 0),
+        refused(&[1, 0x40, 0, 7, 0, 4], 3, 0),
+        Case { file: vec![1, 0x3F, 0, 7, 0, 4], agents: vec![], written: "start 7[]\nend 7[]\n".to_string() },
+        alone("7[enter 7]", "looked took slept asleep", "7[enter 7]"),
+        alone("7[enter 7] | 7[]", "looked took took left took took came done", "7[7[]]"),
+        alone("9[exit 9]", "looked took slept asleep", "9[exit 9]"),
+        alone("9[7[exit 9]]", "looked took took left took took came done", "9[] | 7[]"),
+        alone("open 7 | 7[8[]]", "looked took took opened done", "8[]"),
+        Case { file: sixteen, agents: vec![0, 64], written: format!("start {listed}\n0 slept 0\n64 refused 11\nend {listed}\n") },
+        refused(&seventeen, 8, 83),
+    ]
+}
+
+/// Good files of which every single-byte change and every truncation is tried.
+pub fn small_files() -> Vec<Vec<u8>> {
+    let terms = [
+        "0",
+        "7[]",
+        "7[enter 9] | 9[exit 7]",
+        "open 1 | 1[2[3[exit 2]]]",
+        "open 1 | 2[1[exit 2 | enter 2]]",
+        "1[enter 1 | exit 1] | 1[]",
+        "open 7.open 8 | 7[8[] | enter 8.exit 7]",
+        "258[enter 65535] | 65535[exit 258.open 513]",
+        "1[2[3[4[5[exit 4.exit 3.exit 2.exit 1]]]]]",
+    ];
+    let mut files: Vec<Vec<u8>> = terms.iter().map(|term| file_of(term)).collect();
+    files.push([&[1, 63, 0, 7, 0, 2, 63, 63][..], &[3, 63, 1, 7, 0].repeat(16), &[4]].concat());
+    files
+}
+
+/// Files whose last record has any mixture of faults, for the order of the tests within a record: before it stand place 1, agent 0 with
+/// sixteen actions and agent 1 with none; after it the end record, or nothing, or a byte too many.
+pub fn faulty_records() -> Vec<Vec<u8>> {
+    let before = [&[1, 1, 0, 7, 0, 2, 0, 1][..], &[3, 0, 1, 7, 0].repeat(16), &[2, 1, 0]].concat();
+    let names = [[0, 0], [7, 0], [0, 7]];
+    let mut rows: Vec<Vec<u8>> = Vec::new();
+    for name in names {
+        for number in [0, 1, 2, 63, 64, 255] {
+            rows.extend([0, 1, 2, 3, 63, 64, 255].map(|parent| [&[1, number, parent][..], &name].concat()));
+        }
+        for agent in [0, 1, 2, 63, 64, 255] {
+            rows.extend([0, 1, 3, 4, 255].map(|kind| [&[3, agent, kind][..], &name].concat()));
+        }
+    }
+    for agent in [0, 1, 2, 63, 64, 255] {
+        rows.extend([0, 1, 2, 63, 64, 255].map(|home| vec![2, agent, home]));
+    }
+    rows.extend([[0], [4], [5], [255]].map(Vec::from));
+    let after: [&[u8]; 4] = [&[4], &[], &[4, 4], &[9]];
+    let mut files: Vec<Vec<u8>> = rows.iter().flat_map(|row| after.map(|after| [&before, &row[..], after].concat())).collect();
+    files.extend(rows.iter().flat_map(|row| (1..row.len()).map(|cut| [&before, &row[..cut]].concat())));
+    files
+}
+
+/// The longest file that is accepted.
+pub fn longest_file() -> Vec<u8> {
+    let mut file = Vec::new();
+    for place in 1..64 {
+        file.extend([1, place, place - 1, 255, 255]);
+    }
+    for agent in 0..64 {
+        file.extend([2, agent, agent]);
+        file.extend([3, agent, 1 + agent % 3, 255, 255].repeat(16));
+    }
+    file.push(4);
+    file
+}

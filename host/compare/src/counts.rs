@@ -1,0 +1,38 @@
+//! What was done, to print at the end.
+
+use std::collections::BTreeMap;
+use std::fmt;
+
+/// How many of each.
+#[derive(Default)]
+pub struct Counts {
+    pub steps: u64,
+    pub steps_refused: u64,
+    pub words: BTreeMap<&'static str, u64>,
+    pub accepted: u64,
+    pub refused: u64,
+    pub listings: u64,
+    pub sound: u64,
+    pub unsound: u64,
+    pub nine_steps: u64,
+    pub going_on: u64,
+    pub at_rest: u64,
+    pub walks: u64,
+    pub differences: u64,
+}
+
+impl fmt::Display for Counts {
+    fn fmt(&self, out: &mut fmt::Formatter<'_>) -> fmt::Result {
+        write!(out, "step calls      {:>9}   ({} refused", self.steps, self.steps_refused)?;
+        self.words.iter().try_for_each(|(word, count)| write!(out, ", {count} {word}"))?;
+        writeln!(out, ")")?;
+        writeln!(out, "files           {:>9}   ({} accepted, {} refused)", self.accepted + self.refused, self.accepted, self.refused)?;
+        writeln!(out, "listings        {:>9}", self.listings)?;
+        writeln!(out, "damaged cells   {:>9}   ({} sound, {} unsound)", self.sound + self.unsound, self.sound, self.unsound)?;
+        writeln!(out, "demand 2, moves reached within nine steps       {:>9}", self.nine_steps)?;
+        writeln!(out, "demand 3, cells where somebody can go on        {:>9}", self.going_on)?;
+        writeln!(out, "demand 3, cells at rest without a permitted move {:>8}", self.at_rest)?;
+        writeln!(out, "walks           {:>9}", self.walks)?;
+        write!(out, "differences     {:>9}", self.differences)
+    }
+}

@@ -1,0 +1,133 @@
+//! What somebody else may write into a lent cell: any byte, a field of something in use, or whole agents set to other stages.
+
+use crate::call::Call;
+use crate::random::Random;
+use model::{holds, Kind, Table, SIZE};
+
+/// Where the locks, the agents and the sets start, and the size of an agent.
+const LOCKS: usize = 256;
+const AGENTS: usize = 320;
+const AGENT: usize = 70;
+const SETS: usize = 4800;
+
+/// Writes that change a few bytes of these.
+pub fn writes(random: &mut Random, bytes: &[u8; SIZE]) -> Vec<Call> {
+    let mut after = *bytes;
+    match random.below(10) {
+        0..=2 => after[random.below(SIZE)] = random.byte(),
+        3..=6 => {
+            for _ in 0..1 + random.below(3) {
+                field(random, &mut after);
+            }
+        }
+        _ => {
+            for _ in 0..1 + random.below(3) {
+                scramble(random, &mut after);
+            }
+            settle_ways(random, &mut after);
+            settle_locks(&mut after);
+        }
+    }
+    let changed = (0..SIZE).filter(|&at| after[at] != bytes[at]);
+    changed.map(|at| Call::Write { at, byte: after[at] }).collect()
+}
+
+/// The numbers in a set of the struct.
+fn members(bytes: &[u8; SIZE], at: usize) -> Vec<usize> {
+    let word = u64::from_ne_bytes(bytes[at..at + 8].try_into().expect("eight bytes"));
+    (0..64).filter(|number| word >> number & 1 == 1).collect()
+}
+
+/// One of these numbers, or 0 if there is none.
+fn one_of(random: &mut Random, numbers: &[usize]) -> usize {
+    if numbers.is_empty() {
+        0
+    } else {
+        random.pick(numbers)
+    }
+}
+
+/// A number that is a little wrong or right: small, at a limit, or the number of a place in use.
+fn number(random: &mut Random, places: &[usize]) -> u8 {
+    match random.below(4) {
+        0 => random.below(10) as u8,
+        1 => random.pick(&[15, 16, 17, 63, 64, 65, 255]),
+        2 => random.byte(),
+        _ => one_of(random, places) as u8,
+    }
+}
+
+/// Changes one field of a place or agent in use, a lock, or a set.
+fn field(random: &mut Random, bytes: &mut [u8; SIZE]) {
+    let places = members(bytes, SETS);
+    let agents = members(bytes, SETS + 8);
+    let place = one_of(random, &places);
+    let agent = AGENTS + AGENT * one_of(random, &agents);
+    let value = number(random, &places);
+    match random.below(12) {
+        0 => bytes[4 * place + random.below(2)] = random.pick(&[0, 0, 1, value]),
+        1 => bytes[4 * place + 2] = value,
+        2 => bytes[4 * place + 3] = random.pick(&[0, 1, value]),
+        3 => bytes[LOCKS + place] = random.pick(&[64, value]),
+        4..=9 => {
+            let within = random.below(6);
+            bytes[agent + within] = if within == 1 && random.percent(80) { random.below(10) as u8 } else { value };
+        }
+        10 => bytes[agent + 6 + random.below(64)] = random.pick(&[0, 1, 2, 3, value]),
+        _ => bytes[SETS + random.below(16)] ^= 1 << random.below(8),
+    }
+}
+
+/// Sets an agent in use to any stage, remembering and having chosen any places.
+fn scramble(random: &mut Random, bytes: &mut [u8; SIZE]) {
+    let places = members(bytes, SETS);
+    let table = Table::read(bytes);
+    let number = one_of(random, &members(bytes, SETS + 8));
+    let agent = &table.agents[number];
+    let home = agent.home;
+    let at = AGENTS + AGENT * number;
+    let parent = table.places.get(home as usize).map_or(0, |place| place.parent);
+    let children: Vec<usize> = places.iter().copied().filter(|&place| table.places[place].parent == home).collect();
+    let beside: Vec<usize> = places.iter().copied().filter(|&place| table.places[place].parent == parent).collect();
+    let open = agent.next_kind() == Some(Kind::Open);
+    bytes[at + 1] = random.below(9) as u8;
+    bytes[at + 2] = match random.below(10) {
+        0..=1 => one_of(random, &places) as u8,
+        _ if open => home,
+        _ => parent,
+    };
+    bytes[at + 3] = match random.below(10) {
+        0..=1 => one_of(random, &places) as u8,
+        _ if open => one_of(random, &children) as u8,
+        _ => one_of(random, &beside) as u8,
+    };
+    if bytes[at + 1] == 8 {
+        bytes[at + 4] = bytes[at + 5];
+    }
+}
+
+/// Sets places that have an agent at stages 4 to 6 on their way, and the others, mostly, not.
+fn settle_ways(random: &mut Random, bytes: &mut [u8; SIZE]) {
+    let table = Table::read(bytes);
+    for (place, _) in table.places_in_use().filter(|(place, _)| *place != 0) {
+        let moving = table.agents_in_use().any(|(_, agent)| agent.home == place && (4..=6).contains(&agent.stage));
+        if moving || random.percent(98) {
+            bytes[4 * place as usize + 3] = moving as u8;
+        }
+    }
+}
+
+/// Sets each lock as the stages say, as far as they agree.
+fn settle_locks(bytes: &mut [u8; SIZE]) {
+    let table = Table::read(bytes);
+    for (place, _) in table.places_in_use() {
+        bytes[LOCKS + place as usize] = 64;
+    }
+    for (number, agent) in table.agents_in_use().filter(|(_, agent)| agent.home < 64) {
+        for place in holds(&table, agent) {
+            if place < 64 {
+                bytes[LOCKS + place as usize] = number;
+            }
+        }
+    }
+}

@@ -1,0 +1,80 @@
+//! The sentences of demands 2 and 3, asked of the model along the way.
+
+use model::{make, permitted, step, Cell, Kind, Move, Plain, Tree, Word};
+
+/// The move that a left or opened stands for: the pick is what is entered or opened, the place around is what is left.
+fn made(plain: &Plain, agent: u8) -> Option<Move> {
+    let (home, unused) = plain.agents.get(&agent)?;
+    let kind = unused.first()?.kind;
+    let with = match kind {
+        Kind::Exit => plain.places.get(home)?.around()?,
+        Kind::Enter | Kind::Open => *plain.picks.get(&agent)?,
+    };
+    Some(Move { agent, kind, with })
+}
+
+/// "one calculus move for each call answered left or opened .., each a move that the calculus permits in the tree before it": follows
+/// the answered word on the plain tree.
+pub fn follow(plain: &mut Plain, agent: u8, wish: u8, word: Word) -> Result<(), String> {
+    if !matches!(word, Word::Left | Word::Opened) {
+        plain.follow(agent, wish, word);
+        return Ok(());
+    }
+    let before = plain.tree();
+    let made = made(plain, agent).ok_or("demand 3: left or opened without a pick")?;
+    if !permitted(&before).contains(&made) {
+        return Err(format!("demand 3: {made:?} is not permitted"));
+    }
+    plain.follow(agent, wish, word);
+    if plain.tree() != make(&before, made) {
+        return Err(format!("demand 3: the plain tree after {made:?} is not the calculus's"));
+    }
+    Ok(())
+}
+
+/// "the cell is one tree and equal to document 01's plain tree".
+pub fn same_tree(plain: &Plain, cell: &Cell) -> Result<(), String> {
+    if !cell.one_tree() {
+        return Err("demand 3: the cell is not one tree".to_string());
+    }
+    if !plain.equals(cell) {
+        return Err("demand 3: the cell does not equal the plain tree".to_string());
+    }
+    Ok(())
+}
+
+/// "If all are asleep or done, the calculus permits no move in that tree."
+pub fn at_rest(cell: &Cell) -> Result<(), String> {
+    match permitted(&Tree::of(cell)).first() {
+        Some(found) => Err(format!("demand 3: all are asleep or done, yet {found:?} is permitted")),
+        None => Ok(()),
+    }
+}
+
+/// "If some agent is then neither asleep nor done, there is an agent whose next step changes the cell, whatever its wish." All wishes of
+/// 64 and above are alike.
+pub fn somebody_can_go_on(cell: &Cell) -> Result<(), String> {
+    let changes = |agent: u8, wish: u8| {
+        let mut after = cell.clone();
+        step(&mut after, agent, wish).is_ok() && after != *cell
+    };
+    if cell.agents.keys().any(|&agent| (0..=64).all(|wish| changes(agent, wish))) {
+        Ok(())
+    } else {
+        Err("demand 3: some agent is neither asleep nor done, yet no agent's step changes the cell".to_string())
+    }
+}
+
+/// "From a settled cell that came from a load, every enter, exit or open that the ambient calculus permits can be reached by at most nine
+/// steps of its own agent, with exactly the calculus's result."
+pub fn nine_steps(cell: &Cell, reached: Move) -> Result<(), String> {
+    let mut after = cell.clone();
+    for _ in 0..9 {
+        let stepped = step(&mut after, reached.agent, reached.with);
+        if stepped.is_ok_and(|stepped| matches!(stepped.word, Word::Came | Word::Opened)) {
+            let exactly = Tree::of(&after) == make(&Tree::of(cell), reached) && after.settled();
+            return if exactly { Ok(()) } else { Err(format!("demand 2: {reached:?} is reached with another result")) };
+        }
+    }
+    Err(format!("demand 2: {reached:?} is not reached within nine steps"))
+}

@@ -1,0 +1,117 @@
+//! Compares the library with the model, call by call, through the C exports.
+//!
+//!     compare [--quick] [--seconds N] [--seed S] [--walk PROGRAM]
+//!
+//! First document 01's cases and every single-byte change and truncation of good files; then rounds of random files, random orders on
+//! random cells, and cells with bytes changed: a fixed number of rounds, or as many as fit in N seconds. The same seed gives the same
+//! rounds. With a program `walk`, what it writes is compared too. At a difference the smallest example found is printed and the exit
+//! status is 1.
+
+mod answer;
+mod bench;
+mod call;
+mod chance;
+mod counts;
+mod damage;
+mod demands;
+mod files;
+mod orders;
+mod pair;
+mod random;
+mod rounds;
+mod shrink;
+mod walks;
+
+use call::Call;
+use rounds::Session;
+use std::path::PathBuf;
+use std::process::ExitCode;
+use std::time::{Duration, Instant};
+
+/// What the command line asks for.
+struct Options {
+    quick: bool,
+    seconds: Option<u64>,
+    seed: u64,
+    walk: Option<PathBuf>,
+}
+
+/// Reads the command line.
+fn options() -> Result<Options, String> {
+    let mut options = Options { quick: false, seconds: None, seed: 1, walk: None };
+    let mut words = std::env::args().skip(1);
+    while let Some(word) = words.next() {
+        let mut next = || words.next().ok_or(format!("{word} takes a value"));
+        let number = |text: String| text.parse().map_err(|_| format!("{text} is no number"));
+        match word.as_str() {
+            "--quick" => options.quick = true,
+            "--seconds" => options.seconds = Some(number(next()?)?),
+            "--seed" => options.seed = number(next()?)?,
+            "--walk" => options.walk = Some(PathBuf::from(next()?)),
+            _ => return Err(format!("unknown option {word}\nusage: compare [--quick] [--seconds N] [--seed S] [--walk PROGRAM]")),
+        }
+    }
+    Ok(options)
+}
+
+/// The session that the options ask for; it ends at the first difference.
+fn run(session: &mut Session, options: &Options) -> Result<(), Vec<Call>> {
+    let start = Instant::now();
+    session.cases()?;
+    session.changed_files(if options.quick { 64 } else { 4 })?;
+    let rounds = if options.quick { 20 } else { 500 };
+    let mut round = 0;
+    while match options.seconds {
+        Some(seconds) => start.elapsed() < Duration::from_secs(seconds),
+        None => round < rounds,
+    } {
+        session.round(options.seed.wrapping_mul(1_000_003).wrapping_add(round))?;
+        round += 1;
+    }
+    Ok(())
+}
+
+fn main() -> ExitCode {
+    let options = match options() {
+        Ok(options) => options,
+        Err(text) => {
+            eprintln!("{text}");
+            return ExitCode::from(2);
+        }
+    };
+    let start = Instant::now();
+    let mut session = match Session::new() {
+        Ok(session) => session,
+        Err(text) => {
+            println!("difference on a bare floor: {text}");
+            return ExitCode::FAILURE;
+        }
+    };
+    let outcome = run(&mut session, &options);
+    if let Err(calls) = &outcome {
+        session.counts_mut().differences += 1;
+        print_example(calls);
+    }
+    if let Some(program) = &options.walk {
+        match walks::walks(program, options.seed, if options.quick { 100 } else { 1_000 }) {
+            Ok(count) => session.counts_mut().walks += count as u64,
+            Err(text) => {
+                session.counts_mut().differences += 1;
+                println!("difference: {text}");
+            }
+        }
+    }
+    println!("{}", session.counts_mut());
+    println!("seed {}, {:.1} seconds", options.seed, start.elapsed().as_secs_f64());
+    ExitCode::from(if session.counts_mut().differences == 0 { 0 } else { 1 })
+}
+
+/// Prints the smallest example found and what differs in it.
+fn print_example(calls: &[Call]) {
+    println!("difference after {} calls; the smallest example found:", calls.len());
+    let (smallest, text) = shrink::smallest(calls);
+    for call in &smallest {
+        println!("  {call}");
+    }
+    println!("  {}", text.unwrap_or("it did not show again when the calls were repeated".to_string()));
+}

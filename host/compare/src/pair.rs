@@ -1,0 +1,248 @@
+//! The library and the model side by side: each call goes to both, and everything that can be seen is compared after it.
+
+use crate::answer;
+use crate::call::Call;
+use crate::counts::Counts;
+use crate::demands;
+use keeper::lent::Lent;
+use model::{listing, load, permitted, step, Cell, Plain, Stepped, Table, Tree, LISTING_TOO_LONG, UNSOUND};
+
+/// A byte that no listing has, with which buffers are filled before they are lent.
+const FILL: u8 = 0xAA;
+/// The longest listing and some bytes more.
+const ROOM: usize = 13_043 + 21;
+/// A buffer before it is lent.
+static FILLED: [u8; ROOM] = [FILL; ROOM];
+
+/// The lent cell; the model's cell, none where the table is unsound; and the plain tree, kept from an accepted load on for as long as
+/// nobody else writes the cell.
+pub struct Pair {
+    lent: Lent,
+    pub cell: Option<Cell>,
+    plain: Option<Plain>,
+    text: Vec<u8>,
+    thorough: bool,
+    pub counts: Counts,
+}
+
+/// A cell to come back to.
+pub struct Kept {
+    lent: Lent,
+    cell: Option<Cell>,
+    plain: Option<Plain>,
+}
+
+impl Pair {
+    /// Both with a bare floor. A thorough pair asks the slow questions after every call, another one now and then.
+    pub fn new(thorough: bool) -> Result<Pair, String> {
+        let mut lent = Lent::zeros();
+        lent.bytes_mut().fill(FILL);
+        let answer = lent.bare();
+        let cell = Some(Cell::bare());
+        let mut pair = Pair { lent, cell, plain: None, text: vec![FILL; ROOM], thorough, counts: Counts::default() };
+        same("bare", answer, 0, answer::value_text)?;
+        pair.agree()?;
+        Ok(pair)
+    }
+
+    /// The cell as it is.
+    pub fn keep(&self) -> Kept {
+        Kept { lent: self.lent.clone(), cell: self.cell.clone(), plain: self.plain.clone() }
+    }
+
+    /// Back to the cell as it was.
+    pub fn put_back(&mut self, kept: &Kept) {
+        self.lent = kept.lent.clone();
+        self.cell = kept.cell.clone();
+        self.plain = kept.plain.clone();
+    }
+
+    /// The bytes of the lent cell.
+    pub fn bytes(&self) -> &[u8; model::SIZE] {
+        self.lent.bytes()
+    }
+
+    /// One call of both; says what differs.
+    pub fn call(&mut self, call: &Call) -> Result<(), String> {
+        match *call {
+            Call::Load(ref file) => self.load(file),
+            Call::Step { agent, wish } => self.step(agent, wish),
+            Call::List { room } => self.list(room),
+            Call::Write { at, byte } => self.write(at, byte),
+        }
+    }
+
+    /// A load: it never looks at the cell that was there, and a refused one leaves it.
+    fn load(&mut self, file: &[u8]) -> Result<(), String> {
+        let before = self.lent.clone();
+        let loaded = load(file);
+        let answer = self.lent.load(file);
+        same("load", answer, answer::of_load(loaded.as_ref().err().copied()), answer::load_text)?;
+        match loaded {
+            Err(_) => {
+                self.counts.refused += 1;
+                self.unchanged("a refused load", &before)
+            }
+            Ok(cell) => {
+                self.counts.accepted += 1;
+                self.plain = Some(Plain::of_load(&cell));
+                self.cell = Some(cell);
+                self.agree()
+            }
+        }
+    }
+
+    /// A step: refused with 10 on an unsound table, with 11 for no such agent, else as the model says.
+    fn step(&mut self, agent: u8, wish: u8) -> Result<(), String> {
+        let before = self.lent.clone();
+        let stepped = match &mut self.cell {
+            None => Err(UNSOUND),
+            Some(cell) => step(cell, agent, wish),
+        };
+        self.counts.steps += 1;
+        let answer = self.lent.step(agent, wish);
+        same("step", answer, answer::of_step(stepped), answer::step_text)?;
+        match stepped {
+            Err(_) => {
+                self.counts.steps_refused += 1;
+                self.unchanged("a refused step", &before)
+            }
+            Ok(Stepped { word, .. }) => {
+                *self.counts.words.entry(word.text()).or_default() += 1;
+                if let Some(plain) = &mut self.plain {
+                    demands::follow(plain, agent, wish, word)?;
+                }
+                self.agree()
+            }
+        }
+    }
+
+    /// A byte that somebody else writes: the table may be unsound afterwards, and no plain tree stands beside it.
+    fn write(&mut self, at: usize, byte: u8) -> Result<(), String> {
+        self.lent.bytes_mut()[at] = byte;
+        self.plain = None;
+        self.cell = Table::read(self.lent.bytes()).cell();
+        match self.cell {
+            Some(_) => self.counts.sound += 1,
+            None => self.counts.unsound += 1,
+        }
+        self.agree()
+    }
+
+    /// A listing into a buffer of this size; refused with 12 where it is longer.
+    fn list(&mut self, room: usize) -> Result<(), String> {
+        self.counts.listings += 1;
+        let listed = self.cell.as_ref().map(listing);
+        let expected = match &listed {
+            None => Err(UNSOUND),
+            Some(listed) if listed.len() > room => Err(LISTING_TOO_LONG),
+            Some(listed) => Ok(listed.len()),
+        };
+        let answer = self.lent.list(&mut self.text[..room]);
+        same("list", answer, answer::of_value(expected), answer::value_text)?;
+        let length = expected.unwrap_or(0);
+        if length > 0 && self.text[..length] != *listed.unwrap_or_default().as_bytes() {
+            return Err(format!("the library lists {}", String::from_utf8_lossy(&self.text[..length])));
+        }
+        if self.text[length..] != FILLED[length..] {
+            return Err(format!("list with room for {room} bytes writes past its {length} bytes"));
+        }
+        self.text[..length].fill(FILL);
+        Ok(())
+    }
+
+    /// What can be seen between two calls: check, idle, the listing, and the fields of the table.
+    fn agree(&mut self) -> Result<(), String> {
+        let before = self.lent.clone();
+        let table = Table::read(self.lent.bytes());
+        let seen = table.cell();
+        if seen != self.cell {
+            return Err(match (&seen, &self.cell) {
+                (Some(seen), Some(cell)) => differing(seen, cell),
+                _ => "the library leaves an unsound table".to_string(),
+            });
+        }
+        if self.plain.is_some() {
+            forgotten(&table)?;
+        }
+        let sound = self.cell.as_ref().map(|_| 0).ok_or(UNSOUND);
+        let idle = self.cell.as_ref().map(|cell| cell.idle() as usize).ok_or(UNSOUND);
+        same("check", self.lent.check(), answer::of_value(sound), answer::value_text)?;
+        same("idle", self.lent.idle(), answer::of_value(idle), answer::value_text)?;
+        self.list(ROOM)?;
+        self.unchanged("check, idle or list", &before)?;
+        self.demands()
+    }
+
+    /// Demands 2 and 3 of the model's cell, if it came from a load; the slow questions now and then.
+    fn demands(&mut self) -> Result<(), String> {
+        let (Some(cell), Some(plain)) = (&self.cell, &self.plain) else { return Ok(()) };
+        demands::same_tree(plain, cell)?;
+        if cell.idle() {
+            self.counts.at_rest += 1;
+            demands::at_rest(cell)?;
+        } else if self.thorough || self.counts.steps % 64 == 0 {
+            self.counts.going_on += 1;
+            demands::somebody_can_go_on(cell)?;
+        }
+        if cell.settled() && (self.thorough || self.counts.steps % 8 == 0) {
+            let moves = permitted(&Tree::of(cell));
+            let most = if self.thorough { moves.len() } else { 3 };
+            let start = self.counts.steps as usize % moves.len().max(1);
+            for &reached in moves.iter().cycle().skip(start).take(most.min(moves.len())) {
+                self.counts.nine_steps += 1;
+                demands::nine_steps(cell, reached)?;
+            }
+        }
+        Ok(())
+    }
+
+    /// The lent cell has the same bytes as before.
+    fn unchanged(&self, what: &str, before: &Lent) -> Result<(), String> {
+        match self.lent.bytes().iter().zip(before.bytes()).position(|(now, then)| now != then) {
+            None => Ok(()),
+            Some(at) => {
+                Err(format!("{what} changes byte {at} of the cell from {:02X} to {:02X}", before.bytes()[at], self.lent.bytes()[at]))
+            }
+        }
+    }
+}
+
+/// The library's answer is the model's.
+fn same(call: &str, library: u64, model: u64, text: fn(u64) -> String) -> Result<(), String> {
+    if library == model {
+        Ok(())
+    } else {
+        Err(format!("{call}: the library answers {}, the model {}", text(library), text(model)))
+    }
+}
+
+/// "a step that forgets a place writes the same empty value always": in a cell that came from a load, a field that the stage does not use
+/// is 0.
+fn forgotten(table: &Table) -> Result<(), String> {
+    for (number, agent) in table.agents_in_use() {
+        if agent.remembered_place().is_none() && agent.remembered != 0 || agent.chosen_place().is_none() && agent.chosen != 0 {
+            return Err(format!("agent {number} still remembers a place at stage {}", agent.stage));
+        }
+    }
+    Ok(())
+}
+
+/// The first place, lock or agent in which two cells differ.
+fn differing(library: &Cell, model: &Cell) -> String {
+    for number in 0..64 {
+        let (mine, other) = (library.places.get(&number), model.places.get(&number));
+        if mine != other {
+            return format!("place {number} is {mine:?}, in the model {other:?}");
+        }
+        let (mine, other) = (library.locks.get(&number), model.locks.get(&number));
+        if mine != other {
+            return format!("the lock of place {number} is held by {mine:?}, in the model by {other:?}");
+        }
+        let (mine, other) = (library.agents.get(&number), model.agents.get(&number));
+        if mine != other {
+            return format!("agent {number} is {mine:?}, in the model {other:?}");
+        }
+    }
+    "the cells differ".to_string()
+}

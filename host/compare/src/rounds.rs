@@ -1,0 +1,198 @@
+//! The parts of a session, each of which ends with the calls that led to a difference, if there is one.
+
+use crate::bench;
+use crate::call::Call;
+use crate::counts::Counts;
+use crate::damage;
+use crate::files;
+use crate::orders::Order;
+use crate::pair::Pair;
+use crate::random::Random;
+
+/// A pair, and the calls since its last load.
+pub struct Session {
+    pair: Pair,
+    calls: Vec<Call>,
+}
+
+/// What a part of the session answers: nothing, or the calls that led to a difference.
+type Outcome = Result<(), Vec<Call>>;
+
+impl Session {
+    /// A session on a bare floor.
+    pub fn new() -> Result<Session, String> {
+        Ok(Session { pair: Pair::new(false)?, calls: Vec::new() })
+    }
+
+    /// The counts so far.
+    pub fn counts_mut(&mut self) -> &mut Counts {
+        &mut self.pair.counts
+    }
+
+    /// Makes a call.
+    fn call(&mut self, call: Call) -> Outcome {
+        self.calls.push(call);
+        let last = &self.calls[self.calls.len() - 1];
+        self.pair.call(last).map_err(|_| self.calls.clone())
+    }
+
+    /// Loads a file. An accepted one is a new start, and a refused one has left everything as it was.
+    fn start(&mut self, file: Vec<u8>) -> Outcome {
+        let accepted = model::load(&file).is_ok();
+        self.call(Call::Load(file))?;
+        let last = self.calls.len() - 1;
+        if accepted {
+            self.calls.drain(..last);
+        } else {
+            self.calls.truncate(last);
+        }
+        Ok(())
+    }
+
+    /// Document 01's worked example and bench cases.
+    pub fn cases(&mut self) -> Outcome {
+        for case in bench::cases() {
+            assert!(case.holds_of_the_model(), "the model does not write {}", case.written);
+            for call in case.calls() {
+                match call {
+                    Call::Load(file) => self.start(file)?,
+                    call => self.call(call)?,
+                }
+            }
+        }
+        Ok(())
+    }
+
+    /// Every mixture of faults in a record; every single-byte change and every truncation of the small files; of the longest file
+    /// truncations and some changes at every `thinned`th byte.
+    pub fn changed_files(&mut self, thinned: usize) -> Outcome {
+        for file in bench::faulty_records() {
+            self.start(file)?;
+        }
+        for file in bench::small_files() {
+            self.start(file.clone())?;
+            for length in 0..file.len() {
+                self.start(file[..length].to_vec())?;
+            }
+            for at in 0..file.len() {
+                for byte in (0..=255).filter(|&byte| byte != file[at]) {
+                    let mut changed = file.clone();
+                    changed[at] = byte;
+                    self.start(changed)?;
+                }
+            }
+        }
+        let file = bench::longest_file();
+        self.start(file.clone())?;
+        for after in [&[0][..], &[4], &[1, 1, 0, 7, 0], &[3, 0, 1, 7, 0, 4]] {
+            self.start([&file[..], after].concat())?;
+            self.start([&file[..file.len() - 1], after].concat())?;
+        }
+        for at in (0..file.len()).step_by(thinned) {
+            self.start(file[..at].to_vec())?;
+            for byte in [0, 1, 4, 63, 64, 255] {
+                let mut changed = file.clone();
+                changed[at] = byte;
+                self.start(changed)?;
+            }
+        }
+        Ok(())
+    }
+
+    /// One round of random files, orders and changed cells; the same seed gives the same round.
+    pub fn round(&mut self, seed: u64) -> Outcome {
+        let mut random = Random::new(seed);
+        for _ in 0..200 {
+            let file = match random.below(10) {
+                0..=1 => files::good(&mut random),
+                2..=6 => files::nearly_good(&mut random),
+                _ => files::wild(&mut random),
+            };
+            self.start(file)?;
+        }
+        for _ in 0..25 {
+            self.order(&mut random)?;
+        }
+        for _ in 0..10 {
+            self.changed_cell(&mut random)?;
+        }
+        Ok(())
+    }
+
+    /// A random order on a random cell, with listings into small buffers among the steps.
+    fn order(&mut self, random: &mut Random) -> Outcome {
+        self.start(files::good(random))?;
+        let mut order = Order::new(random);
+        let agents = self.pair.cell.as_ref().map_or(0, |cell| cell.agents.len());
+        let most = 10 + random.below(10 + 30 * agents);
+        let mut after_rest = 0;
+        for _ in 0..most {
+            let Some(cell) = &self.pair.cell else { break };
+            if cell.idle() {
+                after_rest += 1;
+            }
+            if after_rest > 6 {
+                break;
+            }
+            let call = if random.percent(3) { room(random, cell) } else { order.next(random, cell) };
+            self.call(call)?;
+        }
+        Ok(())
+    }
+
+    /// A cell somewhere in an order, of which bytes are changed in several ways; after each, some calls on it.
+    fn changed_cell(&mut self, random: &mut Random) -> Outcome {
+        self.start(files::good(random))?;
+        let mut order = Order::new(random);
+        for _ in 0..random.below(60) {
+            let Some(cell) = &self.pair.cell else { break };
+            let call = order.next(random, cell);
+            self.call(call)?;
+        }
+        let kept = self.pair.keep();
+        let before = self.calls.len();
+        for _ in 0..30 {
+            for write in damage::writes(random, self.pair.bytes()) {
+                self.call(write)?;
+            }
+            self.after_damage(random)?;
+            self.pair.put_back(&kept);
+            self.calls.truncate(before);
+        }
+        Ok(())
+    }
+
+    /// Calls on a cell that may be unsound.
+    fn after_damage(&mut self, random: &mut Random) -> Outcome {
+        let mut order = Order::new(random);
+        for _ in 0..1 + random.below(8) {
+            let call = match &self.pair.cell {
+                Some(cell) => order.next(random, cell),
+                None => Call::Step { agent: random.byte() % 80, wish: random.byte() },
+            };
+            self.call(call)?;
+            if self.pair.cell.is_none() {
+                self.call(Call::List { room: random.below(100) })?;
+                if random.percent(10) {
+                    self.call(Call::Load(files::nearly_good(random)))?;
+                }
+                break;
+            }
+        }
+        Ok(())
+    }
+}
+
+/// A listing into a buffer that is about as long as the listing.
+fn room(random: &mut Random, cell: &model::Cell) -> Call {
+    let length = model::listing(cell).len();
+    let room = match random.below(6) {
+        0 => length - 1,
+        1 => length,
+        2 => length + 1,
+        3 => 0,
+        4 => random.below(length + 1),
+        _ => length + random.below(20),
+    };
+    Call::List { room }
+}

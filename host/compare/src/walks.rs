@@ -1,0 +1,88 @@
+//! Program `walk`, run on files, beside what the model says it writes.
+
+use crate::bench;
+use crate::files;
+use crate::random::Random;
+use std::fs;
+use std::path::{Path, PathBuf};
+use std::process::Command;
+
+/// A cell file and an order, either of which may be absent.
+struct Case {
+    cell: Option<Vec<u8>>,
+    order: Option<Vec<u8>>,
+}
+
+/// The program and a folder of its own to run it in.
+struct Walks {
+    program: PathBuf,
+    folder: PathBuf,
+}
+
+/// Runs the program on document 01's cases and so many random ones; how many were alike, or the first that was not.
+pub fn walks(program: &Path, seed: u64, count: usize) -> Result<usize, String> {
+    let folder = std::env::temp_dir().join(format!("compare-walk-{}", std::process::id()));
+    let program = program.canonicalize().map_err(|error| format!("{}: {error}", program.display()))?;
+    fs::create_dir_all(&folder).map_err(|error| format!("{}: {error}", folder.display()))?;
+    let walks = Walks { program, folder };
+    let outcome = cases(seed, count).iter().try_for_each(|case| walks.alike(case)).map(|()| count + bench::cases().len() + 6);
+    let _ = fs::remove_dir_all(&walks.folder);
+    outcome
+}
+
+/// Document 01's cases, absent and overlong files, and random ones.
+fn cases(seed: u64, count: usize) -> Vec<Case> {
+    let mut random = Random::new(seed);
+    let order = |agents: &[u8]| agents.iter().flat_map(|&agent| [agent, 255]).collect::<Vec<u8>>();
+    let mut cases: Vec<Case> =
+        bench::cases().into_iter().map(|case| Case { cell: Some(case.file), order: Some(order(&case.agents)) }).collect();
+    let longest = bench::longest_file();
+    cases.push(Case { cell: None, order: None });
+    cases.push(Case { cell: None, order: Some(vec![0, 0]) });
+    cases.push(Case { cell: Some(vec![4]), order: None });
+    cases.push(Case { cell: Some([&longest[..], &[4]].concat()), order: None });
+    cases.push(Case { cell: Some([&longest[..longest.len() - 1], &[9; 4000]].concat()), order: None });
+    cases.push(Case { cell: Some(longest), order: Some((0..40_001).map(|_| random.byte() % 64).collect()) });
+    for _ in 0..count {
+        let cell = if random.percent(80) { files::good(&mut random) } else { files::nearly_good(&mut random) };
+        let length = random.pick(&[10, 100, 1_000]);
+        let agents = random.pick(&[6, 66]);
+        let order = (0..random.below(length)).map(|at| if at % 2 == 0 { random.below(agents) as u8 } else { random.byte() });
+        cases.push(Case { cell: Some(cell), order: Some(order.collect()) });
+    }
+    cases
+}
+
+impl Walks {
+    /// The program writes what the model says.
+    fn alike(&self, case: &Case) -> Result<(), String> {
+        let [cell, order] = ["cell", "order"].map(|name| self.folder.join(name));
+        put(&cell, &case.cell).and_then(|()| put(&order, &case.order)).map_err(|error| error.to_string())?;
+        let output = Command::new(&self.program).current_dir(&self.folder).output();
+        let written = output.map_err(|error| format!("{}: {error}", self.program.display()))?.stdout;
+        let empty = Vec::new();
+        let (cell, order) = (case.cell.as_ref().unwrap_or(&empty), case.order.as_ref().unwrap_or(&empty));
+        let expected = model::walk(cell, order);
+        if written == expected.as_bytes() {
+            return Ok(());
+        }
+        let written = String::from_utf8_lossy(&written).into_owned();
+        let at = expected.lines().zip(written.lines()).take_while(|(one, other)| one == other).count();
+        let line = |text: &str| text.lines().nth(at).unwrap_or("nothing").to_string();
+        Err(format!(
+            "walk\n  cell  {cell:02X?}\n  order {order:02X?}\n  line {}: it writes {}, the model {}",
+            at + 1,
+            line(&written),
+            line(&expected)
+        ))
+    }
+}
+
+/// Writes a file, or takes it away.
+fn put(path: &Path, bytes: &Option<Vec<u8>>) -> std::io::Result<()> {
+    match bytes {
+        Some(bytes) => fs::write(path, bytes),
+        None if path.exists() => fs::remove_file(path),
+        None => Ok(()),
+    }
+}

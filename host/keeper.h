@@ -1,0 +1,277 @@
+/*
+** keeper.h: the cell keeper, for hosts in C11 and C++11.
+**
+** A cell holds places nested in each other and agents that move them, one lock step at a time. The host lends the memory of a cell and
+** calls the keeper once per lock step. The keeper allocates nothing, keeps nothing between calls, reads no clock and no file, and calls
+** nothing outside itself. Every call ends, and every input is accepted or refused with a number; a refused call leaves the cell and
+** every lent buffer as they were.
+**
+** In short:
+**
+**     keeper_cell cell;
+**     uint64_t answer;
+**
+**     keeper_bare(&cell);
+**     answer = keeper_load(&cell, file, length);
+**     if (keeper_refusal(answer) != 0)
+**         printf("refused %s at byte %zu\n", keeper_refusal_text(keeper_refusal(answer)), keeper_offset(answer));
+**     answer = keeper_step(&cell, agent, wish);
+**     if (keeper_refusal(answer) == 0)
+**         printf("%s, %u woken\n", keeper_word_name(keeper_word(answer)), keeper_woken(answer));
+**
+** What the caller owes, in every call:
+**
+**   - A pointer is not null, also where the length given with it is 0, and stays valid for the whole call. A cell is aligned as its type
+**     asks; files and texts may stand anywhere.
+**   - A cell has been written before it is first lent, by keeper_bare or in any other way (all zeros will do): the keeper takes every
+**     bit pattern, and refuses one that is not a sound table with 10, but it does read it.
+**   - A file or text lent together with a cell does not overlap it.
+**   - No other thread touches what is lent during the call. Calls that lend different memory may run at the same time.
+**   - The stack has room for KEEPER_STACK bytes.
+*/
+#ifndef KEEPER_H
+#define KEEPER_H
+
+#include <stddef.h>
+#include <stdint.h>
+
+#ifdef __cplusplus
+extern "C" {
+#define KEEPER_ASSERT(holds, text) static_assert(holds, text)
+#else
+#define KEEPER_ASSERT(holds, text) _Static_assert(holds, text)
+#endif
+
+/* Places are numbered 0 to 63, and 0 is the floor; agents are numbered 0 to 63; an agent carries sixteen actions at most. */
+#define KEEPER_PLACES 64
+#define KEEPER_AGENTS 64
+#define KEEPER_ACTIONS 16
+
+/* The lock of a place that no agent holds. */
+#define KEEPER_FREE 64
+
+/* The size of a cell in bytes. */
+#define KEEPER_CELL_BYTES 4816
+
+/* The longest cell file that can be accepted; and how many bytes of a file, at its start, always decide the answer to it: a host may
+** read that many of a longer file and lend those. */
+#define KEEPER_FILE_LONGEST 5628
+#define KEEPER_FILE_DECIDING 5633
+
+/* The longest listing: with a buffer of this size, keeper_list never answers 12. */
+#define KEEPER_LISTING_LONGEST 13043
+
+/* The stack that a call uses, in bytes, at most. FILL IN: measured on the delivered library; 64 KB is the bound promised. */
+#define KEEPER_STACK 65536
+
+/*
+** The memory of a cell. It is plain data: a host may copy it, keep it in a file for the same kind of machine, and read its fields. A host
+** that writes the fields itself can make the table unsound; keeper_check tells. Fields of numbers that are not in use mean nothing.
+*/
+
+/* A place: `way` is 0 where it is linked to `parent`, else it is on its way to `parent`. The floor has name 0, parent 0 and way 1. */
+typedef struct keeper_place {
+    uint16_t name;
+    uint8_t parent;
+    uint8_t way;
+} keeper_place;
+
+/* An action: 1 enter, 2 exit, 3 open; and the name of the place that it acts on. */
+typedef struct keeper_action {
+    uint8_t kind;
+    uint16_t name;
+} keeper_action;
+
+/* An agent: the place it lives in, its stage (0 to 8), the place it remembers (stages 1 to 3 and 7), the place it has chosen (stage 3 of
+** enter and open), and its actions, of which actions[next] to actions[count - 1] are unused. */
+typedef struct keeper_agent {
+    uint8_t home;
+    uint8_t stage;
+    uint8_t remembered;
+    uint8_t chosen;
+    uint8_t next;
+    uint8_t count;
+    keeper_action actions[KEEPER_ACTIONS];
+} keeper_agent;
+
+/* A cell: its places, for each the agent that holds its lock or KEEPER_FREE, its agents, and the numbers of places (`used`) and agents
+** (`given`) that are in use, bit i for number i. */
+typedef struct keeper_cell {
+    keeper_place places[KEEPER_PLACES];
+    uint8_t locks[KEEPER_PLACES];
+    keeper_agent agents[KEEPER_AGENTS];
+    uint64_t used;
+    uint64_t given;
+} keeper_cell;
+
+KEEPER_ASSERT(sizeof(keeper_place) == 4, "keeper_place has 4 bytes");
+KEEPER_ASSERT(offsetof(keeper_place, parent) == 2 && offsetof(keeper_place, way) == 3, "keeper_place");
+KEEPER_ASSERT(sizeof(keeper_action) == 4 && offsetof(keeper_action, name) == 2, "keeper_action has 4 bytes");
+KEEPER_ASSERT(sizeof(keeper_agent) == 70, "keeper_agent has 70 bytes");
+KEEPER_ASSERT(offsetof(keeper_agent, stage) == 1 && offsetof(keeper_agent, remembered) == 2, "keeper_agent");
+KEEPER_ASSERT(offsetof(keeper_agent, chosen) == 3 && offsetof(keeper_agent, next) == 4, "keeper_agent");
+KEEPER_ASSERT(offsetof(keeper_agent, count) == 5 && offsetof(keeper_agent, actions) == 6, "keeper_agent");
+KEEPER_ASSERT(sizeof(keeper_cell) == KEEPER_CELL_BYTES, "keeper_cell has 4816 bytes");
+KEEPER_ASSERT(offsetof(keeper_cell, locks) == 256 && offsetof(keeper_cell, agents) == 320, "keeper_cell");
+KEEPER_ASSERT(offsetof(keeper_cell, used) == 4800 && offsetof(keeper_cell, given) == 4808, "keeper_cell");
+
+/* The numbers with which a call is refused. */
+enum {
+    KEEPER_CUT_SHORT = 1,
+    KEEPER_UNKNOWN_KIND = 2,
+    KEEPER_TOO_LARGE = 3,
+    KEEPER_GIVEN_TWICE = 4,
+    KEEPER_NOT_YET_GIVEN = 5,
+    KEEPER_NAME_ZERO = 6,
+    KEEPER_ACTION_KIND = 7,
+    KEEPER_SEVENTEENTH_ACTION = 8,
+    KEEPER_AFTER_THE_END = 9,
+    KEEPER_UNSOUND = 10,
+    KEEPER_NO_SUCH_AGENT = 11,
+    KEEPER_LISTING_TOO_LONG = 12
+};
+
+/* The words that a step answers. */
+enum {
+    KEEPER_LOOKED = 0,
+    KEEPER_TOOK = 1,
+    KEEPER_HELD = 2,
+    KEEPER_BACK = 3,
+    KEEPER_SLEPT = 4,
+    KEEPER_LEFT = 5,
+    KEEPER_CAME = 6,
+    KEEPER_OPENED = 7,
+    KEEPER_ASLEEP = 9,
+    KEEPER_DONE = 10
+};
+
+/*
+** keeper_bare: makes the cell a bare floor, with no other place and no agent.
+**
+** Answers 0; it is never refused.
+*/
+uint64_t keeper_bare(keeper_cell *cell);
+
+/*
+** keeper_load: makes the cell what the cell file in file[0] to file[len - 1] says.
+**
+** Answers 0 if the file was accepted. Else keeper_refusal(answer) is a number from 1 to 9, keeper_offset(answer) is the byte offset of the
+** first faulty record (for a missing end record, the file's length; for 9, the first byte after the end record), and the cell is as it
+** was. What the cell held before plays no part in the answer, so it is never 10. The file is only read.
+*/
+uint64_t keeper_load(keeper_cell *cell, const uint8_t *file, size_t len);
+
+/*
+** keeper_step: one lock step of an agent. `wish` is the number of the place that an enter or open should choose where several qualify; a
+** wish for any other place, such as 255, is passed over, and the lowest qualifying number is chosen.
+**
+** Answers, in keeper_word(answer), what the agent did, and in keeper_woken(answer) how many sleeping agents that woke:
+**
+**     looked   it found the place that it will lock first
+**     took     it took a lock
+**     held     the lock that it needs is held by another agent; nothing changed
+**     back     it let go of its locks, because the place has moved meanwhile, and will look again
+**     slept    its action cannot fire; it sleeps until another agent's step wakes it
+**     left     its place left and is on its way; the action is used up
+**     came     its place came to its destination
+**     opened   it opened a place: what was inside stands around it now, and the place's number is unused; the action is used up
+**     asleep   it sleeps; nothing changed
+**     done     it has no action left; nothing changed
+**
+** Refused with 10 where the table is unsound, else with 11 where no such agent is in the cell; then the cell is as it was.
+*/
+uint64_t keeper_step(keeper_cell *cell, uint8_t agent, uint8_t wish);
+
+/*
+** keeper_list: writes the listing of the cell, in ASCII and without a closing zero byte, to text[0] and on. `room` is how many bytes may
+** be written there.
+**
+** Answers the listing's length in keeper_length(answer); bytes past it are as they were. Refused with 10 where the table is unsound, else
+** with 12 where the listing is longer than `room`; then the whole text is as it was. The cell is only read.
+*/
+uint64_t keeper_list(const keeper_cell *cell, uint8_t *text, size_t room);
+
+/*
+** keeper_check: whether the table is sound. A cell that keeper_bare or an accepted keeper_load wrote, and that only keeper_step has
+** changed since, always is.
+**
+** Answers 0 if it is sound; refused with 10 if it is not. The cell is only read.
+*/
+uint64_t keeper_check(const keeper_cell *cell);
+
+/*
+** keeper_idle: whether all agents are asleep or done, so that no step changes the cell any more.
+**
+** Answers it in keeper_all_rest(answer). Refused with 10 where the table is unsound. The cell is only read.
+*/
+uint64_t keeper_idle(const keeper_cell *cell);
+
+/*
+** An answer: bits 0 to 7 are 0, or the number with which the call was refused. The bits above are, for keeper_load, the offset of a
+** refusal; for keeper_step, the word (bits 8 to 15) and the number woken (bits 16 to 23); for keeper_list, the length; for keeper_idle, 1
+** if all agents are asleep or done.
+*/
+
+/* The number with which the call was refused, or 0. */
+static inline unsigned keeper_refusal(uint64_t answer) { return (unsigned)(answer & 255); }
+
+/* The offset at which keeper_load refused the file. */
+static inline size_t keeper_offset(uint64_t answer) { return (size_t)(answer >> 8); }
+
+/* The word that keeper_step answers. */
+static inline unsigned keeper_word(uint64_t answer) { return (unsigned)(answer >> 8 & 255); }
+
+/* How many agents the step woke. */
+static inline unsigned keeper_woken(uint64_t answer) { return (unsigned)(answer >> 16 & 255); }
+
+/* The length of the listing that keeper_list wrote. */
+static inline size_t keeper_length(uint64_t answer) { return (size_t)(answer >> 8); }
+
+/* 1 if keeper_idle found all agents asleep or done, else 0. */
+static inline int keeper_all_rest(uint64_t answer) { return (int)(answer >> 8 & 1); }
+
+/* The word's name, as `walk` prints it; "unknown" for a number that is no word. */
+static inline const char *keeper_word_name(unsigned word)
+{
+    switch (word) {
+    case KEEPER_LOOKED: return "looked";
+    case KEEPER_TOOK: return "took";
+    case KEEPER_HELD: return "held";
+    case KEEPER_BACK: return "back";
+    case KEEPER_SLEPT: return "slept";
+    case KEEPER_LEFT: return "left";
+    case KEEPER_CAME: return "came";
+    case KEEPER_OPENED: return "opened";
+    case KEEPER_ASLEEP: return "asleep";
+    case KEEPER_DONE: return "done";
+    default: return "unknown";
+    }
+}
+
+/* What a refusal's number means; "unknown" for a number that is none. */
+static inline const char *keeper_refusal_text(unsigned refusal)
+{
+    switch (refusal) {
+    case KEEPER_CUT_SHORT: return "cut short: a body incomplete, or no end record";
+    case KEEPER_UNKNOWN_KIND: return "unknown kind, not 1 to 4";
+    case KEEPER_TOO_LARGE: return "number too large, or place number 0";
+    case KEEPER_GIVEN_TWICE: return "number given twice";
+    case KEEPER_NOT_YET_GIVEN: return "not yet given";
+    case KEEPER_NAME_ZERO: return "name 0 in a place or action";
+    case KEEPER_ACTION_KIND: return "action kind not 1 to 3";
+    case KEEPER_SEVENTEENTH_ACTION: return "seventeenth action";
+    case KEEPER_AFTER_THE_END: return "bytes after the end record";
+    case KEEPER_UNSOUND: return "unsound table";
+    case KEEPER_NO_SUCH_AGENT: return "no such agent";
+    case KEEPER_LISTING_TOO_LONG: return "listing longer than the buffer";
+    default: return "unknown";
+    }
+}
+
+#undef KEEPER_ASSERT
+
+#ifdef __cplusplus
+}
+#endif
+
+#endif

@@ -1,0 +1,79 @@
+//! The moves that the ambient calculus permits and what each makes of the tree.
+
+use crate::cell::{Action, Cell, Kind, Places};
+use std::collections::BTreeMap;
+
+/// A tree as the calculus sees it: each place's name and where it stands (the floor nowhere), each agent's home and unused actions.
+#[derive(Clone, PartialEq, Eq, Debug)]
+pub struct Tree {
+    pub places: BTreeMap<u8, (u16, Option<u8>)>,
+    pub agents: BTreeMap<u8, (u8, Vec<Action>)>,
+}
+
+/// A move of an agent's next action: `with` is the place entered, the place left, or the place opened.
+#[derive(Clone, Copy, PartialEq, Eq, Debug)]
+pub struct Move {
+    pub agent: u8,
+    pub kind: Kind,
+    pub with: u8,
+}
+
+impl Tree {
+    /// The tree of a cell: "A place on its way counts as arrived and its move as made."
+    pub fn of(cell: &Cell) -> Tree {
+        let agents = cell.agents.iter().map(|(&number, agent)| (number, (agent.home, agent.unused.clone()))).collect();
+        Tree { places: standing(&cell.places), agents }
+    }
+}
+
+/// Each place's name and its parent, "the destination for a place on its way".
+pub(crate) fn standing(places: &Places) -> BTreeMap<u8, (u16, Option<u8>)> {
+    places.iter().map(|(&number, place)| (number, (place.name, place.around()))).collect()
+}
+
+/// "Travelling or not, the calculus permits enter n if another place named n stands beside the agent's own, exit n if its own stands in
+/// a place named n, open n if a place named n stands in its own; only an agent's next action counts."
+pub fn permitted(tree: &Tree) -> Vec<Move> {
+    let mut moves = Vec::new();
+    for (&agent, (home, unused)) in &tree.agents {
+        let Some(action) = unused.first() else { continue };
+        let around = tree.places[home].1;
+        for (&with, &(name, stands)) in &tree.places {
+            let fits = match action.kind {
+                Kind::Enter => with != *home && stands == around && around.is_some(),
+                Kind::Exit => around == Some(with),
+                Kind::Open => stands == Some(*home),
+            };
+            if fits && name == action.name {
+                moves.push(Move { agent, kind: action.kind, with });
+            }
+        }
+    }
+    moves
+}
+
+/// Red Enter, Red Exit and Red Open: the tree after the move, its action used up.
+pub fn make(tree: &Tree, made: Move) -> Tree {
+    let mut after = tree.clone();
+    let agent = after.agents.get_mut(&made.agent).expect("the move's agent");
+    let home = agent.0;
+    agent.1.remove(0);
+    match made.kind {
+        Kind::Enter => after.places.get_mut(&home).expect("a home is in use").1 = Some(made.with),
+        Kind::Exit => after.places.get_mut(&home).expect("a home is in use").1 = tree.places[&made.with].1,
+        Kind::Open => {
+            after.places.remove(&made.with);
+            for (_, stands) in after.places.values_mut() {
+                if *stands == Some(made.with) {
+                    *stands = Some(home);
+                }
+            }
+            for (lives, _) in after.agents.values_mut() {
+                if *lives == made.with {
+                    *lives = home;
+                }
+            }
+        }
+    }
+    after
+}

@@ -1,0 +1,131 @@
+//! What a cell is: "The cell" of document 01.
+
+use std::collections::BTreeMap;
+
+/// "An action is a kind (1 enter, 2 exit, 3 open)".
+#[derive(Clone, Copy, PartialEq, Eq, Debug)]
+pub enum Kind {
+    Enter,
+    Exit,
+    Open,
+}
+
+/// "An action is a kind .. and a name."
+#[derive(Clone, Copy, PartialEq, Eq, Debug)]
+pub struct Action {
+    pub kind: Kind,
+    pub name: u16,
+}
+
+/// "A place other than the floor is linked to a parent or on its way to a destination."
+#[derive(Clone, Copy, PartialEq, Eq, Debug)]
+pub enum Stands {
+    TheFloor,
+    Linked(u8),
+    OnItsWay(u8),
+}
+
+/// A place without its lock: its name and where it stands.
+#[derive(Clone, Copy, PartialEq, Eq, Debug)]
+pub struct Place {
+    pub name: u16,
+    pub stands: Stands,
+}
+
+/// The places in use, by number.
+pub type Places = BTreeMap<u8, Place>;
+
+/// "An agent .. lives in one place, and carries a row of sixteen actions at most." What it remembers and has chosen is there only at
+/// the stages that use it.
+#[derive(Clone, PartialEq, Eq, Debug)]
+pub struct Agent {
+    pub home: u8,
+    pub stage: u8,
+    pub remembered: Option<u8>,
+    pub chosen: Option<u8>,
+    pub unused: Vec<Action>,
+}
+
+/// The places, for each held lock its holder, and the agents.
+#[derive(Clone, PartialEq, Eq, Debug)]
+pub struct Cell {
+    pub places: Places,
+    pub locks: BTreeMap<u8, u8>,
+    pub agents: BTreeMap<u8, Agent>,
+}
+
+impl Kind {
+    /// The kind with this number: "1 enter, 2 exit, 3 open".
+    pub fn of(number: u8) -> Option<Kind> {
+        match number {
+            1 => Some(Kind::Enter),
+            2 => Some(Kind::Exit),
+            3 => Some(Kind::Open),
+            _ => None,
+        }
+    }
+
+    /// The number of this kind: "1 enter, 2 exit, 3 open".
+    pub fn number(self) -> u8 {
+        match self {
+            Kind::Enter => 1,
+            Kind::Exit => 2,
+            Kind::Open => 3,
+        }
+    }
+}
+
+impl Place {
+    /// The parent that the place is linked to, if it is linked.
+    pub fn linked_to(&self) -> Option<u8> {
+        match self.stands {
+            Stands::Linked(parent) => Some(parent),
+            _ => None,
+        }
+    }
+
+    /// The destination that the place is on its way to, if it is on its way.
+    pub fn on_its_way_to(&self) -> Option<u8> {
+        match self.stands {
+            Stands::OnItsWay(destination) => Some(destination),
+            _ => None,
+        }
+    }
+
+    /// The parent, or "the destination for a place on its way"; the floor has none.
+    pub fn around(&self) -> Option<u8> {
+        self.linked_to().or(self.on_its_way_to())
+    }
+}
+
+impl Cell {
+    /// "A load starts from a bare floor": "Place 0 is the floor: name 0, no parent".
+    pub fn bare() -> Cell {
+        let floor = Place { name: 0, stands: Stands::TheFloor };
+        Cell { places: BTreeMap::from([(0, floor)]), locks: BTreeMap::new(), agents: BTreeMap::new() }
+    }
+
+    /// "A cell is settled when no lock is held and nothing is on its way."
+    pub fn settled(&self) -> bool {
+        self.locks.is_empty() && self.places.values().all(|place| place.on_its_way_to().is_none())
+    }
+
+    /// "whether all agents are asleep or done": 7 and 8 are the stages at which a step call answers that word.
+    pub fn idle(&self) -> bool {
+        self.agents.values().all(|agent| agent.stage == 7 || agent.stage == 8)
+    }
+
+    /// "It is one tree when following parents or destinations leads every place to the floor."
+    pub fn one_tree(&self) -> bool {
+        self.places.keys().all(|&start| {
+            let mut at = start;
+            for _ in 0..self.places.len() {
+                match self.places.get(&at).and_then(Place::around) {
+                    Some(around) => at = around,
+                    None => break,
+                }
+            }
+            at == 0
+        })
+    }
+}

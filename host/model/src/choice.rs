@@ -1,0 +1,38 @@
+//! When an action fires and which place it chooses, for the cell and for the plain tree alike.
+
+use crate::cell::{Action, Kind, Places};
+
+/// The places that an enter or open of an agent with this home can choose under p: "Enter n fires if another place linked to p is
+/// named n." "Open n fires if a place linked to p is named n and nothing is on its way to it."
+pub fn qualifying(places: &Places, home: u8, p: u8, action: Action) -> Vec<u8> {
+    let mut found = Vec::new();
+    for (&number, place) in places {
+        if place.linked_to() != Some(p) || place.name != action.name {
+            continue;
+        }
+        let qualifies = match action.kind {
+            Kind::Enter => number != home,
+            Kind::Open => places.values().all(|other| other.on_its_way_to() != Some(number)),
+            Kind::Exit => false,
+        };
+        if qualifies {
+            found.push(number);
+        }
+    }
+    found
+}
+
+/// "Enter and open choose the wished place if it qualifies, else the lowest qualifying number. Other wishes are passed over."
+pub fn choose(places: &Places, home: u8, p: u8, action: Action, wish: u8) -> Option<u8> {
+    let found = qualifying(places, home, p, action);
+    if found.contains(&wish) {
+        Some(wish)
+    } else {
+        found.first().copied()
+    }
+}
+
+/// "Exit n fires if p is named n and p is linked."
+pub fn can_exit(places: &Places, p: u8, name: u16) -> bool {
+    places[&p].name == name && places[&p].linked_to().is_some()
+}

@@ -1,0 +1,104 @@
+//! The cell file: "One byte of kind, then a body whose length the kind fixes. Two-byte numbers have the low byte first."
+
+use crate::cell::{Action, Agent, Cell, Kind, Place, Stands};
+use crate::{ACTION_KIND, AFTER_THE_END, CUT_SHORT, GIVEN_TWICE, NAME_ZERO, NOT_YET_GIVEN, SEVENTEENTH_ACTION, TOO_LARGE, UNKNOWN_KIND};
+
+/// A refused load "answers the number and the byte offset of the record".
+#[derive(Clone, Copy, PartialEq, Eq, Debug)]
+pub struct Refused {
+    pub number: u8,
+    pub offset: usize,
+}
+
+/// "A load starts from a bare floor"; "the first faulty record decides"; the offset is "for a missing end, the file's length; for 9,
+/// the first byte after the end".
+pub fn load(file: &[u8]) -> Result<Cell, Refused> {
+    let mut cell = Cell::bare();
+    let mut offset = 0;
+    loop {
+        let refused = |number| Refused { number, offset };
+        let kind = *file.get(offset).ok_or(refused(CUT_SHORT))?;
+        let length = body_length(kind).ok_or(refused(UNKNOWN_KIND))?;
+        let next = offset + 1 + length;
+        let body = file.get(offset + 1..next).ok_or(refused(CUT_SHORT))?;
+        match kind {
+            1 => place(&mut cell, body).map_err(refused)?,
+            2 => agent(&mut cell, body).map_err(refused)?,
+            3 => action(&mut cell, body).map_err(refused)?,
+            _ if next < file.len() => return Err(Refused { number: AFTER_THE_END, offset: next }),
+            _ => return Ok(cell),
+        }
+        offset = next;
+    }
+}
+
+/// The length of a body, from the table of kinds; "unknown kind, not 1 to 4" has none.
+fn body_length(kind: u8) -> Option<usize> {
+    match kind {
+        1 => Some(4),
+        2 => Some(2),
+        3 => Some(4),
+        4 => Some(0),
+        _ => None,
+    }
+}
+
+/// "Two-byte numbers have the low byte first."
+fn two_bytes(low: u8, high: u8) -> u16 {
+    low as u16 + 256 * high as u16
+}
+
+/// "1 place | number, parent, name (2 bytes)": "Place numbers in records are 1 to 63; parents .. 0 to 63. A parent .. must have been
+/// given earlier (the floor always is)."
+fn place(cell: &mut Cell, body: &[u8]) -> Result<(), u8> {
+    let (number, parent, name) = (body[0], body[1], two_bytes(body[2], body[3]));
+    if number == 0 || number > 63 || parent > 63 {
+        return Err(TOO_LARGE);
+    }
+    if cell.places.contains_key(&number) {
+        return Err(GIVEN_TWICE);
+    }
+    if !cell.places.contains_key(&parent) {
+        return Err(NOT_YET_GIVEN);
+    }
+    if name == 0 {
+        return Err(NAME_ZERO);
+    }
+    cell.places.insert(number, Place { name, stands: Stands::Linked(parent) });
+    Ok(())
+}
+
+/// "2 agent | number, place it lives in"; "an agent loaded without actions is at 8".
+fn agent(cell: &mut Cell, body: &[u8]) -> Result<(), u8> {
+    let (number, home) = (body[0], body[1]);
+    if number > 63 || home > 63 {
+        return Err(TOO_LARGE);
+    }
+    if cell.agents.contains_key(&number) {
+        return Err(GIVEN_TWICE);
+    }
+    if !cell.places.contains_key(&home) {
+        return Err(NOT_YET_GIVEN);
+    }
+    cell.agents.insert(number, Agent { home, stage: 8, remembered: None, chosen: None, unused: Vec::new() });
+    Ok(())
+}
+
+/// "3 action | agent, action kind, name (2 bytes), put after that agent's earlier ones"; an agent "loaded with some at 0".
+fn action(cell: &mut Cell, body: &[u8]) -> Result<(), u8> {
+    let (number, kind, name) = (body[0], body[1], two_bytes(body[2], body[3]));
+    if number > 63 {
+        return Err(TOO_LARGE);
+    }
+    let agent = cell.agents.get_mut(&number).ok_or(NOT_YET_GIVEN)?;
+    let kind = Kind::of(kind).ok_or(ACTION_KIND)?;
+    if name == 0 {
+        return Err(NAME_ZERO);
+    }
+    if agent.unused.len() == 16 {
+        return Err(SEVENTEENTH_ACTION);
+    }
+    agent.unused.push(Action { kind, name });
+    agent.stage = 0;
+    Ok(())
+}

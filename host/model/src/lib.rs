@@ -1,0 +1,53 @@
+//! The cell keeper once more, written from document 01 alone, in plain vectors and maps.
+//!
+//! It serves one purpose: the library is compared with it, call by call. So it follows the paper's sentences one after another, is
+//! slow where slow is simpler, and shares nothing with the library. The sentence that a function stands for is quoted above it.
+
+mod calculus;
+mod cell;
+mod choice;
+mod file;
+mod listing;
+mod plain;
+mod sound;
+mod step;
+mod table;
+mod term;
+mod walk;
+
+pub use calculus::{make, permitted, Move, Tree};
+pub use cell::{Action, Agent, Cell, Kind, Place, Places, Stands};
+pub use choice::{can_exit, choose, qualifying};
+pub use file::{load, Refused};
+pub use listing::listing;
+pub use plain::Plain;
+pub use sound::{holds, sound};
+pub use step::{step, Stepped, Word};
+pub use table::{ActionRecord, AgentRecord, PlaceRecord, Table, SIZE};
+pub use term::file_of;
+pub use walk::walk;
+
+/// "cut short: a body incomplete, or no end record"
+pub const CUT_SHORT: u8 = 1;
+/// "unknown kind, not 1 to 4"
+pub const UNKNOWN_KIND: u8 = 2;
+/// "number too large, or place number 0"
+pub const TOO_LARGE: u8 = 3;
+/// "number given twice"
+pub const GIVEN_TWICE: u8 = 4;
+/// "not yet given"
+pub const NOT_YET_GIVEN: u8 = 5;
+/// "name 0 in a place or action"
+pub const NAME_ZERO: u8 = 6;
+/// "action kind not 1 to 3"
+pub const ACTION_KIND: u8 = 7;
+/// "seventeenth action"
+pub const SEVENTEENTH_ACTION: u8 = 8;
+/// "bytes after the end record"
+pub const AFTER_THE_END: u8 = 9;
+/// "unsound table"
+pub const UNSOUND: u8 = 10;
+/// "no such agent"
+pub const NO_SUCH_AGENT: u8 = 11;
+/// "listing longer than the buffer"
+pub const LISTING_TOO_LONG: u8 = 12;

@@ -1,0 +1,47 @@
+//! The listing: "A term, in ASCII: a place writes its contents and contents write places."
+
+use crate::cell::{Agent, Cell, Kind};
+
+/// The listing of a cell: the floor's contents; "An empty floor is `0`."
+pub fn listing(cell: &Cell) -> String {
+    let text = contents(cell, 0);
+    if text.is_empty() {
+        "0".to_string()
+    } else {
+        text
+    }
+}
+
+/// "Contents are the agents with unused actions by number, then places by number, joined by ` | `." "A place on its way stands in its
+/// destination."
+fn contents(cell: &Cell, number: u8) -> String {
+    let mut parts = Vec::new();
+    for agent in cell.agents.values() {
+        if agent.home == number && !agent.unused.is_empty() {
+            parts.push(actions(agent));
+        }
+    }
+    for (&inner, place) in &cell.places {
+        if place.around() == Some(number) {
+            parts.push(format!("{}[{}]", place.name, contents(cell, inner)));
+        }
+    }
+    parts.join(" | ")
+}
+
+/// "An agent is its unused actions, such as `enter 9.exit 9`."
+fn actions(agent: &Agent) -> String {
+    let mut text = String::new();
+    for action in &agent.unused {
+        if !text.is_empty() {
+            text.push('.');
+        }
+        text.push_str(match action.kind {
+            Kind::Enter => "enter ",
+            Kind::Exit => "exit ",
+            Kind::Open => "open ",
+        });
+        text.push_str(&action.name.to_string());
+    }
+    text
+}

@@ -1,0 +1,124 @@
+//! The plain tree: "It is kept beside the cell from each step call's agent, wish and answered word, and from nothing else."
+
+use crate::calculus::Tree;
+use crate::cell::{Action, Cell, Kind, Places, Stands};
+use crate::choice::choose;
+use crate::step::Word;
+use std::collections::BTreeMap;
+
+/// "It knows each place's name and where it stands, each agent's home and unused actions, which places travel, and a pick for each
+/// agent." A travelling place is kept as on its way to where it stands, any other as linked there.
+#[derive(Clone, PartialEq, Eq, Debug)]
+pub struct Plain {
+    pub places: Places,
+    pub agents: BTreeMap<u8, (u8, Vec<Action>)>,
+    pub picks: BTreeMap<u8, u8>,
+}
+
+impl Plain {
+    /// "It starts as the file says, with nothing travelling and no picks": the cell is the one just loaded.
+    pub fn of_load(cell: &Cell) -> Plain {
+        let agents = cell.agents.iter().map(|(&number, agent)| (number, (agent.home, agent.unused.clone()))).collect();
+        Plain { places: cell.places.clone(), agents, picks: BTreeMap::new() }
+    }
+
+    /// One step call that was not refused; "Any other word, or a refusal: nothing."
+    pub fn follow(&mut self, agent: u8, wish: u8, word: Word) {
+        match word {
+            Word::Took => self.took(agent, wish),
+            Word::Left => self.left(agent),
+            Word::Opened => self.opened(agent),
+            Word::Came => self.came(agent),
+            _ => {}
+        }
+    }
+
+    /// "took: the agent's pick becomes the place that stage 2 would choose here with this wish, if any. There p is where its own place
+    /// stands (open: its own place)".
+    fn took(&mut self, agent: u8, wish: u8) {
+        match self.pick(agent, wish) {
+            Some(pick) => self.picks.insert(agent, pick),
+            None => self.picks.remove(&agent),
+        };
+    }
+
+    /// The place that stage 2 would choose here with this wish, if any.
+    fn pick(&self, agent: u8, wish: u8) -> Option<u8> {
+        let (home, unused) = &self.agents[&agent];
+        let action = *unused.first()?;
+        let p = match action.kind {
+            Kind::Open => *home,
+            Kind::Enter | Kind::Exit => self.places[home].around()?,
+        };
+        choose(&self.places, *home, p, action, wish)
+    }
+
+    /// "left: its own place now stands in the pick (enter), or where the place around it stands (exit), and travels; the action is used
+    /// up."
+    fn left(&mut self, agent: u8) {
+        let home = self.agents[&agent].0;
+        let action = self.use_up(agent);
+        let stands = match action.kind {
+            Kind::Enter => self.picks[&agent],
+            _ => {
+                let around = self.places[&home].around().expect("an exit leaves a place");
+                self.places[&around].around().expect("an exit leaves a place that stands in another")
+            }
+        };
+        self.places.get_mut(&home).expect("a home is in use").stands = Stands::OnItsWay(stands);
+    }
+
+    /// "opened: places and agents in the pick go to its own place, the pick's number becomes unused; the action is used up."
+    fn opened(&mut self, agent: u8) {
+        let own = self.agents[&agent].0;
+        let pick = self.picks[&agent];
+        self.use_up(agent);
+        for place in self.places.values_mut() {
+            place.stands = match place.stands {
+                Stands::Linked(parent) if parent == pick => Stands::Linked(own),
+                Stands::OnItsWay(destination) if destination == pick => Stands::OnItsWay(own),
+                stands => stands,
+            };
+        }
+        for (home, _) in self.agents.values_mut() {
+            if *home == pick {
+                *home = own;
+            }
+        }
+        self.places.remove(&pick);
+    }
+
+    /// "came: its own place travels no more."
+    fn came(&mut self, agent: u8) {
+        let home = self.agents[&agent].0;
+        let place = self.places.get_mut(&home).expect("a home is in use");
+        place.stands = Stands::Linked(place.around().expect("the floor does not travel"));
+    }
+
+    /// "the action is used up".
+    fn use_up(&mut self, agent: u8) -> Action {
+        self.agents.get_mut(&agent).expect("the agent is in use").1.remove(0)
+    }
+
+    /// The tree as the calculus sees it, "Travelling or not".
+    pub fn tree(&self) -> Tree {
+        Tree { places: crate::calculus::standing(&self.places), agents: self.agents.clone() }
+    }
+
+    /// "The cell equals the plain tree when the same place numbers are in use, with the same names and parents (the destination for a
+    /// place on its way), and each agent has the same home and the same unused actions in order."
+    pub fn equals(&self, cell: &Cell) -> bool {
+        self.places.len() == cell.places.len()
+            && self.agents.len() == cell.agents.len()
+            && self
+                .places
+                .iter()
+                .zip(&cell.places)
+                .all(|((mine, place), (theirs, other))| mine == theirs && place.name == other.name && place.around() == other.around())
+            && self
+                .agents
+                .iter()
+                .zip(&cell.agents)
+                .all(|((mine, (home, unused)), (theirs, agent))| mine == theirs && *home == agent.home && *unused == agent.unused)
+    }
+}

@@ -1,0 +1,76 @@
+//! Cell files from terms, so that examples can be written as the listing writes them.
+
+/// The cell file of a term such as `7[enter 9] | 9[exit 7]` (`0` is the empty floor): places are numbered from 1 and agents from 0, in
+/// the order in which they appear.
+pub fn file_of(term: &str) -> Vec<u8> {
+    let mut writer = Writer { text: term.as_bytes(), at: 0, file: Vec::new(), places: 0, agents: 0 };
+    if term != "0" {
+        writer.contents(0);
+    }
+    writer.file.push(4);
+    writer.file
+}
+
+/// The term, how far it is read, and the file so far.
+struct Writer<'a> {
+    text: &'a [u8],
+    at: usize,
+    file: Vec<u8>,
+    places: u8,
+    agents: u8,
+}
+
+impl Writer<'_> {
+    /// Contents of a place, up to the closing bracket or the end of the term.
+    fn contents(&mut self, parent: u8) {
+        while self.at < self.text.len() && self.text[self.at] != b']' {
+            match self.text[self.at] {
+                b' ' | b'|' => self.at += 1,
+                b'0'..=b'9' => self.place(parent),
+                _ => self.agent(parent),
+            }
+        }
+    }
+
+    /// A place: its name, `[`, contents, `]`.
+    fn place(&mut self, parent: u8) {
+        self.places += 1;
+        let number = self.places;
+        let name = self.name();
+        self.file.extend([1, number, parent, name[0], name[1]]);
+        self.at += 1;
+        self.contents(number);
+        self.at += 1;
+    }
+
+    /// An agent: its actions, joined by dots.
+    fn agent(&mut self, home: u8) {
+        let number = self.agents;
+        self.agents += 1;
+        self.file.extend([2, number, home]);
+        loop {
+            let kind = match self.text[self.at..] {
+                [b'e', b'n', ..] => 1,
+                [b'e', b'x', ..] => 2,
+                _ => 3,
+            };
+            self.at += if kind == 1 { "enter ".len() } else { "exit ".len() };
+            let name = self.name();
+            self.file.extend([3, number, kind, name[0], name[1]]);
+            if self.text.get(self.at) != Some(&b'.') {
+                break;
+            }
+            self.at += 1;
+        }
+    }
+
+    /// A decimal name, low byte first.
+    fn name(&mut self) -> [u8; 2] {
+        let mut name: u16 = 0;
+        while let Some(digit @ b'0'..=b'9') = self.text.get(self.at) {
+            name = 10 * name + (digit - b'0') as u16;
+            self.at += 1;
+        }
+        name.to_le_bytes()
+    }
+}

@@ -1,0 +1,169 @@
+//! Each clause of "A table is sound when", broken once; and what soundness does not ask.
+
+use model::{file_of, load, sound, step, ActionRecord, AgentRecord, Cell, PlaceRecord, Stands, Table, SIZE};
+
+/// The table that keeps a cell: unused numbers and fields hold zeros.
+fn table(cell: &Cell) -> Table {
+    let mut table = Table::read(&[0; SIZE]);
+    for (&number, place) in &cell.places {
+        let (parent, way) = match place.stands {
+            Stands::TheFloor => (0, 1),
+            Stands::Linked(parent) => (parent, 0),
+            Stands::OnItsWay(destination) => (destination, 1),
+        };
+        table.places[number as usize] = PlaceRecord { name: place.name, parent, way };
+        table.locks[number as usize] = cell.locks.get(&number).copied().unwrap_or(64);
+        table.used[number as usize] = true;
+    }
+    for (&number, agent) in &cell.agents {
+        let mut actions = [ActionRecord { kind: 0, name: 0 }; 16];
+        for (record, action) in actions.iter_mut().zip(&agent.unused) {
+            *record = ActionRecord { kind: action.kind.number(), name: action.name };
+        }
+        let (remembered, chosen) = (agent.remembered.unwrap_or(0), agent.chosen.unwrap_or(0));
+        let count = agent.unused.len() as u8;
+        table.agents[number as usize] = AgentRecord { home: agent.home, stage: agent.stage, remembered, chosen, next: 0, count, actions };
+        table.given[number as usize] = true;
+    }
+    table
+}
+
+/// The table of a term after steps of these agents.
+fn after(term: &str, agents: &[u8]) -> Table {
+    let mut cell = load(&file_of(term)).expect("the file is accepted");
+    for &agent in agents {
+        step(&mut cell, agent, 255).expect("the agent is there");
+    }
+    let table = table(&cell);
+    assert_eq!(table.cell(), Some(cell));
+    table
+}
+
+/// Whether the table stays sound after this change.
+fn stays(term: &str, agents: &[u8], change: impl Fn(&mut Table)) -> bool {
+    let mut table = after(term, agents);
+    change(&mut table);
+    sound(&table)
+}
+
+/// Place 1 (named 7) and place 3 (named 9) are on the floor, place 2 (named 8) in place 1; agents 0 and 1 live in place 1, agent 2 in 2.
+const CELL: &str = "7[enter 9 | open 8 | 8[exit 7.exit 7]] | 9[]";
+
+#[test]
+fn the_floor() {
+    assert!(!stays(CELL, &[], |t| t.places[0].name = 1));
+    assert!(!stays(CELL, &[], |t| t.places[0].way = 0));
+    assert!(stays(CELL, &[], |t| t.places[0].way = 2));
+    assert!(!stays(CELL, &[], |t| t.places[0].parent = 1));
+    assert!(!stays(CELL, &[], |t| t.used[0] = false));
+    assert!(!sound(&Table::read(&[0; SIZE])));
+}
+
+#[test]
+fn in_use() {
+    assert!(!stays(CELL, &[], |t| t.places[2].parent = 9));
+    assert!(!stays(CELL, &[], |t| t.places[2].parent = 200));
+    assert!(!stays(CELL, &[], |t| t.agents[2].home = 4));
+    assert!(!stays(CELL, &[], |t| t.agents[2].home = 64));
+    assert!(!stays(CELL, &[0], |t| t.agents[0].remembered = 63));
+    assert!(!stays(CELL, &[0, 0, 0], |t| t.agents[0].chosen = 63));
+    assert!(!stays(CELL, &[], |t| t.used[2] = false));
+}
+
+#[test]
+fn in_range() {
+    assert!(!stays(CELL, &[], |t| t.places[3].name = 0));
+    assert!(!stays(CELL, &[], |t| t.agents[0].stage = 9));
+    assert!(!stays(CELL, &[], |t| t.agents[0].actions[0].kind = 4));
+    assert!(!stays(CELL, &[], |t| t.agents[2].actions[1].kind = 0));
+    assert!(!stays(CELL, &[], |t| t.agents[2].actions[1].name = 0));
+    assert!(!stays(CELL, &[], |t| t.agents[0].count = 17));
+    assert!(!stays(CELL, &[], |t| t.agents[0].next = 2));
+}
+
+#[test]
+fn one_tree() {
+    assert!(!stays(CELL, &[], |t| t.places[1].parent = 2));
+    assert!(!stays(CELL, &[], |t| t.places[3].parent = 3));
+}
+
+#[test]
+fn on_its_way() {
+    assert!(!stays(CELL, &[], |t| t.places[3].way = 1));
+    assert!(!stays(CELL, &[0, 0, 0, 0], |t| t.places[1].way = 0));
+    assert!(stays(CELL, &[0, 0, 0, 0], |t| t.places[1].way = 77));
+    assert!(!stays(CELL, &[0, 0, 0, 0], |t| t.agents[1].stage = 4));
+    assert!(!stays(CELL, &[0, 0, 0, 0], |t| t.agents[2].stage = 4));
+}
+
+#[test]
+fn locks() {
+    for holder in [0, 1, 2, 3, 63, 65, 255] {
+        assert!(!stays(CELL, &[], |t| t.locks[2] = holder));
+    }
+    assert!(!stays(CELL, &[0, 0], |t| t.locks[0] = 64));
+    assert!(!stays(CELL, &[0, 0], |t| t.locks[0] = 1));
+    assert!(!stays(CELL, &[0, 0, 0], |t| t.locks[1] = 64));
+    assert!(!stays(CELL, &[1, 1, 1], |t| t.locks[2] = 64));
+    assert!(!stays(CELL, &[0, 0, 0, 0, 0, 0], |t| t.locks[3] = 64));
+    assert!(!stays(CELL, &[0, 0, 2], |t| { (t.agents[2].stage, t.agents[2].remembered) = (2, 0) }));
+}
+
+#[test]
+fn stage_three() {
+    let chosen = |place: u8| move |t: &mut Table| t.agents[0].chosen = place;
+    assert!(!stays(CELL, &[0, 0, 0], chosen(2)));
+    assert!(!stays(CELL, &[0, 0, 0], chosen(0)));
+    assert!(stays(CELL, &[0, 0, 0], chosen(1)), "stage 3 is sound without firing");
+    assert!(stays(CELL, &[0, 0, 0], |t| t.places[3].name = 5), "stage 3 is sound without firing");
+    assert!(!stays(CELL, &[1, 1, 1], |t| t.places[2].parent = 3));
+    assert!(!stays(CELL, &[2, 2, 2], |t| t.places[2].parent = 3));
+}
+
+#[test]
+fn actions_left() {
+    for steps in 0..4 {
+        assert!(!stays(CELL, &vec![0; steps], |t| t.agents[0].next = 1));
+    }
+    assert!(stays(CELL, &[0, 0, 0, 0], |t| t.agents[0].next = t.agents[0].count));
+    assert!(!stays(CELL, &[], |t| t.agents[0].stage = 8));
+    assert!(stays(CELL, &[], |t| (t.agents[0].stage, t.agents[0].next) = (8, 1)));
+}
+
+#[test]
+fn openers() {
+    assert!(!stays(CELL, &[1], |t| t.agents[1].remembered = 0));
+    assert!(stays(CELL, &[0], |t| t.agents[0].remembered = 3), "an enter agent at stage 1 may remember any place in use");
+    assert!(stays(CELL, &[], |t| (t.agents[1].stage, t.agents[1].remembered) = (7, 3)), "a sleeper may sleep on any place in use");
+}
+
+#[test]
+fn what_is_not_asked() {
+    assert!(stays(CELL, &[], |t| t.places[9] = PlaceRecord { name: 0, parent: 200, way: 3 }));
+    assert!(stays(CELL, &[], |t| t.locks[9] = 200));
+    assert!(stays(CELL, &[], |t| t.agents[9].stage = 200));
+    assert!(stays(CELL, &[], |t| t.agents[0].remembered = 200));
+    assert!(stays(CELL, &[0], |t| t.agents[0].chosen = 200));
+    assert!(stays(CELL, &[2, 2, 2], |t| t.agents[2].chosen = 200), "an exit chooses nothing");
+    assert!(stays(CELL, &[], |t| t.agents[0].actions[1].kind = 200));
+    assert!(stays(CELL, &[], |t| {
+        t.agents[2].next = 1;
+        t.agents[2].actions[0].name = 0;
+    }));
+}
+
+#[test]
+fn reading_bytes() {
+    let mut bytes = [0; SIZE];
+    bytes[3] = 1;
+    bytes[256..320].fill(64);
+    bytes[4800..4808].copy_from_slice(&(1u64 | 1 << 63).to_ne_bytes());
+    bytes[4808..4816].copy_from_slice(&(1u64 << 63).to_ne_bytes());
+    bytes[252..254].copy_from_slice(&513u16.to_ne_bytes());
+    let agent = 320 + 63 * 70;
+    bytes[agent..agent + 6].copy_from_slice(&[63, 0, 0, 0, 15, 16]);
+    bytes[agent + 66] = 2;
+    bytes[agent + 68..agent + 70].copy_from_slice(&7u16.to_ne_bytes());
+    let cell = Table::read(&bytes).cell().expect("sound");
+    assert_eq!(model::listing(&cell), "513[exit 7]");
+}

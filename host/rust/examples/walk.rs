@@ -1,0 +1,37 @@
+//! A host: reads a cell file and an order of pairs agent, wish, steps through it, and prints what each step did.
+//!
+//!     walk [CELL [ORDER]]
+//!
+//! The files are `cell` and `order` unless named. An absent file reads as empty; an odd last byte and pairs past the limit are passed over.
+
+use keeper::Cell;
+use std::io::{self, BufWriter, Write};
+
+/// How many pairs of an order are taken.
+const PAIRS: usize = 16_384;
+
+fn main() -> io::Result<()> {
+    let mut names = std::env::args_os().skip(1);
+    let cell = names.next().unwrap_or("cell".into());
+    let order = names.next().unwrap_or("order".into());
+    let file = std::fs::read(cell).unwrap_or_default();
+    let order = std::fs::read(order).unwrap_or_default();
+    walk(&file, &order, &mut BufWriter::new(io::stdout().lock()))
+}
+
+/// Writes the first and the last listing and, between them, a line for each step.
+fn walk(file: &[u8], order: &[u8], out: &mut impl Write) -> io::Result<()> {
+    let mut cell = match Cell::load(file) {
+        Ok(cell) => cell,
+        Err(refused) => return writeln!(out, "refused {} {}", refused.refusal.number(), refused.offset.unwrap_or(0)),
+    };
+    writeln!(out, "start {}", cell.listing().map_err(io::Error::other)?)?;
+    for pair in order.chunks_exact(2).take(PAIRS) {
+        match cell.step(pair[0], pair[1]) {
+            Ok(stepped) => writeln!(out, "{} {} {}", pair[0], stepped.word, stepped.woken)?,
+            Err(refused) => writeln!(out, "{} refused {}", pair[0], refused.refusal.number())?,
+        }
+    }
+    writeln!(out, "end {}", cell.listing().map_err(io::Error::other)?)?;
+    out.flush()
+}

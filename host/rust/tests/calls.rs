@@ -1,0 +1,106 @@
+//! Each call of the crate: what it answers, and that a refusal changes nothing.
+
+use keeper::lent::Lent;
+use keeper::{Cell, Refusal, Refused, Stepped, Word, FILE_LONGEST, LISTING_LONGEST};
+
+/// The paper's cell: `7[enter 9] | 9[exit 7]`.
+const FILE: [u8; 27] = [1, 1, 0, 7, 0, 1, 2, 0, 9, 0, 2, 0, 1, 3, 0, 1, 9, 0, 2, 1, 2, 3, 1, 2, 7, 0, 4];
+
+#[test]
+fn the_worked_example() {
+    use Word::*;
+    let mut cell = Cell::load(&FILE).unwrap();
+    assert_eq!(cell.listing().unwrap(), "7[enter 9] | 9[exit 7]");
+    let agents = [0, 1, 0, 1, 0, 0, 1, 1, 0, 0, 0, 0, 1];
+    let words = [Looked, Looked, Took, Held, Took, Left, Took, Slept, Took, Took, Came, Done, Looked];
+    for (agent, word) in agents.into_iter().zip(words) {
+        let woken = if word == Came { 1 } else { 0 };
+        assert_eq!(cell.step(agent, 255), Ok(Stepped { word, woken }));
+        assert_eq!(cell.check(), Ok(()));
+    }
+    assert_eq!(cell.listing().unwrap(), "9[exit 7 | 7[]]");
+    assert_eq!(cell.idle(), Ok(false));
+}
+
+#[test]
+fn refused_loads_leave_the_cell() {
+    let mut cell = Cell::load(&FILE).unwrap();
+    let before = cell.clone();
+    let refused = |refusal, offset| Err(Refused { refusal, offset: Some(offset) });
+    assert_eq!(cell.reload(&[]), refused(Refusal::CutShort, 0));
+    assert_eq!(cell.reload(&[9]), refused(Refusal::UnknownKind, 0));
+    assert_eq!(cell.reload(&[1, 64, 0, 7, 0, 4]), refused(Refusal::TooLarge, 0));
+    assert_eq!(cell.reload(&[2, 0, 0, 2, 0, 0, 4]), refused(Refusal::GivenTwice, 3));
+    assert_eq!(cell.reload(&[1, 5, 5, 7, 0, 4]), refused(Refusal::NotYetGiven, 0));
+    assert_eq!(cell.reload(&[1, 1, 0, 0, 0, 4]), refused(Refusal::NameZero, 0));
+    assert_eq!(cell.reload(&[2, 0, 0, 3, 0, 4, 7, 0, 4]), refused(Refusal::ActionKind, 3));
+    let seventeen = [[2, 0, 0].as_slice(), &[3, 0, 1, 7, 0].repeat(17), &[4]].concat();
+    assert_eq!(cell.reload(&seventeen), refused(Refusal::SeventeenthAction, 83));
+    assert_eq!(cell.reload(&[4, 4]), refused(Refusal::AfterTheEnd, 1));
+    assert!(cell.lent() == before.lent());
+    assert_eq!(cell.reload(&[4]), Ok(()));
+    assert_eq!(cell.listing().unwrap(), "0");
+}
+
+#[test]
+fn refused_steps_and_listings() {
+    let mut cell = Cell::load(&FILE).unwrap();
+    let before = cell.clone();
+    for agent in [2, 63, 64, 255] {
+        assert_eq!(cell.step(agent, 0), Err(Refused { refusal: Refusal::NoSuchAgent, offset: None }));
+    }
+    let mut text = [b'.'; 30];
+    assert_eq!(cell.list(&mut text[..21]), Err(Refused { refusal: Refusal::ListingTooLong, offset: None }));
+    assert_eq!(text, [b'.'; 30]);
+    assert_eq!(cell.list(&mut text[..22]), Ok(22));
+    assert_eq!(&text, b"7[enter 9] | 9[exit 7]........");
+    assert!(cell.lent() == before.lent());
+}
+
+#[test]
+fn an_unsound_table() {
+    let mut cell = Cell::from_lent(Lent::zeros());
+    let unsound = Refused { refusal: Refusal::Unsound, offset: None };
+    assert_eq!(cell.check(), Err(unsound));
+    assert_eq!(cell.idle(), Err(unsound));
+    assert_eq!(cell.step(64, 0), Err(unsound));
+    assert_eq!(cell.list(&mut []), Err(unsound));
+    assert!(*cell.lent() == Lent::zeros());
+    assert_eq!(cell.reload(&FILE), Ok(()));
+    assert_eq!(cell.listing().unwrap(), "7[enter 9] | 9[exit 7]");
+}
+
+#[test]
+fn an_idle_cell() {
+    assert_eq!(Cell::bare().idle(), Ok(true));
+    assert_eq!(Cell::bare().listing().unwrap(), "0");
+    assert_eq!(Cell::load(&[2, 5, 0, 4]).unwrap().idle(), Ok(true));
+    assert_eq!(Cell::load(&[2, 5, 0, 4]).unwrap().step(5, 0), Ok(Stepped { word: Word::Done, woken: 0 }));
+}
+
+#[test]
+fn the_longest() {
+    let mut file = Vec::new();
+    for place in 1..64 {
+        file.extend([1, place, 0, 255, 255]);
+    }
+    for agent in 0..64 {
+        file.extend([2, agent, 0]);
+        file.extend([3, agent, 1, 255, 255].repeat(16));
+    }
+    file.push(4);
+    assert_eq!(file.len(), FILE_LONGEST);
+    assert_eq!(Cell::load(&file).unwrap().listing().unwrap().len(), LISTING_LONGEST);
+}
+
+#[test]
+fn texts() {
+    assert_eq!(Word::Looked.to_string(), "looked");
+    assert_eq!(Refusal::NoSuchAgent.to_string(), "no such agent");
+    let refused = Cell::load(&[4, 4]).unwrap_err();
+    assert_eq!(refused.to_string(), "refused with 9: bytes after the end record, at byte 1");
+    let numbers: Vec<u8> = Refusal::ALL.iter().map(|refusal| refusal.number()).collect();
+    assert_eq!(numbers, (1..=12).collect::<Vec<u8>>());
+    let error: Box<dyn std::error::Error> = Box::new(refused);
+    assert!(error.source().is_none());
+}
