@@ -46,7 +46,7 @@ fn stage_step(a: Agent, ps: [Place; 64], used: Set, wish: u8) -> Change
         2 => stages::hold(a, ps, used, wish),
         3 => stages::act(a, ps, used),
         4..=6 => stages::travel(a, ps, used),
-        _ => stages::idle(a, s),
+        7..=255 => stages::idle(a, s),
     }
 }
 
