@@ -13,7 +13,8 @@ from drawing import EDGE, INK, SOFT, WAY_EDGE, Svg
 GRID = "#dddddd"
 PANEL_W, PANEL_H, LEFT, TOP, BETWEEN, RIGHT, BOTTOM = 330, 300, 84, 64, 150, 84, 66
 PANELS = [("places", "places in use, with 8 agents"), ("agents", "agents in use, with 12 places")]
-LINES = [("keeper", WAY_EDGE), ("peer", EDGE)]
+LINES = [("keeper", WAY_EDGE), ("plain", EDGE), ("tuned", SOFT)]
+APART = 18
 
 
 def round_step(top):
@@ -24,6 +25,18 @@ def round_step(top):
             if top <= 6 * step * factor:
                 return step * factor
         step *= 10
+
+
+def spread(ends):
+    """The heights of the names at the right end: those of the lines, moved apart where two are too near."""
+    heights = list(ends)
+    order = sorted(range(len(ends)), key=lambda i: ends[i])
+    for _ in range(20):
+        for above, below in zip(order, order[1:]):
+            near = max(0, APART - (heights[below] - heights[above])) / 2
+            heights[above] -= near
+            heights[below] += near
+    return heights
 
 
 def panel(svg, rows, across, title, x, top, step):
@@ -38,12 +51,11 @@ def panel(svg, rows, across, title, x, top, step):
     for value in range(0, 65, 16):
         svg.text(x + PANEL_W * value / 64, TOP + PANEL_H + 20, str(value), 13, SOFT, anchor="middle")
     svg.text(x + PANEL_W / 2, TOP + PANEL_H + 46, title, 14, anchor="middle")
-    ends = [at(rows[-1], column)[1] for column, _ in LINES]
-    apart = max(0, 18 - abs(ends[0] - ends[1])) / 2
-    for (column, colour), end, other in zip(LINES, ends, reversed(ends)):
+    names = spread([at(rows[-1], column)[1] for column, _ in LINES])
+    for (column, colour), y in zip(LINES, names):
         points = [at(row, column) for row in rows]
         svg.path(points, colour, 2.6, head=False)
-        svg.text(points[-1][0] + 8, end + 5 + (apart if end > other else -apart), column, 14, colour, bold=True)
+        svg.text(points[-1][0] + 8, y + 5, column, 14, colour, bold=True)
 
 
 def main():
@@ -52,7 +64,7 @@ def main():
     step = round_step(highest)
     top = -(-highest // step) * step
     svg = Svg(LEFT + 2 * PANEL_W + BETWEEN + RIGHT, TOP + PANEL_H + BOTTOM, "The cost of a step against the size of the cell",
-              "Two panels. Instructions a step call, for the proved keeper and for the peer, against the places in use and against "
+              "Two panels. Instructions a step call, for the proved keeper, the plain and the tuned peer, against the places in use and against "
               "the agents in use. All lines rise nearly evenly.")
     svg.text(20, 32, "Machine instructions a step call, agents with four actions each", 16, bold=True)
     for i, (series, title) in enumerate(PANELS):

@@ -1,4 +1,4 @@
-//! The cell as a host lends it, one struct for both keepers, and sets of numbers below 64 as words.
+//! The cell as a host lends it, one struct for all keepers, and sets of numbers below 64 as words.
 
 /// No place and no agent; the lock of a place that is free.
 pub const NONE: u8 = 64;

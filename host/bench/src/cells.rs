@@ -2,7 +2,7 @@
 
 use crate::cell::{members, Action, Cell};
 use crate::keeper::Keeper;
-use crate::peer::Peer;
+use crate::tuned::Tuned;
 
 /// Pseudo-random numbers from a fixed seed, so that every run measures the same.
 pub struct Random(pub u64);
@@ -67,7 +67,7 @@ impl Sketch {
     /// The cell that its file gives.
     pub fn cell(&self) -> Cell {
         let mut cell = Cell::BARE;
-        assert_eq!(Peer::load(&mut cell, &self.file()), 0, "the file is accepted");
+        assert_eq!(Tuned::load(&mut cell, &self.file()), 0, "the file is accepted");
         cell
     }
 }
@@ -154,7 +154,7 @@ pub fn busy(start: &Cell, most: usize) -> Vec<(u8, u8)> {
         let among = if random.below(10) == 0 { &given } else { &restless };
         let agent = random.one_of(among);
         let wish = random.below(80) as u8;
-        Peer::step(&mut cell, agent, wish);
+        Tuned::step(&mut cell, agent, wish);
         order.push((agent, wish));
     }
 }
@@ -167,7 +167,7 @@ pub fn at_rest(start: &Cell, calls: usize) -> (Cell, Vec<(u8, u8)>) {
     loop {
         let before = cell;
         for x in members(start.given).filter(|&x| holder != Some(x)).collect::<Vec<_>>() {
-            Peer::step(&mut cell, x, 255);
+            Tuned::step(&mut cell, x, 255);
             if holder.is_none() && cell.agents[x as usize].stage == 2 {
                 holder = Some(x);
                 break;

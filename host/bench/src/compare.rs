@@ -1,10 +1,11 @@
-//! Both keepers side by side: the same answers, cells and buffers, or the benchmark stops.
+//! The three keepers side by side: the same answers, cells and buffers, or the benchmark stops.
 
 use crate::cell::Cell;
 use crate::cells::{random, Random};
 use crate::jobs::{Job, Room, Workload};
 use crate::keeper::{Keeper, Proved};
-use crate::peer::Peer;
+use crate::plain::Plain;
+use crate::tuned::Tuned;
 
 /// Compares on every workload and on random cells; answers how many calls were compared, or the first difference.
 pub fn compare(workloads: &[Workload], cells: usize) -> Result<usize, String> {
@@ -19,65 +20,70 @@ pub fn compare(workloads: &[Workload], cells: usize) -> Result<usize, String> {
     Ok(calls)
 }
 
-/// The same value from both, or a difference.
-fn same<T: PartialEq>(what: &str, peer: T, keeper: T) -> Result<(), String> {
-    if peer == keeper {
-        Ok(())
-    } else {
-        Err(format!("{what} differ"))
+/// The same value from the plain peer, the tuned peer and the keeper, or a difference.
+fn same<T: PartialEq>(what: &str, [plain, tuned, keeper]: [T; 3]) -> Result<(), String> {
+    match (plain == keeper, tuned == keeper) {
+        (true, true) => Ok(()),
+        (false, true) => Err(format!("{what}: the plain peer differs")),
+        (true, false) => Err(format!("{what}: the tuned peer differs")),
+        (false, false) => Err(format!("{what}: the keeper differs from both peers")),
     }
 }
 
 fn job(job: &Job) -> Result<usize, String> {
     match job {
         Job::Step { start, order } => {
-            let (mut one, mut two) = (**start, **start);
-            order.iter().try_for_each(|&(agent, wish)| step(&mut one, &mut two, agent, wish))?;
+            let mut cells = [**start; 3];
+            order.iter().try_for_each(|&(agent, wish)| step(&mut cells, agent, wish))?;
             Ok(order.len())
         }
         Job::Load { file } => {
-            load(file)?;
-            (0..file.len()).try_for_each(|length| load(&file[..length]))?;
+            (0..=file.len()).try_for_each(|length| load(&file[..length]).map(|_| ()))?;
             Ok(file.len() + 1)
         }
         Job::List { cell, room } => {
-            let length = (Peer::list(cell, &mut vec![0; *room]) >> 8) as usize;
+            let length = (Tuned::list(cell, &mut vec![0; *room]) >> 8) as usize;
             [*room, length, length - 1, 0].into_iter().try_for_each(|room| list(cell, room))?;
             Ok(4)
         }
         Job::Check { cell } | Job::Idle { cell } => asks(cell).map(|_| 2),
         Job::Walk { .. } => {
-            let (mut one, mut two) = (Room::new(), Room::new());
-            same("lengths", job.lap::<Peer>(&mut one), job.lap::<Proved>(&mut two))?;
-            same("texts", one.text, two.text)?;
-            same("cells", one.cell, two.cell).map(|_| 1)
+            let mut rooms = [Room::new(), Room::new(), Room::new()];
+            let [one, two, three] = &mut rooms;
+            same("lengths", [job.lap::<Plain>(one), job.lap::<Tuned>(two), job.lap::<Proved>(three)])?;
+            same("cells", rooms.each_ref().map(|room| room.cell))?;
+            same("texts", rooms.map(|room| room.text)).map(|_| 1)
         }
         Job::Copy { .. } => Ok(0),
     }
 }
 
-fn step(one: &mut Cell, two: &mut Cell, agent: u8, wish: u8) -> Result<(), String> {
-    let (peer, keeper) = (Peer::step(one, agent, wish), Proved::step(two, agent, wish));
-    same(&format!("answers {peer:x} and {keeper:x} of agent {agent} with wish {wish}"), peer, keeper)?;
-    same(&format!("cells after agent {agent} with wish {wish}, answered {peer:x},"), *one, *two)
+fn step(cells: &mut [Cell; 3], agent: u8, wish: u8) -> Result<(), String> {
+    let [one, two, three] = cells;
+    let answers = [Plain::step(one, agent, wish), Tuned::step(two, agent, wish), Proved::step(three, agent, wish)];
+    same(&format!("answers {answers:x?} of agent {agent} with wish {wish}"), answers)?;
+    same(&format!("cells after agent {agent} with wish {wish}, answered {:x}", answers[0]), *cells)
 }
 
-fn load(file: &[u8]) -> Result<(), String> {
-    let (mut one, mut two) = (Cell::BARE, Cell::BARE);
-    let (peer, keeper) = (Peer::load(&mut one, file), Proved::load(&mut two, file));
-    same(&format!("answers {peer:x} and {keeper:x} of a load"), peer, keeper)?;
-    same("loaded cells", one, two)
+/// A load of a file into a bare floor by each; answers the cells.
+fn load(file: &[u8]) -> Result<[Cell; 3], String> {
+    let mut cells = [Cell::BARE; 3];
+    let [one, two, three] = &mut cells;
+    let answers = [Plain::load(one, file), Tuned::load(two, file), Proved::load(three, file)];
+    same(&format!("answers {answers:x?} of a load"), answers)?;
+    same("loaded cells", cells).map(|_| cells)
 }
 
 fn list(cell: &Cell, room: usize) -> Result<(), String> {
-    let (mut one, mut two) = (vec![b'#'; room], vec![b'#'; room]);
-    same("answers of a listing", Peer::list(cell, &mut one), Proved::list(cell, &mut two))?;
-    same("listings", one, two)
+    let mut texts = [vec![b'#'; room], vec![b'#'; room], vec![b'#'; room]];
+    let [one, two, three] = &mut texts;
+    same("answers of a listing", [Plain::list(cell, one), Tuned::list(cell, two), Proved::list(cell, three)])?;
+    same("listings", texts)
 }
 
 fn asks(cell: &Cell) -> Result<(), String> {
-    same("answers of a check", Peer::check(cell), Proved::check(cell))?;
-    same("answers whether all are at rest", Peer::idle(cell), Proved::idle(cell))
+    same("answers of a check", [Plain::check(cell), Tuned::check(cell), Proved::check(cell)])?;
+    same("answers whether all are at rest", [Plain::idle(cell), Tuned::idle(cell), Proved::idle(cell)])
 }
 
 /// A cell at random and some calls on it; one that is damaged has bytes changed on the way, until a call answers 10.
@@ -85,19 +91,16 @@ fn one_random(numbers: &mut Random, damaged: bool) -> Result<usize, String> {
     let (places, agents, actions) = (numbers.below(64), numbers.below(65), numbers.below(17));
     let names = 1 + numbers.below(6);
     let mut file = random(numbers, places, agents, actions, names, 6).file();
-    load(&file)?;
-    let (mut one, mut two) = (Cell::BARE, Cell::BARE);
-    Peer::load(&mut one, &file);
-    Proved::load(&mut two, &file);
+    let mut cells = load(&file)?;
     for i in 0..300 {
         if damaged && numbers.below(60) == 0 {
-            damage(numbers, &mut one, &mut two);
+            damage(numbers, &mut cells);
         }
         let agent = if numbers.below(40) == 0 { numbers.below(256) } else { numbers.below(agents.max(1)) };
-        step(&mut one, &mut two, agent as u8, numbers.below(70) as u8)?;
+        step(&mut cells, agent as u8, numbers.below(70) as u8)?;
         if i % 50 == 0 {
-            asks(&one)?;
-            list(&one, 13_043)?;
+            asks(&cells[0])?;
+            list(&cells[0], 13_043)?;
         }
     }
     let at = numbers.below(file.len());
@@ -106,11 +109,11 @@ fn one_random(numbers: &mut Random, damaged: bool) -> Result<usize, String> {
     Ok(300 + 6 * 3 + 2)
 }
 
-/// One byte of both cells becomes another, mostly one that a test looks at.
-fn damage(numbers: &mut Random, one: &mut Cell, two: &mut Cell) {
+/// One byte of all cells becomes another, mostly one that a test looks at.
+fn damage(numbers: &mut Random, cells: &mut [Cell; 3]) {
     let (i, value) = (numbers.below(64), [numbers.below(10), numbers.below(66), numbers.below(256)][numbers.below(3)]);
     let field = numbers.below(10);
-    for cell in [one, two] {
+    for cell in cells {
         let (place, agent) = (&mut cell.places[i], &mut cell.agents[i]);
         let byte = match field {
             0 => &mut place.parent,

@@ -1,9 +1,9 @@
-//! What is measured: jobs that either keeper can do, each a lap of calls.
+//! What is measured: jobs that each keeper can do, each a lap of calls.
 
 use crate::cell::Cell;
 use crate::cells::{self, Random, Sketch};
 use crate::keeper::Keeper;
-use crate::peer::Peer;
+use crate::tuned::Tuned;
 use crate::walk::{self, walk};
 use std::hint::black_box;
 
@@ -25,11 +25,18 @@ pub enum Job {
     Copy { cell: Box<Cell> },
 }
 
-/// A job with its name and the ratio it should stay within.
+/// A job with its name and the ratios it should stay within: the goal, and the bar where there is one above the goal. They are beside the
+/// plain peer where it has its own call, else beside the tuned one.
 pub struct Workload {
     pub name: String,
-    pub goal: Option<f64>,
+    pub limits: Option<Limits>,
     pub job: Job,
+}
+
+#[derive(Clone, Copy)]
+pub struct Limits {
+    pub goal: f64,
+    pub bar: Option<f64>,
 }
 
 /// What a lap writes to.
@@ -53,6 +60,11 @@ impl Job {
         }
     }
 
+    /// Whether the plain peer has its own call for it; its other calls are the tuned peer's.
+    pub fn is_own_of_plain(&self) -> bool {
+        matches!(self, Job::Step { .. } | Job::Check { .. } | Job::Idle { .. } | Job::Walk { .. })
+    }
+
     /// One lap; the answer keeps the calls from being left out.
     pub fn lap<K: Keeper>(&self, room: &mut Room) -> u64 {
         match self {
@@ -73,9 +85,15 @@ impl Job {
     }
 }
 
-const STEP: Option<f64> = Some(1.2);
-const LIST: Option<f64> = Some(1.5);
-const WALK: Option<f64> = Some(1.2);
+const fn within(goal: f64, bar: Option<f64>) -> Option<Limits> {
+    Some(Limits { goal, bar })
+}
+
+const EMPTY: Option<Limits> = within(1.2, Some(2.0));
+const STEP: Option<Limits> = within(1.2, Some(1.5));
+const CHAIN: Option<Limits> = within(1.2, None);
+const LIST: Option<Limits> = within(1.5, None);
+const WALK: Option<Limits> = within(1.2, None);
 
 /// Calls that change nothing: of agents that are held, asleep or done.
 fn quiet(sketch: Sketch) -> Job {
@@ -87,7 +105,7 @@ fn quiet(sketch: Sketch) -> Job {
 fn busy(sketch: Sketch, before: usize) -> Job {
     let mut start = Box::new(sketch.cell());
     for (agent, wish) in cells::busy(&start, before) {
-        Peer::step(&mut start, agent, wish);
+        Tuned::step(&mut start, agent, wish);
     }
     Job::Step { order: cells::busy(&start, 400), start }
 }
@@ -105,16 +123,16 @@ pub fn workloads() -> Vec<Workload> {
         let order = (0..16_384).flat_map(|_| [random.below(agents) as u8, random.below(80) as u8]).collect();
         Job::Walk { file: sketch.file(), order }
     };
-    let of = |name: &str, goal, job| Workload { name: name.to_string(), goal, job };
+    let of = |name: &str, limits, job| Workload { name: name.to_string(), limits, job };
     vec![
-        of("step, no agents", STEP, quiet(cells::empty(0))),
-        of("step, one agent, done", STEP, quiet(cells::empty(1))),
+        of("step, no agents", EMPTY, quiet(cells::empty(0))),
+        of("step, one agent, done", EMPTY, quiet(cells::empty(1))),
         of("step, typical, at rest", STEP, quiet(cells::typical())),
         of("step, typical, busy", STEP, busy(cells::typical(), 0)),
         of("step, full, at rest", STEP, quiet(cells::full().finding_nothing())),
         of("step, full, busy", STEP, busy(cells::full(), 300)),
-        of("step, chain, at rest", STEP, quiet(cells::chain())),
-        of("step, chain, busy", STEP, busy(cells::chain(), 0)),
+        of("step, chain, at rest", CHAIN, quiet(cells::chain())),
+        of("step, chain, busy", CHAIN, busy(cells::chain(), 0)),
         of("check, typical", None, check(cells::typical())),
         of("check, full", None, check(cells::full())),
         of("idle, typical", None, idle(cells::typical())),
@@ -139,7 +157,7 @@ pub fn sweep() -> Vec<Workload> {
     let agents = (0..=64).step_by(4).map(|agents| ("agents", 12, agents));
     let sized = |(series, places, agents)| {
         let sketch = cells::random(&mut Random(11), places, agents, 4, 4, 8).finding_nothing();
-        Workload { name: format!("{series},{places},{agents}"), goal: None, job: quiet(sketch) }
+        Workload { name: format!("{series},{places},{agents}"), limits: None, job: quiet(sketch) }
     };
     places.chain(agents).map(sized).collect()
 }

@@ -1,4 +1,4 @@
-//! What a call of the proved keeper costs beside a plain Rust keeper with the same tests, in one process.
+//! What a call of the proved keeper costs beside two Rust keepers with the same tests, a plain and a tuned one, in one process.
 //!
 //! `bench [--quick] [NAME]` prints the table, of the workloads whose names contain NAME. `--sweep` prints the cost of a step against the
 //! size of the cell, as CSV. `--words` prints what the step calls answer. `--count` makes one lap of each for the script `instructions`.
@@ -9,13 +9,15 @@ mod compare;
 mod jobs;
 mod keeper;
 mod measure;
-mod peer;
+mod plain;
+mod tuned;
 mod walk;
 
-use jobs::{sweep, workloads, Job, Room, Workload};
+use jobs::{sweep, workloads, Job, Limits, Room, Workload};
 use keeper::{Keeper, Proved};
 use measure::{measure, Pace};
-use peer::Peer;
+use plain::Plain;
+use tuned::Tuned;
 
 fn main() {
     let (options, names): (Vec<String>, Vec<String>) = std::env::args().skip(1).partition(|word| word.starts_with("--"));
@@ -27,9 +29,9 @@ fn main() {
         return count(&workloads);
     }
     match compare::compare(&workloads, pace.random_cells) {
-        Ok(calls) => eprintln!("the peer and the keeper agree on {calls} calls"),
+        Ok(calls) => eprintln!("the peers and the keeper agree on {calls} calls"),
         Err(what) => {
-            eprintln!("the peer and the keeper differ: {what}");
+            eprintln!("the peers and the keeper differ: {what}");
             std::process::exit(1);
         }
     }
@@ -44,21 +46,40 @@ fn main() {
 
 /// The table: each workload with the time of a call.
 fn table(workloads: &[Workload], pace: &Pace) {
-    println!("{:<26}{:>12}{:>12}{:>8}{:>7}", "", "peer ns", "keeper ns", "ratio", "goal");
+    println!("{:<24}{:>12}{:>12}{:>12}{:>9}{:>9}{:>6}{:>5}", "", "plain ns", "tuned ns", "keeper ns", "k/plain", "k/tuned", "goal", "bar");
     for workload in workloads {
         let cost = measure(&workload.job, pace);
-        let goal = workload.goal.map_or(String::new(), |goal| format!("{goal:.1}"));
-        let above = if workload.goal.is_some_and(|goal| cost.ratio > goal) { "  above" } else { "" };
-        println!("{:<26}{:>12.1}{:>12.1}{:>8.2}{goal:>7}{above}", workload.name, cost.peer, cost.keeper, cost.ratio);
+        let own = workload.job.is_own_of_plain();
+        let if_own = |value: f64, digits: usize| if own { format!("{value:.digits$}") } else { String::new() };
+        let (plain, ratio) = (if_own(cost.plain, 1), if_own(cost.keeper_to_plain, 2));
+        print!("{:<24}{plain:>12}{:>12.1}{:>12.1}{ratio:>9}{:>9.2}", workload.name, cost.tuned, cost.keeper, cost.keeper_to_tuned);
+        let judged = if own { cost.keeper_to_plain } else { cost.keeper_to_tuned };
+        match workload.limits {
+            None => println!(),
+            Some(limits) => {
+                let bar = limits.bar.map_or(String::new(), |bar| format!("{bar:.1}"));
+                println!("{:>6.1}{bar:>5}  {}", limits.goal, verdict(judged, limits));
+            }
+        }
+    }
+}
+
+fn verdict(ratio: f64, limits: Limits) -> &'static str {
+    if ratio <= limits.goal {
+        "met"
+    } else if limits.bar.is_some_and(|bar| ratio > bar) {
+        "above the bar"
+    } else {
+        "above the goal"
     }
 }
 
 /// The sweep as CSV.
 fn csv(workloads: &[Workload], pace: &Pace) {
-    println!("series,places,agents,peer,keeper");
+    println!("series,places,agents,plain,tuned,keeper");
     for workload in workloads {
         let cost = measure(&workload.job, pace);
-        println!("{},{:.1},{:.1}", workload.name, cost.peer, cost.keeper);
+        println!("{},{:.1},{:.1},{:.1}", workload.name, cost.plain, cost.tuned, cost.keeper);
     }
 }
 
@@ -70,7 +91,7 @@ fn words(workloads: &[Workload]) {
         let mut cell = **start;
         let (mut counts, mut refused) = ([0; 11], 0);
         for &(agent, wish) in order {
-            let answer = Peer::step(&mut cell, agent, wish);
+            let answer = Tuned::step(&mut cell, agent, wish);
             if answer & 255 == 0 {
                 counts[(answer >> 8 & 255) as usize] += 1;
             } else {
@@ -86,7 +107,10 @@ fn words(workloads: &[Workload]) {
 /// One lap of each workload by each keeper, with a line that says which.
 fn count(workloads: &[Workload]) {
     for workload in workloads {
-        for (side, lap) in [("peer", Job::lap::<Peer> as Lap), ("keeper", Job::lap::<Proved>)] {
+        for (side, lap) in [("plain", Job::lap::<Plain> as Lap), ("tuned", Job::lap::<Tuned>), ("keeper", Job::lap::<Proved>)] {
+            if side == "plain" && !workload.job.is_own_of_plain() {
+                continue;
+            }
             let mut room = Room::new();
             lap(&workload.job, &mut room);
             measured_lap(lap, &workload.job, &mut room);

@@ -1,4 +1,4 @@
-//! A whole walk to a text buffer: what the program `walk` writes for a cell file and an order, through the calls of either keeper.
+//! A whole walk to a text buffer: what the program `walk` writes for a cell file and an order, through the calls of a keeper.
 
 use crate::cell::Cell;
 use crate::keeper::Keeper;

@@ -1,6 +1,6 @@
-//! The peer: a plain Rust keeper with the same calls, the same tests at every call, and the same answers.
+//! The tuned peer: a Rust keeper with the same calls, the same tests at every call, and the same answers, written to be fast.
 //!
-//! The cell is changed in place. Nothing is remembered between calls, so every call tests soundness in full, as the proved keeper does.
+//! The cell is changed in place. Every pass walks over the numbers in use only, and leaves at the first fault. Nothing is remembered between calls, so every call tests soundness in full, as the proved keeper does.
 //! The calls are not inlined into the loops that measure them, as those of the library are not.
 
 mod list;
@@ -13,16 +13,16 @@ use crate::keeper::Keeper;
 use sound::sound;
 
 /// Refusal: unsound table.
-const UNSOUND: u64 = 10;
+pub const UNSOUND: u64 = 10;
 /// Refusal: no such agent.
-const NO_SUCH_AGENT: u64 = 11;
+pub const NO_SUCH_AGENT: u64 = 11;
 /// Refusal: listing longer than the buffer.
 const TOO_LONG: u64 = 12;
 
-/// The plain Rust keeper.
-pub struct Peer;
+/// The tuned Rust keeper.
+pub struct Tuned;
 
-impl Keeper for Peer {
+impl Keeper for Tuned {
     #[inline(never)]
     fn bare(cell: &mut Cell) -> u64 {
         *cell = Cell::BARE;
