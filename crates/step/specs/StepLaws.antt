@@ -1,34 +1,25 @@
 -- Arrays that are read and stored at any number, the next action, and a step's answer. Assumes nothing.
 -- Idea: at and past 64 an array reads its default and a store changes nothing, as for the total functions of a cell.
-use mathlib.Core.Path.{_≡_, sym, ap, _∙_, subst}
+use mathlib.Core.Path.{_≡_, sym, ap, _∙_}
 use mathlib.Core.Bool.{Bool, true, false, cond}
 use mathlib.Core.List.{List}
 use Prim.Native.Nat.{ℕ, zero, suc, _+_, _≤_, _<_, zero-le}
 use native.Mathlib.Omega.{arith}
 use lib.Dec.{eqb}
-use lib.ListN.{getD, length, List·getD-eq-default}
+use lib.ListN.{getD}
 use Rattle.sets.specs.Word.{bit, countOf}
 use Rattle.table.specs.Base.{tab, upd}
-use Rattle.table.specs.BaseLaws.{tab-getD, getD-tab, tab-ext, upd-other}
+use Rattle.table.specs.BaseLaws.{getD-tab, tab-ext}
 use Rattle.table.specs.Cell.{nextAction, tableOf}
 use Rattle.table.specs.declared.Action.{Action}
 use Rattle.table.specs.declared.Agent.{Agent}
 use Rattle.table.specs.declared.Cell.{Cell}
 use Rattle.meaning.specs.declared.Word.{Word}
 use Rattle.meaning.specs.declared.Answer.the-variants.{Did}
-use Rattle.meaning.specs.declared.Stepped.{Stepped}
 use Rattle.meaning.specs.Step.{Outcome}
 use Rattle.meaning.specs.Run.{made}
 
 -- ---- arrays of 64
-
--- at and past 64 there is nothing to read
-pub read-past : {A : Type 0} (d : A) (l : List A) (q : ℕ) → length l ≡ 64 → 64 ≤ q → getD l q d ≡ d
-read-past d l q e m = List·getD-eq-default l d (subst (λ (n : ℕ). n ≤ q) (sym e) m)
-
--- and nothing to store
-pub store-past : {A : Type 0} (d : A) (l : List A) (q : ℕ) (v : A) → length l ≡ 64 → 64 ≤ q → l ≡ tab (upd (λ j. getD l j d) q v) 64 0
-store-past d l q v e m = sym (tab-getD d l 64 e) ∙ tab-ext d 64 _ _ (λ j k. sym (upd-other (λ j. getD l j d) q j v (λ h. omega arith)))
 
 -- a store into a table that was made
 pub store-tab : {A : Type 0} (d : A) (f : ℕ → A) (l : List A) (q : ℕ) (v : A) → l ≡ tab f 64 0 → tab (upd (λ j. getD l j d) q v) 64 0 ≡ tab (upd f q v) 64 0

@@ -4,23 +4,9 @@ use table::Place;
 ghost use mathlib.Core.Path.{_≡_};
 ghost use mathlib.Core.Bool.{_&&_, not, cond};
 ghost use lib.Dec.{eqb};
-ghost use lib.ListN.{getD};
 ghost use Rattle.sets.specs.Set.{member, setOf};
-ghost use Rattle.table.specs.Cell.{noPlace};
 ghost use Rattle.meaning.specs.Step.{qualifies};
 ghost use Rattle.step.specs.Parts.{landOf, childNamed};
-
-// Place q, or an empty one where there is none.
-pub(super) fn place_at(ps: [Place; 64], q: u8) -> Place
-    ensures { λ r. ⌜ r ≡ getD ps q noPlace ⌝ }
-{
-    if q < 64 {
-        let k = q as usize;
-        ps[k]
-    } else {
-        table::no_place()
-    }
-}
 
 // Whether a place, in use or not, is linked.
 pub(super) fn linked(known: bool, x: Place) -> bool
@@ -105,7 +91,7 @@ pub(super) fn qualifying(ps: [Place; 64], used: Set, kind: u8, n: u16, home: u8,
         return s.remove(home);
     }
     if kind == 2 {
-        let x = place_at(ps, p);
+        let x = table::place_at(ps, p);
         let u = used.has(p);
         let b = exits(u, x, n);
         let s = Set::EMPTY;

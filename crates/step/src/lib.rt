@@ -76,10 +76,10 @@ pub fn step(c: Cell, agent: u8, wish: u8) -> Stepped
                 }
                 Change::Take(q, s, m, e) => {
                     let ls = d.locks;
-                    if moves::lock_at(ls, q) == 64 {
+                    if table::lock_at(ls, q) == 64 {
                         let b = at_stage(a, s, m, e);
                         d.agents[k] = b;
-                        let ms = moves::with_lock(ls, q, agent);
+                        let ms = table::with_lock(ls, q, agent);
                         d.locks = ms;
                         answer = Answer::Did(Word::Took, 0);
                     } else {

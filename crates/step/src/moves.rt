@@ -1,6 +1,5 @@
 // Changes of agents, locks and places, and the steps in which a place moves.
 use super::choose::linked;
-use super::choose::place_at;
 use meaning::Answer;
 use meaning::Stepped;
 use meaning::Word;
@@ -13,7 +12,7 @@ ghost use mathlib.Core.Bool.{_&&_, cond};
 ghost use Prim.Native.Nat.{_<_};
 ghost use lib.Dec.{eqb, ltb};
 ghost use lib.ListN.{getD};
-ghost use Rattle.table.specs.Base.{tab, upd};
+ghost use Rattle.table.specs.Base.{tab};
 ghost use Rattle.table.specs.Cell.{cellOf};
 ghost use Rattle.meaning.specs.Update.{atStage, useUp, withParent, withWay};
 ghost use Rattle.meaning.specs.Step.{asleepOn};
@@ -48,48 +47,12 @@ pub(super) fn rest_stage(next: u8, count: u8) -> u8
     if next < count { 0 } else { 8 }
 }
 
-// The lock of q, or 0 where there is no such place.
-pub(super) fn lock_at(ls: [u8; 64], q: u8) -> u8
-    ensures { λ r. ⌜ r ≡ getD ls q 0 ⌝ }
-{
-    if q < 64 {
-        let k = q as usize;
-        ls[k]
-    } else {
-        0
-    }
-}
-
-// The locks once that of q is v.
-pub(super) fn with_lock(ls: [u8; 64], q: u8, v: u8) -> [u8; 64]
-    ensures { λ r. ⌜ r ≡ tab (upd (λ j. getD ls j 0) q v) 64 0 ⌝ }
-{
-    let mut ms = ls;
-    if q < 64 {
-        let k = q as usize;
-        ms[k] = v;
-    }
-    ms
-}
-
 // The locks once those of p and q are released.
 pub(super) fn released(ls: [u8; 64], p: u8, q: u8) -> [u8; 64]
     ensures { λ r. ⌜ r ≡ tab (Rattle.meaning.specs.Update.released (λ j. getD ls j 0) p q) 64 0 ⌝ }
 {
-    let ms = with_lock(ls, p, 64);
-    with_lock(ms, q, 64)
-}
-
-// The places once q is x.
-fn with_place(ps: [Place; 64], q: u8, x: Place) -> [Place; 64]
-    ensures { λ r. ⌜ r ≡ tab (upd (λ j. getD ps j Rattle.table.specs.Cell.noPlace) q x) 64 0 ⌝ }
-{
-    let mut qs = ps;
-    if q < 64 {
-        let k = q as usize;
-        qs[k] = x;
-    }
-    qs
+    let ms = table::with_lock(ls, p, 64);
+    table::with_lock(ms, q, 64)
 }
 
 // The place, on its way to d.
@@ -147,7 +110,7 @@ fn move_place(c: Cell, x: u8, h: u8, y: Place, p: u8, q: u8, r: u8, b: Agent, w:
         }
     }
     let ps = d.places;
-    let qs = with_place(ps, h, y);
+    let qs = table::with_place(ps, h, y);
     d.places = qs;
     let ls = d.locks;
     let ms = released(ls, p, q);
@@ -168,7 +131,7 @@ pub(super) fn leave(c: Cell, x: u8, a: Agent, d: u8) -> Stepped
     ensures { λ r. ⌜ r ≡ made (Rattle.meaning.specs.Step.leave (cellOf c) x a d) ⌝ }
 {
     let ps = c.places;
-    let h = place_at(ps, a.home);
+    let h = table::place_at(ps, a.home);
     let y = sent(h, d);
     let u = use_up(a);
     let b = at_stage(u, 4, 0, 0);
@@ -189,9 +152,9 @@ pub(super) fn arrive(c: Cell, x: u8, a: Agent, d: u8) -> Stepped
 {
     let ps = c.places;
     let used = c.used;
-    let h = place_at(ps, a.home);
+    let h = table::place_at(ps, a.home);
     let y = linked_up(h);
-    let t = place_at(ps, d);
+    let t = table::place_at(ps, d);
     let u = used.has(d);
     let r = beyond(u, t, d);
     let s = rest_stage(a.next, a.count);

@@ -2,7 +2,6 @@
 use super::Change;
 use super::choose::linked;
 use super::choose::linked_to;
-use super::choose::place_at;
 use super::choose::qualifying;
 use meaning::Word;
 use sets::Set;
@@ -23,7 +22,7 @@ pub(super) fn look(a: Agent, ps: [Place; 64], used: Set) -> Change
     if x.kind == 3 {
         return Change::Turn(1, a.home, Word::Looked);
     }
-    let h = place_at(ps, a.home);
+    let h = table::place_at(ps, a.home);
     let u = used.has(a.home);
     if linked(u, h) {
         return Change::Turn(1, h.parent, Word::Looked);
@@ -71,7 +70,7 @@ pub(super) fn hold(a: Agent, ps: [Place; 64], used: Set, wish: u8) -> Change
     ensures { λ r. ⌜ Says ps used a r (λ c x b. Rattle.meaning.specs.Step.hold c x b wish) ⌝ }
 {
     let x = table::next_action(a);
-    let h = place_at(ps, a.home);
+    let h = table::place_at(ps, a.home);
     let u = used.has(a.home);
     if stays(x.kind, u, h, a.remembered) {
         let s = qualifying(ps, used, x.kind, x.name, a.home, a.remembered);
@@ -102,7 +101,7 @@ pub(super) fn act(a: Agent, ps: [Place; 64], used: Set) -> Change
         if x.kind == 1 {
             return Change::Leave(a.chosen);
         }
-        let p = place_at(ps, a.remembered);
+        let p = table::place_at(ps, a.remembered);
         return Change::Leave(p.parent);
     }
     if x.kind == 3 {
@@ -118,7 +117,7 @@ pub(super) fn travel(a: Agent, ps: [Place; 64], used: Set) -> Change
     if a.stage == 4 {
         return Change::Take(a.home, 5, 0, 0);
     }
-    let h = place_at(ps, a.home);
+    let h = table::place_at(ps, a.home);
     if a.stage == 5 {
         return Change::Take(h.parent, 6, 0, 0);
     }

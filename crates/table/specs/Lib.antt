@@ -3,6 +3,7 @@ pub mod BaseLaws
 pub mod SweepLaws
 pub mod Cell
 pub mod Bounds
+pub mod ElementLaws
 pub mod CellLaws
 pub mod Sound
 pub mod Idle

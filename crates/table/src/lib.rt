@@ -1,9 +1,14 @@
-// The cell's table: places, locks and agents, and the reading of one element.
+// The cell's table: places, locks and agents, and the reading and writing of one element.
 mod agents;
+mod elements;
 mod idle;
 mod lands;
 mod sound;
 
+pub use elements::lock_at;
+pub use elements::place_at;
+pub use elements::with_lock;
+pub use elements::with_place;
 pub use idle::is_idle;
 use sets::Set;
 pub use sound::is_sound;

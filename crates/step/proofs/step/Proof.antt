@@ -30,9 +30,9 @@ use Rattle.sets.proofs.Set.has.Reads as has-reads
 use Rattle.step.proofs.moves.arrive.Reads as arrive-reads
 use Rattle.step.proofs.moves.at_stage.Reads as at-stage-reads
 use Rattle.step.proofs.moves.leave.Reads as leave-reads
-use Rattle.step.proofs.moves.lock_at.Reads as lock-at-reads
+use Rattle.table.proofs.lock_at.Reads as lock-at-reads
 use Rattle.step.proofs.moves.released.Reads as released-reads
-use Rattle.step.proofs.moves.with_lock.Reads as with-lock-reads
+use Rattle.table.proofs.with_lock.Reads as with-lock-reads
 use Rattle.step.proofs.open.dissolve.Reads as dissolve-reads
 use Rattle.step.proofs.stage_step.Reads as stage-step-reads
 use Rattle.table.proofs.at.Reads as at-reads

@@ -16,7 +16,7 @@ use Rattle.sets.proofs.Set.insert_if.Reads as insert-if-reads
 use Rattle.sets.proofs.Set.remove.Reads as remove-reads
 use Rattle.step.proofs.choose.children_named.Reads as children-named-reads
 use Rattle.step.proofs.choose.exits.Reads as exits-reads
-use Rattle.step.proofs.choose.place_at.Reads as place-at-reads
+use Rattle.table.proofs.place_at.Reads as place-at-reads
 use Rattle.step.proofs.choose.unawaited.Reads as unawaited-reads
 
 children-named-requires : tie.Need-children-named-requires

@@ -18,7 +18,7 @@ use Rattle.step.proofs.moves.arrive.Tie as tie
 use Rattle.step.proofs.moves.arrive.Reads as reads
 use Rattle.step.proofs.moves.arrive.Lts as lts
 use Rattle.sets.proofs.Set.has.Reads as has-reads
-use Rattle.step.proofs.choose.place_at.Reads as place-at-reads
+use Rattle.table.proofs.place_at.Reads as place-at-reads
 use Rattle.step.proofs.moves.at_stage.Reads as at-stage-reads
 use Rattle.step.proofs.moves.beyond.Reads as beyond-reads
 use Rattle.step.proofs.moves.linked_up.Reads as linked-up-reads

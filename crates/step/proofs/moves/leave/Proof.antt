@@ -13,7 +13,7 @@ use Rattle.step.proofs.moves.leave.Statement.{statement}
 use Rattle.step.proofs.moves.leave.Tie as tie
 use Rattle.step.proofs.moves.leave.Reads as reads
 use Rattle.step.proofs.moves.leave.Lts as lts
-use Rattle.step.proofs.choose.place_at.Reads as place-at-reads
+use Rattle.table.proofs.place_at.Reads as place-at-reads
 use Rattle.step.proofs.moves.at_stage.Reads as at-stage-reads
 use Rattle.step.proofs.moves.move_place.Reads as move-place-reads
 use Rattle.step.proofs.moves.sent.Reads as sent-reads

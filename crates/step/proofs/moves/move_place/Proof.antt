@@ -23,7 +23,7 @@ use Rattle.sets.proofs.Set.rest.Reads as rest-reads
 use Rattle.step.proofs.moves.asleep_on.Reads as asleep-on-reads
 use Rattle.step.proofs.moves.at_stage.Reads as at-stage-reads
 use Rattle.step.proofs.moves.released.Reads as released-reads
-use Rattle.step.proofs.moves.with_place.Reads as with-place-reads
+use Rattle.table.proofs.with_place.Reads as with-place-reads
 
 abbrev Inv-loop : tie.InvT-loop
 Inv-loop x h y p q r b w d₀ sleepers₀ rest₀ d sleepers rest = Waking d₀ p q r d sleepers rest

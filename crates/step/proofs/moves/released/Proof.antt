@@ -8,7 +8,7 @@ use Rattle.step.proofs.moves.released.Statement.{statement}
 use Rattle.step.proofs.moves.released.Tie as tie
 use Rattle.step.proofs.moves.released.Reads as reads
 use Rattle.step.proofs.moves.released.Lts as lts
-use Rattle.step.proofs.moves.with_lock.Reads as with-lock-reads
+use Rattle.table.proofs.with_lock.Reads as with-lock-reads
 
 with-lock-requires : tie.Need-with-lock-requires
 with-lock-requires c κs = search needs

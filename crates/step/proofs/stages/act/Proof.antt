@@ -12,7 +12,7 @@ use Rattle.step.proofs.stages.act.Tie as tie
 use Rattle.step.proofs.stages.act.Reads as reads
 use Rattle.step.proofs.stages.act.Lts as lts
 use Rattle.sets.proofs.Set.has.Reads as has-reads
-use Rattle.step.proofs.choose.place_at.Reads as place-at-reads
+use Rattle.table.proofs.place_at.Reads as place-at-reads
 use Rattle.step.proofs.choose.qualifying.Reads as qualifying-reads
 use Rattle.step.proofs.stages.target.Reads as target-reads
 use Rattle.table.proofs.next_action.Reads as next-action-reads

@@ -12,7 +12,7 @@ use Rattle.step.proofs.stages.hold.Reads as reads
 use Rattle.step.proofs.stages.hold.Lts as lts
 use Rattle.sets.proofs.Set.choose.Reads as choose-reads
 use Rattle.sets.proofs.Set.has.Reads as has-reads
-use Rattle.step.proofs.choose.place_at.Reads as place-at-reads
+use Rattle.table.proofs.place_at.Reads as place-at-reads
 use Rattle.step.proofs.choose.qualifying.Reads as qualifying-reads
 use Rattle.step.proofs.stages.lock_second.Reads as lock-second-reads
 use Rattle.step.proofs.stages.stays.Reads as stays-reads

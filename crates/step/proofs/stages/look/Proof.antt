@@ -13,7 +13,7 @@ use Rattle.step.proofs.stages.look.Reads as reads
 use Rattle.step.proofs.stages.look.Lts as lts
 use Rattle.sets.proofs.Set.has.Reads as has-reads
 use Rattle.step.proofs.choose.linked.Reads as linked-reads
-use Rattle.step.proofs.choose.place_at.Reads as place-at-reads
+use Rattle.table.proofs.place_at.Reads as place-at-reads
 use Rattle.table.proofs.next_action.Reads as next-action-reads
 
 next-action-requires : tie.Need-next-action-requires

@@ -6,7 +6,7 @@ use Rattle.step.proofs.stages.travel.Statement.{statement}
 use Rattle.step.proofs.stages.travel.Tie as tie
 use Rattle.step.proofs.stages.travel.Reads as reads
 use Rattle.step.proofs.stages.travel.Lts as lts
-use Rattle.step.proofs.choose.place_at.Reads as place-at-reads
+use Rattle.table.proofs.place_at.Reads as place-at-reads
 
 returns : tie.Need-returns
 unfolding travel

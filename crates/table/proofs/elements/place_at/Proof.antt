@@ -1,13 +1,13 @@
 -- Past 63 the array reads its empty value.
 use mathlib.Core.Path.{sym, _∙_}
 use borrow.Author.Needs.{needs}
 use Rattle.table.specs.Cell.{noPlace}
-use Rattle.step.specs.StepLaws.{read-past}
-use Rattle.step.proofs.choose.place_at.Statement.{statement}
-use Rattle.step.proofs.choose.place_at.Tie as tie
-use Rattle.step.proofs.choose.place_at.Reads as reads
-use Rattle.step.proofs.choose.place_at.Lts as lts
+use Rattle.table.specs.ElementLaws.{read-past}
+use Rattle.table.proofs.elements.place_at.Statement.{statement}
+use Rattle.table.proofs.elements.place_at.Tie as tie
+use Rattle.table.proofs.elements.place_at.Reads as reads
+use Rattle.table.proofs.elements.place_at.Lts as lts
 use Rattle.table.proofs.no_place.Reads as no-place-reads
 
 mul-result : tie.Need-mul-result
 mul-result c = search needs

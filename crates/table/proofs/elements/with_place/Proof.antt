@@ -1,12 +1,12 @@
 -- A store is one value changed; past 63 nothing is.
 use borrow.Author.Needs.{needs}
 use Rattle.table.specs.BaseLaws.{set-list}
 use Rattle.table.specs.Cell.{noPlace}
-use Rattle.step.specs.StepLaws.{store-past}
-use Rattle.step.proofs.moves.with_place.Statement.{statement}
-use Rattle.step.proofs.moves.with_place.Tie as tie
-use Rattle.step.proofs.moves.with_place.Reads as reads
-use Rattle.step.proofs.moves.with_place.Lts as lts
+use Rattle.table.specs.ElementLaws.{store-past}
+use Rattle.table.proofs.elements.with_place.Statement.{statement}
+use Rattle.table.proofs.elements.with_place.Tie as tie
+use Rattle.table.proofs.elements.with_place.Reads as reads
+use Rattle.table.proofs.elements.with_place.Lts as lts
 
 mul-qs : tie.Need-mul-qs
 mul-qs c = search needs

@@ -1,11 +1,11 @@
 -- Past 63 the array reads 0.
 use mathlib.Core.Path.{sym}
 use borrow.Author.Needs.{needs}
-use Rattle.step.specs.StepLaws.{read-past}
-use Rattle.step.proofs.moves.lock_at.Statement.{statement}
-use Rattle.step.proofs.moves.lock_at.Tie as tie
-use Rattle.step.proofs.moves.lock_at.Reads as reads
-use Rattle.step.proofs.moves.lock_at.Lts as lts
+use Rattle.table.specs.ElementLaws.{read-past}
+use Rattle.table.proofs.elements.lock_at.Statement.{statement}
+use Rattle.table.proofs.elements.lock_at.Tie as tie
+use Rattle.table.proofs.elements.lock_at.Reads as reads
+use Rattle.table.proofs.elements.lock_at.Lts as lts
 
 array-read-result : tie.Need-array-read-result
 array-read-result c = search needs

@@ -1,11 +1,11 @@
 -- A store is one value changed; past 63 nothing is.
 use borrow.Author.Needs.{needs}
 use Rattle.table.specs.BaseLaws.{set-list}
-use Rattle.step.specs.StepLaws.{store-past}
-use Rattle.step.proofs.moves.with_lock.Statement.{statement}
-use Rattle.step.proofs.moves.with_lock.Tie as tie
-use Rattle.step.proofs.moves.with_lock.Reads as reads
-use Rattle.step.proofs.moves.with_lock.Lts as lts
+use Rattle.table.specs.ElementLaws.{store-past}
+use Rattle.table.proofs.elements.with_lock.Statement.{statement}
+use Rattle.table.proofs.elements.with_lock.Tie as tie
+use Rattle.table.proofs.elements.with_lock.Reads as reads
+use Rattle.table.proofs.elements.with_lock.Lts as lts
 
 array-write-ms : tie.Need-array-write-ms
 array-write-ms c = search needs
