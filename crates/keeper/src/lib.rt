@@ -1,6 +1,5 @@
 // What hosts call (Level B): by value here, over a lent cell in `exports`. No call asks anything of its caller.
 mod exports;
-mod numbers;
 
 use meaning::Checked;
 use meaning::Idled;
@@ -32,7 +31,7 @@ pub use numbers::word_number;
 pub fn check(c: Cell) -> Checked
     ensures { λ r. ⌜ r ≡ checkOf c ⌝ }
 {
-    if table::is_sound(c) {
+    if soundness::is_sound(c) {
         Checked::Sound
     } else {
         Checked::Unsound(10)
@@ -43,8 +42,8 @@ pub fn check(c: Cell) -> Checked
 pub fn idle(c: Cell) -> Idled
     ensures { λ r. ⌜ r ≡ idleOf c ⌝ }
 {
-    if table::is_sound(c) {
-        if table::is_idle(c) {
+    if soundness::is_sound(c) {
+        if soundness::is_idle(c) {
             Idled::Idle
         } else {
             Idled::Busy

@@ -196,7 +196,7 @@ pub fn write_listing(c: Cell, buf: &mut [u8]) -> usize
 pub fn list(c: Cell, buf: &mut [u8]) -> Listed
     ensures { λ r. ⌜ (r ≡ listAnswer (cellOf c) (now (buf .entry))) × (now (buf .exit) ≡ listBuffer (cellOf c) (now (buf .entry))) ⌝ }
 {
-    if table::is_sound(c) {
+    if soundness::is_sound(c) {
         let n = write_if(c, true, buf);
         if buf.len() < n {
             return Listed::Unlisted(12);

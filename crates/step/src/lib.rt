@@ -56,7 +56,7 @@ pub fn step(c: Cell, agent: u8, wish: u8) -> Stepped
 {
     let mut d = c;
     let mut answer = Answer::Refused(10);
-    if table::is_sound(d) {
+    if soundness::is_sound(d) {
         answer = Answer::Refused(11);
         let given = d.given;
         if given.has(agent) {

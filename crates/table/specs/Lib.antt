@@ -7,12 +7,3 @@ pub mod ElementLaws
 pub mod CellLaws
 pub mod Sound
 pub mod Idle
-pub mod Pass
-pub mod TestLaws
-pub mod RowLaws
-pub mod AgentLaws
-pub mod PassLaws
-pub mod LeadLaws
-pub mod LandLaws
-pub mod SoundLaws
-pub mod SoundUse

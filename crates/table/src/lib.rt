@@ -1,17 +1,11 @@
 // The cell's table: places, locks and agents, and the reading and writing of one element.
-mod agents;
 mod elements;
-mod idle;
-mod lands;
-mod sound;
 
 pub use elements::lock_at;
 pub use elements::place_at;
 pub use elements::with_lock;
 pub use elements::with_place;
-pub use idle::is_idle;
 use sets::Set;
-pub use sound::is_sound;
 ghost use mathlib.Core.Path.{_≡_};
 ghost use Prim.Native.Nat.{_%_};
 ghost use Rattle.table.specs.Cell.{noPlace, noAction, freshAgent, bareTable, nextAction};

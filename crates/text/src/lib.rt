@@ -47,7 +47,7 @@ pub fn write_byte(x: u8, buf: &mut [u8]) -> usize
 }
 
 // A number of at most k decimal digits.
-pub fn write_digits(k: u8, n: u64, buf: &mut [u8]) -> usize
+fn write_digits(k: u8, n: u64, buf: &mut [u8]) -> usize
     ensures { λ r. ⌜ Wrote (digits k n) (now (buf .entry)) (now (buf .exit)) r ⌝ }
 {
     if k == 0 {

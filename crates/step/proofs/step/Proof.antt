@@ -10,7 +10,7 @@ use Rattle.sets.specs.Set.{member}
 use Rattle.table.specs.Cell.{noAgent, cellOf}
 use Rattle.table.specs.Bounds.{Sized}
 use Rattle.table.specs.Sound.{sound}
-use Rattle.table.specs.SoundUse.{next-small}
+use Rattle.soundness.specs.SoundUse.{next-small}
 use Rattle.table.specs.declared.Agent.{Agent}
 use Rattle.table.specs.declared.Cell.{Cell}
 use Rattle.table.proofs.Facts.{sized}
@@ -36,7 +36,7 @@ use Rattle.table.proofs.with_lock.Reads as with-lock-reads
 use Rattle.step.proofs.open.dissolve.Reads as dissolve-reads
 use Rattle.step.proofs.stage_step.Reads as stage-step-reads
 use Rattle.table.proofs.at.Reads as at-reads
-use Rattle.table.proofs.is_sound.Reads as is-sound-reads
+use Rattle.soundness.proofs.is_sound.Reads as is-sound-reads
 
 module _ (m : tie.After-stage-step) where
   abbrev t : Cell

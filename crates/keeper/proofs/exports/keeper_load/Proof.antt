@@ -14,8 +14,8 @@ use Rattle.reader.proofs.load.Met as load-thm
 use Rattle.keeper.proofs.Walk.{_≡_, refl, ap, _∙_, ℕ, List, [], _∷_, URA, named, Val, vptr, SProp, ent, id⊢, GName, Lft, Share, Fml, ftrue, flft, fobs, fbor, Memory, Routine, Heap, Calls, Loops, WpFn, Atoms, Fun, AllOutlive, givenOf, tables, Given, ‵, raw, _⊛_, ⋆, _$_, _∵_, !, qed, by, move, keep, drop, use1, use3, split, join, fsplit, fsplit3, fjoin, fjoin3, feqI, suffices, frame, done, look, look-raw, init, forget, stop, hop, from, load, of-opd, and-then, no-more, assigns, returns, enter, alloc1, alloc0, params1, pass1, pass0, free1, free0, Body, FmC, owns, mem, u8, u64, RefT, MutRef, ptr-vals, mut-tells, ShrSlice, Room, slice-vals, shr-slice-tells, shr-slice-copy, plain, only, nothing, Contract, Triple, onEntry, tripleOf, cited, says, Stays, stay-ref, stay-none-slice, walkOf, goes-ref, goes-none-slice, ends-at, yes, exported}
 use Rattle.keeper.proofs.Lent.{R, mach, is-typed, had, opened, called, Equates}
 use Rattle.keeper.proofs.Stored.{Result, stored}
-use Rattle.keeper.proofs.numbers.load_number.Symbol as number
-use Rattle.keeper.proofs.numbers.load_number.Met as number-thm
+use Rattle.numbers.proofs.load_number.Symbol as number
+use Rattle.numbers.proofs.load_number.Met as number-thm
 use Rattle.keeper.proofs.exports.keeper_load.Key.{name}
 use Rattle.keeper.proofs.exports.keeper_load as f
 use Rattle.keeper.proofs.exports.keeper_load.Statement.{statement}
@@ -85,4 +85,4 @@ keeper-load-spec 𝓤 H 𝓜 𝓖 𝓡 =
     (λ κs. (ptr-vals, (slice-vals, tt))) (λ κs. (mut-tells (named 0) (κs .0) R, (shr-slice-tells (named 1) (κs .1 .0) u8, tt)))
     (λ fm κs qs bounds a _ are. walk 𝓤 H (𝓖 .A) (givenOf 𝓤 H 𝓜 𝓖) (𝓜 .mem) (𝓡 .run) (κs .0) (κs .1 .0) bounds (qs .0) (qs .1 .0) (a .0 .ptr .0) (a .0 .ptr .1) (a .0 .name) (a .0 .now) (a .1 .0) (are .1 .0 .0 .1) (tables 𝓤 H 𝓜 𝓡 code.env .C) (tables 𝓤 H 𝓜 𝓡 code.env .Λ) fm
     (cited 𝓤 H (Load 𝓤 H (𝓖 .A) (givenOf 𝓤 H 𝓜 𝓖) (𝓜 .mem) (𝓡 .run)) 𝓜 𝓡 code.env load-def.name load-def.routine code.calls-reader·load (load-thm.met 𝓤 H 𝓜 𝓖 𝓡))
-    (cited 𝓤 H (Equates 𝓤 H (𝓖 .A) Verdict.the-row u64 loadNumber) 𝓜 𝓡 code.env number.name number.routine code.calls-keeper·numbers·load-number (number-thm.met 𝓤 H 𝓜 𝓖 𝓡)))
+    (cited 𝓤 H (Equates 𝓤 H (𝓖 .A) Verdict.the-row u64 loadNumber) 𝓜 𝓡 code.env number.name number.routine code.calls-numbers·load-number (number-thm.met 𝓤 H 𝓜 𝓖 𝓡)))

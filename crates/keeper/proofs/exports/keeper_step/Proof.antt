@@ -13,8 +13,8 @@ use Rattle.step.proofs.step.Met as step-thm
 use Rattle.keeper.proofs.Walk.{_≡_, refl, ap, _∙_, ℕ, _<_, _^_, List, [], _∷_, URA, named, w8, Val, vint, vptr, SProp, ent, id⊢, GName, Lft, Share, ftrue, flft, fobs, fbor, Memory, Routine, Heap, Calls, Loops, WpFn, Atoms, sem, Fun, givenOf, tables, Given, ‵, raw, _⊛_, ⋆, _$_, _∵_, !, qed, by, move, keep, drop, use1, split, join, fsplit, fsplit3, fjoin, fjoin3, feqI, suffices, frame, done, look, look-raw, init, forget, stop, hop, from, load, of-opd, and-then, no-more, assigns, returns, enter, alloc1, alloc0, params1, pass1, pass0, free1, free0, Body, FmC, owns, Is, mem, uint-vals, uint-tells, uint-makes, u8, u64, RefT, MutRef, ptr-vals, mut-tells, plain, owned, nothing, Contract, Triple, onEntry, tripleOf, cited, says, Stays, stay-ref, stay-none, walkOf, goes-ref, goes-none, ends-at, yes, exported}
 use Rattle.keeper.proofs.Lent.{R, mach, is-typed, had, opened, called, Equates}
 use Rattle.keeper.proofs.Stored.{Result, stored}
-use Rattle.keeper.proofs.numbers.step_number.Symbol as number
-use Rattle.keeper.proofs.numbers.step_number.Met as number-thm
+use Rattle.numbers.proofs.step_number.Symbol as number
+use Rattle.numbers.proofs.step_number.Met as number-thm
 use Rattle.keeper.proofs.exports.keeper_step.Key.{name}
 use Rattle.keeper.proofs.exports.keeper_step as f
 use Rattle.keeper.proofs.exports.keeper_step.Statement.{statement}
@@ -84,4 +84,4 @@ keeper-step-spec 𝓤 H 𝓜 𝓖 𝓡 =
     (λ κs. (ptr-vals, (uint-vals w8, (uint-vals w8, tt)))) (λ κs. (mut-tells (named 0) (κs .0) R, (uint-tells w8, (uint-tells w8, tt))))
     (λ fm κs qs bounds a _ are. walk 𝓤 H (𝓖 .A) (givenOf 𝓤 H 𝓜 𝓖) (𝓜 .mem) (𝓡 .run) (κs .0) (qs .0) (a .0 .ptr .0) (a .0 .ptr .1) (a .0 .name) (a .0 .now) (a .1 .0) (a .1 .1 .0) (are .1 .0 .1) (are .1 .1 .0 .1) (tables 𝓤 H 𝓜 𝓡 code.env .C) (tables 𝓤 H 𝓜 𝓡 code.env .Λ) fm
     (cited 𝓤 H (Step 𝓤 H (𝓖 .A) (givenOf 𝓤 H 𝓜 𝓖) (𝓜 .mem) (𝓡 .run)) 𝓜 𝓡 code.env step-def.name step-def.routine code.calls-step·step (step-thm.met 𝓤 H 𝓜 𝓖 𝓡))
-    (cited 𝓤 H (Equates 𝓤 H (𝓖 .A) Answer.the-row u64 stepNumber) 𝓜 𝓡 code.env number.name number.routine code.calls-keeper·numbers·step-number (number-thm.met 𝓤 H 𝓜 𝓖 𝓡)))
+    (cited 𝓤 H (Equates 𝓤 H (𝓖 .A) Answer.the-row u64 stepNumber) 𝓜 𝓡 code.env number.name number.routine code.calls-numbers·step-number (number-thm.met 𝓤 H 𝓜 𝓖 𝓡)))

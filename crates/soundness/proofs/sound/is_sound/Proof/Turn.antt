@@ -1,0 +1,127 @@
+-- What each turn of the walk over the agents learns of its agent, in the words of the definition.
+use Prim.Native.Nat.{ℕ, _<_}
+use mathlib.Core.Path.{_≡_, refl, sym, ap, _∙_, subst}
+use mathlib.Core.Bool.{Bool, true, false, not}
+use native.Mathlib.Omega.{arith}
+use lib.ListN.{getD}
+use Rattle.sets.specs.Word.{has}
+use Rattle.sets.specs.Set.{member}
+use Rattle.sets.specs.WalkLaws.{rest-lt, removed-less, lowestIn}
+use Rattle.sets.specs.declared.Set.{Set}
+use Rattle.table.specs.Cell.{noPlace, noAgent, cellOf, kindOf}
+use Rattle.table.specs.Sound.{sound, actionsFit, secondHeld, secondHeldIn, goingFrom, agentFits}
+use Rattle.soundness.specs.Pass.{quiet}
+use Rattle.soundness.specs.AgentLaws.{second-same, busy-same, quiet-same}
+use Rattle.soundness.specs.PassLaws.{Passed, passed-stop}
+use Rattle.table.specs.declared.Agent.{Agent}
+use Rattle.table.specs.declared.Cell.{Cell}
+use Rattle.table.proofs.Facts.{Good, sized}
+use Rattle.soundness.proofs.sound.is_sound.Tie as tie
+
+abbrev pub Inv-loop : tie.InvT-loop
+Inv-loop c used claimed₀ going₀ rest₀ claimed going rest = Passed c claimed going rest
+
+abbrev pub μ-loop : tie.MeasureT-loop
+μ-loop c used claimed₀ going₀ rest₀ claimed going rest = rest .bits
+
+positive : {n : ℕ} → (n ≡ 0 → ⊥) → 0 < n
+positive h = omega arith
+
+-- the turn's agent is below 64
+pub small : (c : tie.After-rest2 Inv-loop μ-loop) → c .before .first .result < 64
+small c = let l = c .before .before .before .before .loop in
+    subst (λ (n : ℕ). n < 64) (sym (c .before .first .ensures)) (rest-lt (l .inv .tested .left) (positive (c .before .before .if1 .taken)))
+
+-- ---- the turn's agent, its home tested
+
+module _ (c : tie.After-has Inv-loop μ-loop) where
+  abbrev pub table : Cell
+  table = c .before .before .before .before .before .before .before .before .before .args .t1
+
+  abbrev pub good : Good table
+  good = c .before .before .before .before .before .before .before .before .before .good .0
+
+  abbrev pub number : ℕ
+  number = c .before .before .before .first .result
+
+  -- the agent with number n
+  abbrev pub agent : ℕ → Agent
+  agent n = getD (table .agents) n noAgent
+
+  abbrev pub this : Agent
+  this = agent number
+
+  abbrev pub left : Set
+  left = c .before .before .before .before .before .before .loop .rest
+
+  pub some-left : 0 < left .bits
+  some-left = positive (c .before .before .before .before .if1 .taken)
+
+  pub lowest : number ≡ lowestIn left
+  lowest = c .before .before .before .first .ensures
+
+  pub fewer : c .before .before .rest2 .result .bits < left .bits
+  fewer = subst (λ (z : Set). z .bits < left .bits) (sym (c .before .before .rest2 .ensures)) (removed-less left (c .before .before .before .before .before .before .loop .inv .tested .left .small) some-left)
+
+  -- what is known of it is known of the lowest that is left
+  pub moved-to : (P : ℕ → Agent → Bool) (b : Bool) → P number this ≡ b → P (lowestIn left) (agent (lowestIn left)) ≡ b
+  moved-to P b e = ap (λ (n : ℕ). P n (agent n)) (sym lowest) ∙ e
+
+  pub unfit : agentFits (cellOf table) number this ≡ false → false ≡ sound (cellOf table)
+  unfit e = let l = c .before .before .before .before .before .before .loop in
+      passed-stop table (sized table good) (l .claimed) (l .going) (l .rest) (l .inv) some-left (moved-to (agentFits (cellOf table)) false e)
+
+-- a test that was turned round
+pub turned : (b : Bool) → not b ≡ true → b ≡ false
+turned true e = sym e
+turned false e = refl
+
+pub kept : (b : Bool) → not b ≡ false → b ≡ true
+kept true e = refl
+kept false e = sym e
+
+-- ---- its home is in use and its actions are in range
+
+module _ (c : tie.Else3 Inv-loop μ-loop) where
+  home-in : has (table (c .before .before .before .before) .used .bits) (this (c .before .before .before .before) .home) ≡ true
+  home-in = sym (c .before .before .before .before .has .ensures) ∙ kept _ (c .before .before .before .if2 .left)
+
+  row-in : c .before .before .row-of .result .fit ≡ true
+  row-in = kept _ (c .if3 .left)
+
+  row-fits : actionsFit (this (c .before .before .before .before)) ≡ true
+  row-fits = sym (c .before .before .row-of .ensures .0) ∙ row-in
+
+  kind-is : c .before .before .row-of .result .kind ≡ kindOf (this (c .before .before .before .before))
+  kind-is = c .before .before .row-of .ensures .1 row-in
+
+-- at a quiet stage
+pub is-still : (c : tie.Then4 Inv-loop μ-loop) → quiet (this (c .before .before .before .before .before .before .before) .stage) ≡ true
+is-still c = sym (c .before .is-quiet .ensures) ∙ c .if4 .taken
+
+pub fits-still : (c : tie.After-quiet-fits Inv-loop μ-loop) → agentFits (cellOf (table (c .before .before .before .before .before .before .before .before .before .before))) (number (c .before .before .before .before .before .before .before .before .before .before)) (this (c .before .before .before .before .before .before .before .before .before .before)) ≡ c .quiet-fits .result
+fits-still c =
+    let h = c .before .before .before .before .before .before .before .before .before .before in
+    let t = c .before .before .before .before .before .before in
+    sym (quiet-same (table h) (sized (table h) (good h)) (number h) (this h) (home-in t) (row-fits t) _ (kind-is t) (is-still (c .before .before .before)))
+    ∙ rw (← c .before .before .before .before .before .has2 .ensures) (sym (c .quiet-fits .ensures))
+
+-- at any other stage: what it holds
+pub second-is : (c : tie.After-second-held Inv-loop μ-loop) → c .second-held .result ≡ secondHeldIn (cellOf (table (c .before .before .before .before .before .before .before .before .before .before .before .before .before))) (this (c .before .before .before .before .before .before .before .before .before .before .before .before .before))
+second-is c =
+    let h = c .before .before .before .before .before .before .before .before .before .before .before .before .before in
+    let t = c .before .before .before .before .before .before .before .before .before in
+    c .second-held .ensures ∙ ap (λ (k : ℕ). secondHeld (this h) (c .before .before .before .before .before .before .before .before .before .before .before .row-of .result .kind) (getD (table h .places) k noPlace .parent)) (c .before .before .before .before .before .at .ensures)
+    ∙ second-same (table h) (sized (table h) (good h)) (number h) (this h) (home-in t) (row-fits t) _ (kind-is t)
+
+pub fits-busy : (c : tie.After-busy-fits Inv-loop μ-loop) → agentFits (cellOf (table (c .before .before .before .before .before .before .before .before .before .before .before .before .before .before .before .before .before .before .before .before .before))) (number (c .before .before .before .before .before .before .before .before .before .before .before .before .before .before .before .before .before .before .before .before .before)) (this (c .before .before .before .before .before .before .before .before .before .before .before .before .before .before .before .before .before .before .before .before .before)) ≡ c .busy-fits .result
+fits-busy c =
+    let h = c .before .before .before .before .before .before .before .before .before .before .before .before .before .before .before .before .before .before .before .before .before in
+    let t = c .before .before .before .before .before .before .before .before .before .before .before .before .before .before .before .before .before in
+    sym (busy-same (table h) (sized (table h) (good h)) (number h) (this h) (home-in t) (row-fits t) _ (c .before .before .before .before .before .before .before .before .before .first-held .result) (c .before .before .before .before .before .before .before .before .second-held .result) (kind-is t) (c .before .before .before .before .before .before .before .before .before .first-held .ensures) (second-is (c .before .before .before .before .before .before .before .before)))
+    ∙ rw (← c .before .before .before .before .before .before .before .before .before .before .before .before .before .before .before .before .has2 .ensures, ← c .before .before .before .before .before .before .before .before .before .before .before .before .before .at .ensures, ← c .before .before .before .before .before .before .before .before .before .before .before .at2 .ensures, ← c .before .before .before .before .before .before .before .at3 .ensures, ← c .before .before .before .before .before .before .at4 .ensures) (sym (c .busy-fits .ensures))
+
+pub moves : (c : tie.After-has3 Inv-loop μ-loop) → member (c .before .before .before .before .before .before .before .before .before .before .before .before .before .before .before .before .before .before .before .before .before .before .before .before .before .loop .going) (goingFrom (agent (c .before .before .before .before .before .before .before .before .before .before .before .before .before .before .before .before .before .before .before) (lowestIn (left (c .before .before .before .before .before .before .before .before .before .before .before .before .before .before .before .before .before .before .before))))) ≡ c .has3 .result
+moves c =
+    let h = c .before .before .before .before .before .before .before .before .before .before .before .before .before .before .before .before .before .before .before in
+    ap (member (c .before .before .before .before .before .before .before .before .before .before .before .before .before .before .before .before .before .before .before .before .before .before .before .before .before .loop .going)) (ap (λ (n : ℕ). goingFrom (agent h n)) (sym (lowest h)) ∙ sym (c .before .going-from .ensures)) ∙ sym (c .has3 .ensures)

@@ -1,0 +1,9 @@
+pub mod Pass
+pub mod TestLaws
+pub mod RowLaws
+pub mod AgentLaws
+pub mod PassLaws
+pub mod LeadLaws
+pub mod LandLaws
+pub mod SoundLaws
+pub mod SoundUse

@@ -1,0 +1,105 @@
+-- The soundness test as the program goes about it: numbers are read masked by 64, whatever they are, and tested for use beside.
+use Prim.Native.Nat.{ℕ, zero, suc, _%_, _<_}
+use mathlib.Core.Path.{_≡_}
+use mathlib.Core.Bool.{Bool, true, false, not, _&&_, _||_, cond}
+use mathlib.Core.List.{List}
+use lib.Dec.{leb, eqb}
+use lib.ListN.{getD}
+use Rattle.sets.specs.Set.{member}
+use Rattle.sets.specs.declared.Set.{Set}
+use Rattle.table.specs.Base.{allBelow, tab}
+use Rattle.table.specs.Cell.{none, noPlace, hasAction}
+use Rattle.table.specs.Sound.{ready, stageFits}
+use Rattle.table.specs.declared.Agent.{Agent}
+use Rattle.table.specs.declared.Place.{Place}
+
+-- ---- one agent
+
+-- what was read is what it should be, where the actions are in range
+abbrev pub Known : Bool → ℕ → ℕ → Type 0
+Known fit m n = fit ≡ true → m ≡ n
+
+-- the stages at which an agent holds no lock and is not on its way
+unfoldable pub quiet : ℕ → Bool
+quiet s = leb s 1 || leb 7 s
+
+-- what such a stage asks
+unfoldable pub quietFits : ℕ → Bool → Bool → Bool → ℕ → Bool
+quietFits s some known same kind =
+    cond (eqb s 0) some (cond (eqb s 1) (ready some known same kind) (cond (eqb s 7) (some && known) (cond (eqb s 8) (not some) false)))
+
+-- the lock of q is x's, if q is any
+unfoldable pub lockIsAt : Bool → ℕ → ℕ → ℕ → Bool
+lockIsAt known q lock x = cond (eqb q none) true (known && eqb lock x)
+
+-- the place x is in use and linked to p
+unfoldable pub linkedAt : Bool → Place → ℕ → Bool
+linkedAt known x p = known && (eqb (x .way) 0 && eqb (x .parent) p)
+
+-- what any stage asks of an agent whose home is in use; first and second: the places that it holds
+unfoldable pub busyFits : Bool → (ℕ → Bool) → ℕ → Agent → ℕ → Place → Place → ℕ → ℕ → ℕ → ℕ → Bool
+busyFits known used x a kind home chosen first firstLock second secondLock =
+    stageFits (a .stage) (hasAction a) known (eqb (a .remembered) (a .home)) kind
+    (linkedAt true home (a .remembered)) (linkedAt (used (a .chosen)) chosen (a .remembered))
+    && (lockIsAt (used first) first firstLock x && lockIsAt (used second) second secondLock x)
+
+-- ---- one place
+
+unfoldable pub floorStands : Place → Bool → Bool
+floorStands x going = eqb (x .name) 0 && (eqb (x .parent) 0 && (not (eqb (x .way) 0) && not going))
+
+-- what is asked of the floor
+unfoldable pub floorFits : Place → ℕ → Bool → Bool → Bool
+floorFits x lock claimed going = (eqb lock none || claimed) && floorStands x going
+
+unfoldable pub childStands : Place → Bool → Bool → Bool
+childStands x known going = leb 1 (x .name) && (known && cond (eqb (x .way) 0) (not going) going)
+
+-- what is asked of any other place in use; going: an agent of it is on its way
+unfoldable pub childFits : Place → ℕ → Bool → Bool → Bool → Bool
+childFits x lock known claimed going = (eqb lock none || claimed) && childStands x known going
+
+-- ---- the way to the floor
+
+-- the numbers in use but the floor's
+abbrev pub child : Set → ℕ → Bool
+child used q = not (eqb q 0) && member used q
+
+-- one step up from each place in use; the floor and what is not in use lead to the floor
+unfoldable pub parentsOf : List Place → Set → List ℕ
+parentsOf ps used = tab (λ q. cond (child used q) (getD ps q noPlace .parent) 0) 64 0
+
+-- twice as many steps up
+unfoldable pub doubledOf : List ℕ → List ℕ
+doubledOf up = tab (λ q. getD up (getD up q 0 % 64) 0) 64 0
+
+-- doubled n times
+unfoldable pub farUp : ℕ → List ℕ → List ℕ
+farUp zero up = up
+farUp (suc n) up = doubledOf (farUp n up)
+
+-- all are at the floor
+unfoldable pub zerosOf : List ℕ → Bool
+zerosOf up = allBelow (λ q. eqb (getD up q 0) 0) 64
+
+-- the floor leads to the floor, and so does every number past high
+pub record Flat (up : List ℕ) (high : ℕ) : Type 0 where
+  pub floor : getD up 0 0 ≡ 0
+  pub past : (j : ℕ) → high < j → getD up j 0 ≡ 0
+
+-- ---- all places
+
+-- what is asked of place q, which is in use and not the floor
+abbrev pub childTest : List Place → List ℕ → Set → Set → Set → ℕ → Bool
+childTest ps ls used claimed going q =
+    childFits (getD ps q noPlace) (getD ls q 0) (member used (getD ps q noPlace .parent)) (member claimed q) (member going q)
+
+unfoldable pub childAt : List Place → List ℕ → Set → Set → Set → ℕ → Bool
+childAt ps ls used claimed going q = cond (child used q) (childTest ps ls used claimed going q) true
+
+unfoldable pub childrenFit : List Place → List ℕ → Set → Set → Set → Bool
+childrenFit ps ls used claimed going = allBelow (childAt ps ls used claimed going) 64 && zerosOf (farUp 6 (parentsOf ps used))
+
+unfoldable pub landsFit : List Place → List ℕ → Set → Set → Set → Bool
+landsFit ps ls used claimed going =
+    member used 0 && (floorFits (getD ps 0 noPlace) (getD ls 0 0) (member claimed 0) (member going 0) && childrenFit ps ls used claimed going)

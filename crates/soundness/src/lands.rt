@@ -1,0 +1,179 @@
+// What soundness asks of the places: each by itself, and that all lead to the floor.
+use sets::Set;
+use table::Place;
+use table::at;
+ghost use mathlib.Core.Path.{_≡_};
+ghost use mathlib.Core.Bool.{_&&_};
+ghost use Prim.Native.Nat.{_<_};
+ghost use lib.Dec.{eqb};
+ghost use Rattle.soundness.specs.Pass.{Flat, floorStands, floorFits, childStands, childFits, childrenFit, landsFit, doubledOf, zerosOf, farUp};
+
+// Whether the floor is as it should be, with its lock.
+fn floor_fits(x: Place, lock: u8, claimed: bool, going: bool) -> bool
+    ensures { λ r. ⌜ r ≡ floorFits x lock claimed going ⌝ }
+{
+    if lock != 64 {
+        if claimed {
+            floor_stands(x, going)
+        } else {
+            false
+        }
+    } else {
+        floor_stands(x, going)
+    }
+}
+
+fn floor_stands(x: Place, going: bool) -> bool
+    ensures { λ r. ⌜ r ≡ floorStands x going ⌝ }
+{
+    if x.name == 0 {
+        if x.parent == 0 {
+            if x.way == 0 {
+                return false;
+            }
+            if going { false } else { true }
+        } else {
+            false
+        }
+    } else {
+        false
+    }
+}
+
+// Whether any other place in use is as it should be. known: its parent is in use.
+fn child_fits(x: Place, lock: u8, known: bool, claimed: bool, going: bool) -> bool
+    ensures { λ r. ⌜ r ≡ childFits x lock known claimed going ⌝ }
+{
+    if lock != 64 {
+        if claimed {
+            child_stands(x, known, going)
+        } else {
+            false
+        }
+    } else {
+        child_stands(x, known, going)
+    }
+}
+
+fn child_stands(x: Place, known: bool, going: bool) -> bool
+    ensures { λ r. ⌜ r ≡ childStands x known going ⌝ }
+{
+    if x.name < 1 {
+        return false;
+    }
+    if known {
+        if x.way == 0 {
+            if going { false } else { true }
+        } else {
+            going
+        }
+    } else {
+        false
+    }
+}
+
+// A number that is 0 only where both are.
+fn joined(a: u8, b: u8) -> u8
+    ensures { λ r. ⌜ eqb r 0 ≡ (eqb b 0 && eqb a 0) ⌝ }
+{
+    a | b
+}
+
+// How far up each place leads after some number of steps, and a number that is 0 only where that is the floor for all.
+pub(super) struct Far {
+    pub up: [u8; 64],
+    pub top: u8,
+}
+
+// Twice as far up; past high all lead to the floor.
+fn doubled(up: [u8; 64], high: u8) -> Far
+    requires { ⌜ Flat up high ⌝ }
+    requires { ⌜ high < 64 ⌝ }
+    ensures { λ r. ⌜ r .up ≡ doubledOf up ⌝ }
+    ensures { λ r. ⌜ eqb (r .top) 0 ≡ zerosOf (doubledOf up) ⌝ }
+{
+    let mut far = up;
+    let mut top: u8 = 0;
+    let mut q: u8 = 0;
+    while q <= high {
+        let k = q as usize;
+        let p = up[k];
+        let j = at(p);
+        let v = up[j];
+        far[k] = v;
+        top = joined(top, v);
+        q += 1;
+    }
+    Far { up: far, top: top }
+}
+
+// Whether 64 steps up lead each place to the floor: one step, doubled six times, unless all are there before.
+fn all_lead(up: [u8; 64], high: u8, top: u8) -> bool
+    requires { ⌜ Flat up high ⌝ }
+    requires { ⌜ high < 64 ⌝ }
+    requires { ⌜ eqb top 0 ≡ zerosOf up ⌝ }
+    ensures { λ r. ⌜ r ≡ zerosOf (farUp 6 up) ⌝ }
+{
+    let mut now = up;
+    let mut most = top;
+    let mut n: u8 = 0;
+    while n < 6 {
+        if most == 0 {
+            return true;
+        }
+        let far = doubled(now, high);
+        let next = far.up;
+        now = next;
+        most = far.top;
+        n += 1;
+    }
+    most == 0
+}
+
+// Whether the places in use are as they should be, beside the locks that agents hold and the places that they move, and
+// lead to the floor.
+pub(super) fn lands_fit(ps: [Place; 64], ls: [u8; 64], used: Set, claimed: Set, going: Set) -> bool
+    ensures { λ r. ⌜ r ≡ landsFit ps ls used claimed going ⌝ }
+{
+    if used.has(0) {
+        let x = ps[0];
+        let lock = ls[0];
+        let held = claimed.has(0);
+        let moved = going.has(0);
+        if floor_fits(x, lock, held, moved) {
+            children_fit(ps, ls, used, claimed, going)
+        } else {
+            false
+        }
+    } else {
+        false
+    }
+}
+
+// The same for all but the floor, which is as it should be.
+fn children_fit(ps: [Place; 64], ls: [u8; 64], used: Set, claimed: Set, going: Set) -> bool
+    ensures { λ r. ⌜ r ≡ childrenFit ps ls used claimed going ⌝ }
+{
+    let mut up: [u8; 64] = [0; 64];
+    let mut top: u8 = 0;
+    let mut high: u8 = 0;
+    let mut rest = used.remove(0);
+    while rest.bits != 0 {
+        let q = rest.first();
+        rest = rest.rest();
+        let k = q as usize;
+        let x = ps[k];
+        let lock = ls[k];
+        let known = used.has(x.parent);
+        let held = claimed.has(q);
+        let moved = going.has(q);
+        if child_fits(x, lock, known, held, moved) {
+            up[k] = x.parent;
+            top = joined(top, x.parent);
+            high = q;
+        } else {
+            return false;
+        }
+    }
+    all_lead(up, high, top)
+}
