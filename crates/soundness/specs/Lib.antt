@@ -7,3 +7,4 @@ pub mod LeadLaws
 pub mod LandLaws
 pub mod SoundLaws
 pub mod SoundUse
+pub mod Seen

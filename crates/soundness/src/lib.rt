@@ -5,4 +5,6 @@ mod lands;
 mod sound;
 
 pub use idle::is_idle;
+pub use sound::Seen;
 pub use sound::is_sound;
+pub use sound::see;

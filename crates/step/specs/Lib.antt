@@ -1,4 +1,5 @@
 pub mod Parts
+pub mod Decided
 pub mod StepLaws
 pub mod GatherLaws
 pub mod ChooseLaws

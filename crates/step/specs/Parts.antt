@@ -15,11 +15,19 @@ use Rattle.meaning.specs.declared.Word.{Word}
 use Rattle.meaning.specs.Update.{withParent, atStage, withPlaces, withLand, withLocks, withAgents, released}
 use Rattle.meaning.specs.Step.{Outcome, named, still, turn, take, release, leave, arrive, dissolve, wake, wokenOn}
 use Rattle.step.specs.declared.Change.{Change}
-use Rattle.step.specs.declared.Change.the-variants.{Still, Turn, Take, Release, Leave, Arrive, Dissolve}
+use Rattle.step.specs.declared.Change.the-variants.{Still, Turn, Take, Release, Move}
+use Rattle.step.specs.declared.Motion.{Motion}
+use Rattle.step.specs.declared.Motion.the-variants.{Leave, Arrive, Dissolve}
 
 -- the land of a table's places and the set of those in use
 abbrev pub landOf : List Place → Set → Land
 landOf ps used = record { place = λ q. getD ps q noPlace; used = member used }
+
+-- what a motion of agent x, which is a, makes of a cell
+abbrev pub shifted : State → ℕ → Agent → Motion → Outcome
+shifted c x a (Leave d) = leave c x a d
+shifted c x a (Arrive d) = arrive c x a d
+shifted c x a Dissolve = dissolve c x a (a .remembered) (a .chosen)
 
 -- what a change of agent x, which is a, makes of a cell
 abbrev pub carried : State → ℕ → Agent → Change → Outcome
@@ -27,9 +35,7 @@ carried c x a (Still w) = still c w
 carried c x a (Turn stage remembered w) = turn c x (atStage a stage remembered 0) w
 carried c x a (Take q stage remembered chosen) = take c x q (atStage a stage remembered chosen)
 carried c x a (Release p q stage remembered w) = release c x p q (atStage a stage remembered 0) w
-carried c x a (Leave d) = leave c x a d
-carried c x a (Arrive d) = arrive c x a d
-carried c x a Dissolve = dissolve c x a (a .remembered) (a .chosen)
+carried c x a (Move m) = shifted c x a m
 
 -- in every cell with these places the change is what the step f makes
 abbrev pub Says : List Place → Set → Agent → Change → (State → ℕ → Agent → Outcome) → Type 0

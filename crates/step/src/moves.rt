@@ -1,5 +1,7 @@
 // Changes of agents, locks and places, and the steps in which a place moves.
+use super::Motion;
 use super::choose::linked;
+use super::open::dissolve;
 use meaning::Answer;
 use meaning::Stepped;
 use meaning::Word;
@@ -16,8 +18,9 @@ ghost use Rattle.table.specs.Base.{tab};
 ghost use Rattle.table.specs.Cell.{cellOf};
 ghost use Rattle.meaning.specs.Update.{atStage, useUp, withParent, withWay};
 ghost use Rattle.meaning.specs.Step.{asleepOn};
-ghost use Rattle.meaning.specs.Run.{made};
+ghost use Rattle.meaning.specs.Run.{made, turnedAway};
 ghost use Rattle.step.specs.Parts.{movePlace};
+ghost use Rattle.step.specs.Decided.{moved};
 
 // The agent with its stage, remembered and chosen place.
 pub(super) fn at_stage(a: Agent, stage: u8, remembered: u8, chosen: u8) -> Agent
@@ -160,4 +163,31 @@ pub(super) fn arrive(c: Cell, x: u8, a: Agent, d: u8) -> Stepped
     let s = rest_stage(a.next, a.count);
     let b = at_stage(a, s, 0, 0);
     move_place(c, x, a.home, y, a.home, d, r, b, Word::Came)
+}
+
+// A step that no sound cell asks for: nothing changes.
+fn turned_away(c: Cell) -> Stepped
+    ensures { λ r. ⌜ r ≡ turnedAway c 11 ⌝ }
+{
+    Stepped {
+        cell: c,
+        answer: Answer::Refused(11),
+    }
+}
+
+// A place moves.
+pub(super) fn shift(c: Cell, x: u8, a: Agent, motion: Motion) -> Stepped
+    ensures { λ r. ⌜ r ≡ moved c x a motion ⌝ }
+{
+    if x >= 64 {
+        return turned_away(c);
+    }
+    if a.next >= 255 {
+        return turned_away(c);
+    }
+    match motion {
+        Motion::Leave(to) => leave(c, x, a, to),
+        Motion::Arrive(to) => arrive(c, x, a, to),
+        Motion::Dissolve => dissolve(c, x, a, a.remembered, a.chosen),
+    }
 }

@@ -1,5 +1,6 @@
 // The step functions of the stages: each says what its step changes.
 use super::Change;
+use super::Motion;
 use super::choose::linked;
 use super::choose::linked_to;
 use super::choose::qualifying;
@@ -96,13 +97,13 @@ pub(super) fn act(a: Agent, ps: [Place; 64], used: Set) -> Change
     let t = target(x.kind, a.remembered, a.chosen);
     if s.has(t) {
         if x.kind == 3 {
-            return Change::Dissolve;
+            return Change::Move(Motion::Dissolve);
         }
         if x.kind == 1 {
-            return Change::Leave(a.chosen);
+            return Change::Move(Motion::Leave(a.chosen));
         }
         let p = table::place_at(ps, a.remembered);
-        return Change::Leave(p.parent);
+        return Change::Move(Motion::Leave(p.parent));
     }
     if x.kind == 3 {
         return Change::Release(a.remembered, a.chosen, 0, 0, Word::Back);
@@ -121,7 +122,7 @@ pub(super) fn travel(a: Agent, ps: [Place; 64], used: Set) -> Change
     if a.stage == 5 {
         return Change::Take(h.parent, 6, 0, 0);
     }
-    Change::Arrive(h.parent)
+    Change::Move(Motion::Arrive(h.parent))
 }
 
 // Stages 7 and 8, asleep and done: nothing changes.

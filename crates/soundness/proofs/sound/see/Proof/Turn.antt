@@ -1,6 +1,6 @@
 -- What each turn of the walk over the agents learns of its agent, in the words of the definition.
 use Prim.Native.Nat.{ℕ, _<_}
-use mathlib.Core.Path.{_≡_, refl, sym, ap, _∙_, subst}
+use mathlib.Core.Path.{_≡_, refl, sym, ap, ap₂, _∙_, subst}
 use mathlib.Core.Bool.{Bool, true, false, not}
 use native.Mathlib.Omega.{arith}
 use lib.ListN.{getD}
@@ -12,17 +12,28 @@ use Rattle.table.specs.Cell.{noPlace, noAgent, cellOf, kindOf}
 use Rattle.table.specs.Sound.{sound, actionsFit, secondHeld, secondHeldIn, goingFrom, agentFits}
 use Rattle.soundness.specs.Pass.{quiet}
 use Rattle.soundness.specs.AgentLaws.{second-same, busy-same, quiet-same}
+use Rattle.soundness.specs.Seen.{seenOf}
 use Rattle.soundness.specs.PassLaws.{Passed, passed-stop}
 use Rattle.table.specs.declared.Agent.{Agent}
 use Rattle.table.specs.declared.Cell.{Cell}
+use Rattle.soundness.specs.declared.sound.Seen.{Seen}
 use Rattle.table.proofs.Facts.{Good, sized}
-use Rattle.soundness.proofs.sound.is_sound.Tie as tie
+use Rattle.soundness.proofs.sound.see.Tie as tie
 
 abbrev pub Inv-loop : tie.InvT-loop
-Inv-loop c used claimed₀ going₀ rest₀ claimed going rest = Passed c claimed going rest
+Inv-loop agent c own mine used claimed₀ going₀ rest₀ claimed going rest = Passed c claimed going rest
 
 abbrev pub μ-loop : tie.MeasureT-loop
-μ-loop c used claimed₀ going₀ rest₀ claimed going rest = rest .bits
+μ-loop agent c own mine used claimed₀ going₀ rest₀ claimed going rest = rest .bits
+
+-- an answer of its two parts
+abbrev pub seen : Bool → Agent → Seen
+seen b a = record { sound = b; agent = a }
+
+-- the agent that was read first is the one that the call is for
+module _ (c : tie.After-at Inv-loop μ-loop) where
+  pub seen-as : (b : Bool) → b ≡ sound (cellOf (c .before .args .t1)) → seen b (getD (c .before .args .t1 .agents) (c .at .result) noAgent) ≡ seenOf (c .before .args .t1) (c .before .args .agent)
+  seen-as b e = ap₂ seen e (ap (λ (n : ℕ). getD (c .before .args .t1 .agents) n noAgent) (c .at .ensures))
 
 positive : {n : ℕ} → (n ≡ 0 → ⊥) → 0 < n
 positive h = omega arith
@@ -36,10 +47,18 @@ small c = let l = c .before .before .before .before .loop in
 
 module _ (c : tie.After-has Inv-loop μ-loop) where
   abbrev pub table : Cell
-  table = c .before .before .before .before .before .before .before .before .before .args .t1
+  table = c .before .before .before .before .before .before .before .before .before .before .before .args .t1
 
   abbrev pub good : Good table
-  good = c .before .before .before .before .before .before .before .before .before .good .0
+  good = c .before .before .before .before .before .before .before .before .before .before .before .good .0
+
+  -- the number that the call was made with
+  abbrev asked : ℕ
+  asked = c .before .before .before .before .before .before .before .before .before .before .before .args .agent
+
+  -- the agent that was read before the walk
+  abbrev own : Agent
+  own = getD (table .agents) (c .before .before .before .before .before .before .before .before .before .before .at .result) noAgent
 
   abbrev pub number : ℕ
   number = c .before .before .before .first .result
@@ -67,9 +86,13 @@ module _ (c : tie.After-has Inv-loop μ-loop) where
   pub moved-to : (P : ℕ → Agent → Bool) (b : Bool) → P number this ≡ b → P (lowestIn left) (agent (lowestIn left)) ≡ b
   moved-to P b e = ap (λ (n : ℕ). P n (agent n)) (sym lowest) ∙ e
 
-  pub unfit : agentFits (cellOf table) number this ≡ false → false ≡ sound (cellOf table)
-  unfit e = let l = c .before .before .before .before .before .before .loop in
-      passed-stop table (sized table good) (l .claimed) (l .going) (l .rest) (l .inv) some-left (moved-to (agentFits (cellOf table)) false e)
+  -- what is handed out where the table is not sound
+  pub refused : false ≡ sound (cellOf table) → seen false own ≡ seenOf table asked
+  refused e = seen-as (c .before .before .before .before .before .before .before .before .before .before) false e
+
+  pub unfit : agentFits (cellOf table) number this ≡ false → seen false own ≡ seenOf table asked
+  unfit e = refused (let l = c .before .before .before .before .before .before .loop in
+      passed-stop table (sized table good) (l .claimed) (l .going) (l .rest) (l .inv) some-left (moved-to (agentFits (cellOf table)) false e))
 
 -- a test that was turned round
 pub turned : (b : Bool) → not b ≡ true → b ≡ false
@@ -111,7 +134,7 @@ pub second-is : (c : tie.After-second-held Inv-loop μ-loop) → c .second-held 
 second-is c =
     let h = c .before .before .before .before .before .before .before .before .before .before .before .before .before in
     let t = c .before .before .before .before .before .before .before .before .before in
-    c .second-held .ensures ∙ ap (λ (k : ℕ). secondHeld (this h) (c .before .before .before .before .before .before .before .before .before .before .before .row-of .result .kind) (getD (table h .places) k noPlace .parent)) (c .before .before .before .before .before .at .ensures)
+    c .second-held .ensures ∙ ap (λ (k : ℕ). secondHeld (this h) (c .before .before .before .before .before .before .before .before .before .before .before .row-of .result .kind) (getD (table h .places) k noPlace .parent)) (c .before .before .before .before .before .at2 .ensures)
     ∙ second-same (table h) (sized (table h) (good h)) (number h) (this h) (home-in t) (row-fits t) _ (kind-is t)
 
 pub fits-busy : (c : tie.After-busy-fits Inv-loop μ-loop) → agentFits (cellOf (table (c .before .before .before .before .before .before .before .before .before .before .before .before .before .before .before .before .before .before .before .before .before))) (number (c .before .before .before .before .before .before .before .before .before .before .before .before .before .before .before .before .before .before .before .before .before)) (this (c .before .before .before .before .before .before .before .before .before .before .before .before .before .before .before .before .before .before .before .before .before)) ≡ c .busy-fits .result
@@ -119,7 +142,7 @@ fits-busy c =
     let h = c .before .before .before .before .before .before .before .before .before .before .before .before .before .before .before .before .before .before .before .before .before in
     let t = c .before .before .before .before .before .before .before .before .before .before .before .before .before .before .before .before .before in
     sym (busy-same (table h) (sized (table h) (good h)) (number h) (this h) (home-in t) (row-fits t) _ (c .before .before .before .before .before .before .before .before .before .first-held .result) (c .before .before .before .before .before .before .before .before .second-held .result) (kind-is t) (c .before .before .before .before .before .before .before .before .before .first-held .ensures) (second-is (c .before .before .before .before .before .before .before .before)))
-    ∙ rw (← c .before .before .before .before .before .before .before .before .before .before .before .before .before .before .before .before .has2 .ensures, ← c .before .before .before .before .before .before .before .before .before .before .before .before .before .at .ensures, ← c .before .before .before .before .before .before .before .before .before .before .before .at2 .ensures, ← c .before .before .before .before .before .before .before .at3 .ensures, ← c .before .before .before .before .before .before .at4 .ensures) (sym (c .busy-fits .ensures))
+    ∙ rw (← c .before .before .before .before .before .before .before .before .before .before .before .before .before .before .before .before .has2 .ensures, ← c .before .before .before .before .before .before .before .before .before .before .before .before .before .at2 .ensures, ← c .before .before .before .before .before .before .before .before .before .before .before .at3 .ensures, ← c .before .before .before .before .before .before .before .at4 .ensures, ← c .before .before .before .before .before .before .at5 .ensures) (sym (c .busy-fits .ensures))
 
 pub moves : (c : tie.After-has3 Inv-loop μ-loop) → member (c .before .before .before .before .before .before .before .before .before .before .before .before .before .before .before .before .before .before .before .before .before .before .before .before .before .loop .going) (goingFrom (agent (c .before .before .before .before .before .before .before .before .before .before .before .before .before .before .before .before .before .before .before) (lowestIn (left (c .before .before .before .before .before .before .before .before .before .before .before .before .before .before .before .before .before .before .before))))) ≡ c .has3 .result
 moves c =
