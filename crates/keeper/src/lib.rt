@@ -43,7 +43,7 @@ pub fn idle(c: Cell) -> Idled
     ensures { λ r. ⌜ r ≡ idleOf c ⌝ }
 {
     if soundness::is_sound(c) {
-        if soundness::is_idle(c) {
+        if table::is_idle(c) {
             Idled::Idle
         } else {
             Idled::Busy

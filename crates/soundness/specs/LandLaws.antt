@@ -16,7 +16,7 @@ use Rattle.sets.specs.WalkLaws.{Rest, rest-start, rest-end, rest-lt, rest-membe
 use Rattle.sets.specs.declared.Set.{Set}
 use Rattle.table.specs.Base.{tab, allBelow}
 use Rattle.table.specs.BaseLaws.{Told, yea, nay, told, all-none, all-more, all-rest, all-ext, getD-tab, length-tab}
-use Rattle.soundness.specs.TestLaws.{Tested, tested-start, tested-end, tested-stop, tested-more}
+use Rattle.table.specs.TestLaws.{Tested, tested-start, tested-end, tested-stop, tested-more}
 use Rattle.table.specs.SweepLaws.{below, sweep-start, sweep-hit, sweep-skip, sweep-end, sweep-from}
 use Rattle.table.specs.Cell.{noPlace}
 use Rattle.soundness.specs.Pass.{child, parentsOf, zerosOf, Flat, farUp, childTest, childAt, childrenFit}

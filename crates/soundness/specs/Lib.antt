@@ -1,5 +1,4 @@
 pub mod Pass
-pub mod TestLaws
 pub mod RowLaws
 pub mod AgentLaws
 pub mod PassLaws

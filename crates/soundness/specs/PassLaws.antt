@@ -18,7 +18,7 @@ use Rattle.sets.specs.WalkLaws.{Rest, rest-start, rest-end, rest-lt, rest-membe
 use Rattle.sets.specs.declared.Set.{Set}
 use Rattle.table.specs.Base.{allBelow, anyBelow, countBelow}
 use Rattle.table.specs.BaseLaws.{Told, yea, nay, told, and-left, and-right, all-at, any-rest, count-rest, count-le}
-use Rattle.soundness.specs.TestLaws.{Tested, tested-start, tested-end, tested-stop, tested-more}
+use Rattle.table.specs.TestLaws.{Tested, tested-start, tested-end, tested-stop, tested-more}
 use Rattle.table.specs.Cell.{none, noAgent, State, cellOf}
 use Rattle.table.specs.Bounds.{Sized}
 use Rattle.table.specs.Sound.{firstHeld, secondHeldIn, agentFits, agentSound, goingFrom, claims, goes, stands, travellersFit, placeFits, placeSound, leads, sound}

@@ -23,10 +23,10 @@ use Rattle.meaning.specs.declared.Answer.the-variants.{Did}
 use Rattle.meaning.specs.Update.{released}
 use Rattle.meaning.specs.Step.{Outcome, still, turn, take, release, stepAt, step}
 use Rattle.meaning.specs.Run.{made, stepOf}
-use Rattle.step.specs.Parts.{shifted}
-use Rattle.step.specs.Decided.{staying, going, settled, moved, carriedOut}
-use Rattle.step.specs.StepLaws.{did}
-use Rattle.step.specs.declared.Motion.{Motion}
+use Rattle.updates.specs.UpdateLaws.{did}
+use Rattle.moves.specs.Motions.{shifted, moved}
+use Rattle.moves.specs.declared.Motion.{Motion}
+use Rattle.step.specs.Decided.{staying, going, settled, carriedOut}
 
 -- ---- the agent's row
 

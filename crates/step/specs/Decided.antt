@@ -1,9 +1,8 @@
 -- What a decision makes of a table, and when it is the step's.
 use Prim.Native.Nat.{ℕ, _%_, _<_}
 use mathlib.Core.Path.{_≡_}
-use mathlib.Core.Bool.{true, false, _&&_, cond}
+use mathlib.Core.Bool.{true, false, cond}
 use mathlib.Core.List.{List}
-use lib.Dec.{ltb}
 use lib.ListN.{getD, set}
 use Rattle.table.specs.Cell.{noAgent, cellOf}
 use Rattle.table.specs.Bounds.{Sized}
@@ -14,11 +13,12 @@ use Rattle.soundness.specs.declared.sound.Seen.{Seen}
 use Rattle.meaning.specs.declared.Answer.{Answer}
 use Rattle.meaning.specs.declared.Answer.the-variants.{Refused}
 use Rattle.meaning.specs.declared.Stepped.{Stepped}
-use Rattle.meaning.specs.Run.{made, turnedAway, stepOf}
-use Rattle.step.specs.Parts.{shifted, carried}
-use Rattle.step.specs.declared.Change.{Change}
-use Rattle.step.specs.declared.Motion.{Motion}
-use Rattle.step.specs.declared.Motion.the-variants.{Dissolve}
+use Rattle.meaning.specs.Run.{made, stepOf}
+use Rattle.moves.specs.Motions.{moved}
+use Rattle.moves.specs.declared.Motion.{Motion}
+use Rattle.moves.specs.declared.Motion.the-variants.{Dissolve}
+use Rattle.stages.specs.Says.{carried}
+use Rattle.stages.specs.declared.Change.{Change}
 use Rattle.step.specs.declared.Decision.{Decision}
 
 -- ---- decisions
@@ -36,10 +36,6 @@ going m a ls = record { moves = true; motion = m; agent = a; locks = ls; answer 
 -- agent x of the table is a, and its locks are ls; past 63 agents are numbered from 0 again
 abbrev pub settled : Cell → ℕ → Agent → List ℕ → Cell
 settled t x a ls = record { places = t .places; locks = ls; agents = set (t .agents) (x % 64) a; used = t .used; given = t .given }
-
--- the motion of agent x, which is a; an agent that no sound table has is turned away
-unfoldable pub moved : Cell → ℕ → Agent → Motion → Stepped
-moved t x a m = cond (ltb x 64 && ltb (a .next) 255) (made (shifted (cellOf t) x a m)) (turnedAway t 11)
 
 -- what a decision for agent x makes of a table
 unfoldable pub carriedOut : Cell → ℕ → Decision → Stepped

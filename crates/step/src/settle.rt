@@ -1,12 +1,12 @@
 // What a change that moves no place makes of the agent and of the locks.
-use super::Change;
 use super::Decision;
-use super::Motion;
-use super::moves::at_stage;
-use super::moves::released;
 use meaning::Answer;
 use meaning::Word;
+use moves::Motion;
+use stages::Change;
 use table::Agent;
+use updates::at_stage;
+use updates::released;
 ghost use Rattle.step.specs.Decided.{Settles, staying, going};
 ghost use mathlib.Core.Path.{_≡_};
 

@@ -7,3 +7,4 @@ pub mod ElementLaws
 pub mod CellLaws
 pub mod Sound
 pub mod Idle
+pub mod TestLaws

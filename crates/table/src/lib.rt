@@ -1,10 +1,12 @@
-// The cell's table: places, locks and agents, and the reading and writing of one element.
+// The cell's table: places, locks and agents, the reading and writing of one element, and whether all agents are at rest.
 mod elements;
+mod idle;
 
 pub use elements::lock_at;
 pub use elements::place_at;
 pub use elements::with_lock;
 pub use elements::with_place;
+pub use idle::is_idle;
 use sets::Set;
 ghost use mathlib.Core.Path.{_≡_};
 ghost use Prim.Native.Nat.{_%_};

@@ -8,7 +8,7 @@ use Rattle.step.proofs.carry_out.Statement.{statement}
 use Rattle.step.proofs.carry_out.Tie as tie
 use Rattle.step.proofs.carry_out.Reads as reads
 use Rattle.step.proofs.carry_out.Lts as lts
-use Rattle.step.proofs.moves.shift.Reads as shift-reads
+use Rattle.moves.proofs.shift.Reads as shift-reads
 use Rattle.table.proofs.at.Reads as at-reads
 
 shift-requires : tie.Need-shift-requires

@@ -27,7 +27,7 @@ use Rattle.step.proofs.decide.Lts as lts
 use Rattle.sets.proofs.Set.has.Reads as has-reads
 use Rattle.step.proofs.settle.settled.Reads as settled-reads
 use Rattle.step.proofs.settle.stays.Reads as stays-reads
-use Rattle.step.proofs.stage_step.Reads as stage-step-reads
+use Rattle.stages.proofs.stage_step.Reads as stage-step-reads
 
 has-requires : tie.Need-has-requires
 has-requires c κs = search needs

@@ -7,18 +7,18 @@ use Rattle.table.specs.declared.Agent.{Agent}
 use Rattle.table.specs.declared.Cell.{Cell}
 use Rattle.meaning.specs.Run.{made}
 use Rattle.meaning.specs.declared.Answer.{Answer}
-use Rattle.step.specs.Parts.{carried}
+use Rattle.stages.specs.Says.{carried}
 use Rattle.step.specs.Decided.{staying, carriedOut}
 use Rattle.step.specs.CarryLaws.{carry-still, carry-held, carry-turn, carry-took, carry-release, carry-move}
-use Rattle.step.specs.declared.Change.{Change}
+use Rattle.stages.specs.declared.Change.{Change}
 use Rattle.step.specs.declared.Decision.{Decision}
 use borrow.Author.Needs.{needs}
 use Rattle.step.proofs.settle.settled.Statement.{statement}
 use Rattle.step.proofs.settle.settled.Tie as tie
 use Rattle.step.proofs.settle.settled.Reads as reads
 use Rattle.step.proofs.settle.settled.Lts as lts
-use Rattle.step.proofs.moves.at_stage.Reads as at-stage-reads
-use Rattle.step.proofs.moves.released.Reads as released-reads
+use Rattle.updates.proofs.at_stage.Reads as at-stage-reads
+use Rattle.updates.proofs.released.Reads as released-reads
 use Rattle.step.proofs.settle.goes.Reads as goes-reads
 use Rattle.step.proofs.settle.stays.Reads as stays-reads
 use Rattle.table.proofs.lock_at.Reads as lock-at-reads

@@ -1,0 +1,3 @@
+pub mod Motions
+pub mod WakeLaws
+pub mod OpenLaws

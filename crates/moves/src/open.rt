@@ -1,0 +1,199 @@
+// Opening: a place is dissolved into the place that it is linked to.
+use super::places::asleep_on;
+use super::places::rest_stage;
+use super::places::use_up;
+use meaning::Answer;
+use meaning::Stepped;
+use meaning::Word;
+use sets::Set;
+use table::Agent;
+use table::Cell;
+use table::Place;
+use updates::at_stage;
+use updates::released;
+ghost use mathlib.Core.Path.{_≡_};
+ghost use mathlib.Core.Bool.{_&&_, cond};
+ghost use Prim.Native.Nat.{_<_};
+ghost use lib.Dec.{eqb};
+ghost use lib.ListN.{getD};
+ghost use Rattle.sets.specs.Set.{member};
+ghost use Rattle.table.specs.Base.{tab};
+ghost use Rattle.table.specs.Cell.{none, noPlace, cellOf};
+ghost use Rattle.meaning.specs.Update.{withHome};
+ghost use Rattle.meaning.specs.Step.{dissolveAgent, wokenBy};
+ghost use Rattle.meaning.specs.Run.{made};
+ghost use Rattle.moves.specs.Motions.{adopted};
+
+// Place q once t is dissolved into p: cleared where it is t, and a child of t goes to p.
+fn adopt_one(q: u8, x: Place, p: u8, t: u8) -> Place
+    ensures { λ r. ⌜ r ≡ adopted p t q x ⌝ }
+{
+    if q == t {
+        return table::no_place();
+    }
+    let mut y = x;
+    if x.parent == t {
+        y.parent = p;
+    }
+    y
+}
+
+// The places once t is dissolved into p.
+fn adopt(ps: [Place; 64], p: u8, t: u8) -> [Place; 64]
+    ensures { λ r. ⌜ r ≡ tab (λ q. adopted p t q (getD ps q noPlace)) 64 0 ⌝ }
+{
+    let mut qs = ps;
+    let mut q: u8 = 0;
+    while q < 64 {
+        let k = q as usize;
+        let x = ps[k];
+        let y = adopt_one(q, x, p, t);
+        qs[k] = y;
+        q += 1;
+    }
+    qs
+}
+
+// A lock once those of the agents in s are released.
+fn free_one(l: u8, s: Set) -> u8
+    ensures { λ r. ⌜ r ≡ cond (member s l) none l ⌝ }
+{
+    if s.has(l) { 64 } else { l }
+}
+
+// The locks once those of the agents in s are released.
+fn free_held(ls: [u8; 64], s: Set) -> [u8; 64]
+    ensures { λ r. ⌜ r ≡ tab (λ q. cond (member s (getD ls q 0)) none (getD ls q 0)) 64 0 ⌝ }
+{
+    let mut ms = ls;
+    let mut q: usize = 0;
+    while q < 64 {
+        let l = ls[q];
+        let n = free_one(l, s);
+        ms[q] = n;
+        q += 1;
+    }
+    ms
+}
+
+// The agent, living in h.
+fn with_home(a: Agent, h: u8) -> Agent
+    ensures { λ r. ⌜ r ≡ withHome a h ⌝ }
+{
+    let mut b = a;
+    b.home = h;
+    b
+}
+
+// The stage of an agent that moves: 8 if it is done, else 0.
+fn moved_stage(s: u8) -> u8
+    ensures { λ r. ⌜ r ≡ cond (eqb s 8) 8 0 ⌝ }
+{
+    if s == 8 { 8 } else { 0 }
+}
+
+// Whether an agent at stage 1 remembers t.
+fn found(a: Agent, t: u8) -> bool
+    ensures { λ r. ⌜ r ≡ (eqb (a .stage) 1 && eqb (a .remembered) t) ⌝ }
+{
+    if a.stage == 1 {
+        a.remembered == t
+    } else {
+        false
+    }
+}
+
+// An agent that is given, once t is dissolved into p.
+fn dissolve_agent(a: Agent, p: u8, t: u8) -> Agent
+    ensures { λ r. ⌜ r ≡ dissolveAgent p t a ⌝ }
+{
+    if a.home == t {
+        let s = moved_stage(a.stage);
+        let b = at_stage(a, s, 0, 0);
+        return with_home(b, p);
+    }
+    if found(a, t) {
+        return at_stage(a, 0, 0, 0);
+    }
+    if asleep_on(a, p, t, t) {
+        return at_stage(a, 0, 0, 0);
+    }
+    a
+}
+
+// An agent, given or not, once t is dissolved into p.
+fn after_opening(given: bool, a: Agent, p: u8, t: u8) -> Agent
+    ensures { λ r. ⌜ r ≡ cond given (dissolveAgent p t a) a ⌝ }
+{
+    if given { dissolve_agent(a, p, t) } else { a }
+}
+
+// Whether an agent, given or not, is woken when t is dissolved into p.
+fn woken_by(given: bool, a: Agent, p: u8, t: u8) -> bool
+    ensures { λ r. ⌜ r ≡ (given && wokenBy p t a) ⌝ }
+{
+    if given {
+        if a.stage == 7 {
+            if a.home == t {
+                return true;
+            }
+            if a.remembered == p {
+                return true;
+            }
+            return a.remembered == t;
+        }
+    }
+    false
+}
+
+// Whether an agent that moves from t holds a lock at stage 2.
+fn lets_go(a: Agent, t: u8) -> bool
+    ensures { λ r. ⌜ r ≡ (eqb (a .home) t && eqb (a .stage) 2) ⌝ }
+{
+    if a.home == t { a.stage == 2 } else { false }
+}
+
+// Stage 3 of open: place t is dissolved into p.
+pub(super) fn dissolve(c: Cell, x: u8, a: Agent, p: u8, t: u8) -> Stepped
+    requires { ⌜ x < 64 ⌝ }
+    requires { ⌜ a .next < 255 ⌝ }
+    ensures { λ r. ⌜ r ≡ made (Rattle.meaning.specs.Step.dissolve (cellOf c) x a p t) ⌝ }
+{
+    let given = c.given;
+    let used = c.used;
+    let ps = c.places;
+    let ls = c.locks;
+    let mut d = c;
+    let mut holders = Set::EMPTY;
+    let mut sleepers = Set::EMPTY;
+    let mut j: u8 = 0;
+    while j < 64 {
+        let k = j as usize;
+        let e = d.agents[k];
+        let g = given.has(j);
+        let woken = woken_by(g, e, p, t);
+        sleepers = sleepers.insert_if(j, woken);
+        let held = lets_go(e, t);
+        holders = holders.insert_if(j, held);
+        let f = after_opening(g, e, p, t);
+        d.agents[k] = f;
+        j += 1;
+    }
+    let qs = adopt(ps, p, t);
+    d.places = qs;
+    let ms = free_held(ls, holders);
+    let ns = released(ms, p, t);
+    d.locks = ns;
+    let us = used.remove(t);
+    d.used = us;
+    let u = use_up(a);
+    let s = rest_stage(u.next, u.count);
+    let b = at_stage(u, s, 0, 0);
+    let i = x as usize;
+    d.agents[i] = b;
+    let n = sleepers.count() as u8;
+    Stepped {
+        cell: d,
+        answer: Answer::Did(Word::Opened, n),
+    }
+}

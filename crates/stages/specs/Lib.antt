@@ -1,0 +1,3 @@
+pub mod Says
+pub mod ChooseLaws
+pub mod ChildLaws
