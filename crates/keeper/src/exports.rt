@@ -1,18 +1,23 @@
 // The calls of C hosts: the cell is lent, and each answer is a number.
-use crate::check;
 use crate::check_number;
-use crate::idle;
+use crate::checked;
 use crate::idle_number;
-use crate::list;
+use crate::idled;
 use crate::list_number;
 use crate::load;
 use crate::load_number;
-use crate::step;
 use crate::step_number;
+use lister::list_known;
+use soundness::Seen;
+use soundness::see;
+use step::carry_out;
+use step::decide;
 use table::Cell;
+use table::at;
 ghost use mathlib.Core.Path.{_≡_};
 ghost use Rattle.table.specs.Cell.{bareTable, cellOf};
 ghost use Rattle.meaning.specs.File.{loadOf};
+ghost use Rattle.soundness.specs.Seen.{seenOf};
 ghost use Rattle.meaning.specs.Run.{stepOf};
 ghost use Rattle.meaning.specs.Listing.{listAnswer, listBuffer};
 ghost use Rattle.meaning.specs.Codes.{checkOf, idleOf, loadNumber, stepNumber, listNumber, checkNumber, idleNumber};
@@ -37,15 +42,30 @@ pub extern "C" fn keeper_load(cell: &mut Cell, file: &[u8]) -> u64
     load_number(l.verdict)
 }
 
+// What a call for this agent sees of a lent cell.
+fn seen(cell: &Cell, agent: u8) -> Seen
+    ensures { λ r. ⌜ r ≡ seenOf (now (cell .entry)) agent ⌝ }
+{
+    see(*cell, agent)
+}
+
 // One lock step.
 #[no_mangle]
 pub extern "C" fn keeper_step(cell: &mut Cell, agent: u8, wish: u8) -> u64
     ensures { λ r. ⌜ (now (cell .exit) ≡ stepOf (now (cell .entry)) agent wish .cell)
         × (r ≡ stepNumber (stepOf (now (cell .entry)) agent wish .answer)) ⌝ }
 {
-    let s = step(*cell, agent, wish);
-    *cell = s.cell;
-    step_number(s.answer)
+    let s = seen(cell, agent);
+    let d = decide(s, *cell, agent, wish);
+    if d.moves {
+        let r = carry_out(*cell, agent, d);
+        *cell = r.cell;
+        return step_number(r.answer);
+    }
+    let k = at(agent);
+    cell.agents[k] = d.agent;
+    cell.locks = d.locks;
+    step_number(d.answer)
 }
 
 // The listing, in a lent text.
@@ -54,7 +74,8 @@ pub extern "C" fn keeper_list(cell: &Cell, text: &mut [u8]) -> u64
     ensures { λ r. ⌜ (now (text .exit) ≡ listBuffer (cellOf (now (cell .entry))) (now (text .entry)))
         × (r ≡ listNumber (listAnswer (cellOf (now (cell .entry))) (now (text .entry)))) ⌝ }
 {
-    list_number(list(*cell, text))
+    let s = seen(cell, 0);
+    list_number(list_known(s.sound, *cell, text))
 }
 
 // Whether the cell is sound.
@@ -62,7 +83,8 @@ pub extern "C" fn keeper_list(cell: &Cell, text: &mut [u8]) -> u64
 pub extern "C" fn keeper_check(cell: &Cell) -> u64
     ensures { λ r. ⌜ r ≡ checkNumber (checkOf (now (cell .entry))) ⌝ }
 {
-    check_number(check(*cell))
+    let s = seen(cell, 0);
+    check_number(checked(s.sound))
 }
 
 // Whether all agents are asleep or done.
@@ -70,5 +92,6 @@ pub extern "C" fn keeper_check(cell: &Cell) -> u64
 pub extern "C" fn keeper_idle(cell: &Cell) -> u64
     ensures { λ r. ⌜ r ≡ idleNumber (idleOf (now (cell .entry))) ⌝ }
 {
-    idle_number(idle(*cell))
+    let s = seen(cell, 0);
+    idle_number(idled(s.sound, *cell))
 }

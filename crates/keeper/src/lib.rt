@@ -5,6 +5,9 @@ use meaning::Checked;
 use meaning::Idled;
 use table::Cell;
 ghost use mathlib.Core.Path.{_≡_};
+ghost use mathlib.Core.Bool.{cond};
+ghost use Rattle.table.specs.Cell.{cellOf};
+ghost use Rattle.table.specs.Sound.{sound};
 ghost use Rattle.meaning.specs.Codes.{checkOf, idleOf};
 
 // A bare floor: `bareTable`.
@@ -27,22 +30,22 @@ pub use numbers::load_number;
 pub use numbers::step_number;
 pub use numbers::word_number;
 
-// A soundness check: 10 is its one refusal.
-pub fn check(c: Cell) -> Checked
-    ensures { λ r. ⌜ r ≡ checkOf c ⌝ }
+// What a check answers: 10 is its one refusal.
+fn checked(sound: bool) -> Checked
+    ensures { λ r. ⌜ r ≡ cond sound Checked.Sound (Checked.Unsound 10) ⌝ }
 {
-    if soundness::is_sound(c) {
+    if sound {
         Checked::Sound
     } else {
         Checked::Unsound(10)
     }
 }
 
-// Whether all agents are asleep or done: 10 is its one refusal.
-pub fn idle(c: Cell) -> Idled
-    ensures { λ r. ⌜ r ≡ idleOf c ⌝ }
+// What is answered of a cell's idleness, where it is known whether the cell is sound: 10 is its one refusal.
+fn idled(known: bool, c: Cell) -> Idled
+    ensures { λ r. ⌜ (known ≡ sound (cellOf c) → r ≡ idleOf c) ⌝ }
 {
-    if soundness::is_sound(c) {
+    if known {
         if table::is_idle(c) {
             Idled::Idle
         } else {
@@ -51,4 +54,18 @@ pub fn idle(c: Cell) -> Idled
     } else {
         Idled::Unknown(10)
     }
+}
+
+// A soundness check.
+pub fn check(c: Cell) -> Checked
+    ensures { λ r. ⌜ r ≡ checkOf c ⌝ }
+{
+    checked(soundness::is_sound(c))
+}
+
+// Whether all agents are asleep or done.
+pub fn idle(c: Cell) -> Idled
+    ensures { λ r. ⌜ r ≡ idleOf c ⌝ }
+{
+    idled(soundness::is_sound(c), c)
 }

@@ -19,6 +19,7 @@ ghost use lib.ListN.{length};
 ghost use Rattle.sets.specs.Word.{has};
 ghost use Rattle.sets.specs.WalkLaws.{Rest};
 ghost use Rattle.table.specs.Cell.{cellOf};
+ghost use Rattle.table.specs.Sound.{sound};
 ghost use Rattle.meaning.specs.Listing.{listing, listAnswer, listBuffer};
 ghost use Rattle.text.specs.Wrote.{Wrote, Added};
 ghost use Rattle.lister.specs.Sheet.{bar, rowAt, parts, sheetOf, headText, contentsOn, placeOn, floorOn, WroteIf};
@@ -192,11 +193,12 @@ pub fn write_listing(c: Cell, buf: &mut [u8]) -> usize
     write_if(c, false, buf)
 }
 
-// The listing call: refused where the table is unsound, then where the listing is longer than the buffer.
-pub fn list(c: Cell, buf: &mut [u8]) -> Listed
-    ensures { λ r. ⌜ (r ≡ listAnswer (cellOf c) (now (buf .entry))) × (now (buf .exit) ≡ listBuffer (cellOf c) (now (buf .entry))) ⌝ }
+// The listing call, where it is known whether the table is sound: refused where it is not, then where the listing is longer
+// than the buffer.
+pub fn list_known(known: bool, c: Cell, buf: &mut [u8]) -> Listed
+    ensures { λ r. ⌜ (known ≡ sound (cellOf c) → (r ≡ listAnswer (cellOf c) (now (buf .entry))) × (now (buf .exit) ≡ listBuffer (cellOf c) (now (buf .entry)))) ⌝ }
 {
-    if soundness::is_sound(c) {
+    if known {
         let n = write_if(c, true, buf);
         if buf.len() < n {
             return Listed::Unlisted(12);
@@ -204,4 +206,11 @@ pub fn list(c: Cell, buf: &mut [u8]) -> Listed
         return Listed::Length(n);
     }
     Listed::Unlisted(10)
+}
+
+// The listing call.
+pub fn list(c: Cell, buf: &mut [u8]) -> Listed
+    ensures { λ r. ⌜ (r ≡ listAnswer (cellOf c) (now (buf .entry))) × (now (buf .exit) ≡ listBuffer (cellOf c) (now (buf .entry))) ⌝ }
+{
+    list_known(soundness::is_sound(c), c, buf)
 }

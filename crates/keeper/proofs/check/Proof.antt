@@ -1,6 +1,5 @@
--- The answer of each branch is read off the definition once the test is rewritten to what `is_sound` answered.
+-- What `checked` answers is the definition at what `is_sound` answered.
 use borrow.Author.Needs.{needs}
-use Rattle.table.proofs.Rules.{tests}
 use Rattle.meaning.specs.Codes.{checkOf}
 use Rattle.keeper.proofs.check.Statement.{statement}
 use Rattle.keeper.proofs.check.Tie as tie
@@ -8,13 +7,12 @@ use Rattle.keeper.proofs.check.Tie as tie
 is-sound-requires : tie.Need-is-sound-requires
 is-sound-requires c κs = search needs
 
+checked-requires : tie.Need-checked-requires
+checked-requires c κs = search needs
+
 returns : tie.Need-returns
 unfolding checkOf
-returns c = search (tests, ← c .before .is-sound .ensures, c .if1 .taken)
-
-returns-2 : tie.Need-returns-2
-unfolding checkOf
-returns-2 c = search (tests, ← c .before .is-sound .ensures, c .if1 .left)
+returns c = search (needs, c .checked .ensures, ← c .before .is-sound .ensures)
 
 pub check-spec : {M : Type 1} → statement M
-check-spec = tie.close (tie.spec is-sound-requires returns returns-2)
+check-spec = tie.close (tie.spec is-sound-requires checked-requires returns)

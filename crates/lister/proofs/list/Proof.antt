@@ -1,41 +1,19 @@
--- The tests in their order, and what was written.
-use mathlib.Core.Path.{sym, _∙_}
-use native.Mathlib.Omega.{arith}
+-- What `list_known` says, at what `is_sound` answered.
 use borrow.Author.Needs.{needs}
-use Rattle.table.specs.Cell.{cellOf}
-use Rattle.lister.specs.CallLaws.{refused-unsound, refused-long, listed}
 use Rattle.lister.proofs.list.Statement.{statement}
 use Rattle.lister.proofs.list.Tie as tie
 
 is-sound-requires : tie.Need-is-sound-requires
 is-sound-requires c κs = search needs
 
-write-if-requires : tie.Need-write-if-requires
-write-if-requires c κs = search needs
+list-known-requires : tie.Need-list-known-requires
+list-known-requires c κs = search needs
 
 same-length : tie.Need-same-length
 same-length c = search needs
 
 returns : tie.Need-returns
-returns c = refused-long (cellOf (c .before .before .before .before .before .before .before .before .args .c)) (omega (arith, c .before .before .before .before .before .before .before .before .good)) (sym (c .before .before .before .before .before .before .is-sound .ensures) ∙ c .before .before .before .before .before .if1 .taken) (c .before .before .before .write-if .ensures) (c .if2 .taken)
-
-same-length-2 : tie.Need-same-length-2
-same-length-2 c = search needs
-
-returns-2 : tie.Need-returns-2
-returns-2 c = listed (cellOf (c .before .before .before .before .before .before .before .before .args .c)) (omega (arith, c .before .before .before .before .before .before .before .before .good)) (sym (c .before .before .before .before .before .before .is-sound .ensures) ∙ c .before .before .before .before .before .if1 .taken) (c .before .before .before .write-if .ensures) (c .if2 .left)
-
-returns-3 : tie.Need-returns-3
-returns-3 c = refused-unsound (cellOf (c .before .before .before .args .c)) _ (sym (c .before .is-sound .ensures) ∙ c .if1 .left)
+returns c = c .before .before .list-known .ensures (c .before .before .before .before .is-sound .ensures)
 
 pub list-spec : {M : Type 1} → statement M
-list-spec =
-    tie.close
-    (tie.spec
-    is-sound-requires
-    write-if-requires
-    same-length
-    returns
-    same-length-2
-    returns-2
-    returns-3)
+list-spec = tie.close (tie.spec is-sound-requires list-known-requires same-length returns)
