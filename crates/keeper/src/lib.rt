@@ -20,7 +20,7 @@ pub use reader::load;
 pub use step::step;
 
 // The listing in a lent text, or the refusal and the text as it was: `listAnswer` and `listBuffer`.
-pub use lister::list;
+pub use listing::list;
 
 // Every answer as a number.
 pub use numbers::check_number;

@@ -6,5 +6,5 @@ pub mod SheetLaws
 pub mod GroupLaws
 pub mod RowLaws
 pub mod DrawnLaws
-pub mod CallLaws
+pub mod WriteLaws
 pub mod DepthLaws

@@ -1,70 +1,86 @@
-// The lines that walk writes, and the whole report of a run.
-mod run;
-
+// The report of a run: the listing at the start, a line for each call, the listing at the end.
+use lines::write_refused;
+use lines::write_step;
 use meaning::Answer;
-use meaning::Word;
-pub use run::write_report;
-ghost use Rattle.text.specs.Wrote.{Wrote, Added};
-ghost use Rattle.meaning.specs.declared.Answer.the-variants.{Did, Refused};
-ghost use Rattle.meaning.specs.Report.{wordText, stepLine, refusedLine};
+use meaning::Verdict;
+use table::Cell;
+ghost use mathlib.Core.Path.{_≡_};
+ghost use Prim.Native.Nat.{_/_};
+ghost use lib.ListN.{length};
+ghost use Rattle.table.specs.Cell.{cellOf};
+ghost use Rattle.text.specs.Wrote.{Wrote, Added, least};
+ghost use Rattle.meaning.specs.Report.{stepLine, listingLine, report as reportOf};
+ghost use Rattle.report.specs.Run.{reportFrom};
 
-// The word of an answer, at a position.
-fn add_word(word: Word, at: usize, buf: &mut [u8]) -> usize
-    ensures { λ r. ⌜ Added (wordText word) (now (buf .entry)) (now (buf .exit)) at r ⌝ }
+// A word and the listing of a cell, at a position.
+fn add_listing(word: &[u8], c: Cell, at: usize, buf: &mut [u8]) -> usize
+    ensures { λ r. ⌜ Added (listingLine (now (word .entry)) (cellOf c)) (now (buf .entry)) (now (buf .exit)) at r ⌝ }
 {
-    match word {
-        Word::Looked => text::add_bytes(b"looked", at, buf),
-        Word::Took => text::add_bytes(b"took", at, buf),
-        Word::Held => text::add_bytes(b"held", at, buf),
-        Word::Back => text::add_bytes(b"back", at, buf),
-        Word::Slept => text::add_bytes(b"slept", at, buf),
-        Word::Left => text::add_bytes(b"left", at, buf),
-        Word::Came => text::add_bytes(b"came", at, buf),
-        Word::Opened => text::add_bytes(b"opened", at, buf),
-        Word::Asleep => text::add_bytes(b"asleep", at, buf),
-        Word::Done => text::add_bytes(b"done", at, buf),
+    let from = text::least(at, buf.len());
+    let n = write_listing_line(word, c, &mut buf[from..]);
+    text::plus(at, n)
+}
+
+// A word and the listing of a cell, as one line.
+fn write_listing_line(word: &[u8], c: Cell, buf: &mut [u8]) -> usize
+    ensures { λ r. ⌜ Wrote (listingLine (now (word .entry)) (cellOf c)) (now (buf .entry)) (now (buf .exit)) r ⌝ }
+{
+    let said = text::write_bytes(word, buf);
+    let spaced = text::add_byte(b' ', said, buf);
+    let from = text::least(spaced, buf.len());
+    let n = listing::write_listing(c, &mut buf[from..]);
+    let listed = text::plus(spaced, n);
+    text::add_byte(10, listed, buf)
+}
+
+// The line of a step call, at a position.
+fn add_step(agent: u8, answer: Answer, at: usize, buf: &mut [u8]) -> usize
+    ensures { λ r. ⌜ Added (stepLine agent answer) (now (buf .entry)) (now (buf .exit)) at r ⌝ }
+{
+    let from = text::least(at, buf.len());
+    let n = write_step(agent, answer, &mut buf[from..]);
+    text::plus(at, n)
+}
+
+// How many pairs of the order count: 16,384 at most, and an odd last byte is none.
+fn pairs(order: &[u8]) -> usize
+    ensures { λ r. ⌜ r ≡ least (length (now (order .entry)) / 2) 16384 ⌝ }
+{
+    let n = order.len() / 2;
+    text::least(n, 16384)
+}
+
+// From an accepted cell on: the first line, a line for each call, and the last line.
+fn write_run(c: Cell, order: &[u8], buf: &mut [u8]) -> usize
+    ensures { λ r. ⌜ Wrote (reportFrom c (now (order .entry))) (now (buf .entry)) (now (buf .exit)) r ⌝ }
+{
+    let n = pairs(order);
+    let mut d = c;
+    let mut at = write_listing_line(b"start", c, buf);
+    let mut i: usize = 0;
+    while i < n {
+        let agent = order[2 * i];
+        let wish = order[2 * i + 1];
+        let s = step::step(d, agent, wish);
+        let answer = s.answer;
+        let next = s.cell;
+        at = add_step(agent, answer, at, buf);
+        d = next;
+        i += 1;
     }
+    add_listing(b"end", d, at, buf)
 }
 
-// The line of a step that was made: agent, word, number woken.
-fn write_did(agent: u8, word: Word, woken: u8, buf: &mut [u8]) -> usize
-    ensures { λ r. ⌜ Wrote (stepLine agent (Did word woken)) (now (buf .entry)) (now (buf .exit)) r ⌝ }
+// What walk writes for the bytes of the files `cell` and `order`.
+pub fn write_report(cell: &[u8], order: &[u8], buf: &mut [u8]) -> usize
+    ensures { λ r. ⌜ Wrote (reportOf (now (cell .entry)) (now (order .entry))) (now (buf .entry)) (now (buf .exit)) r ⌝ }
 {
-    let named = text::write_number(agent as u64, buf);
-    let spaced = text::add_byte(b' ', named, buf);
-    let said = add_word(word, spaced, buf);
-    let apart = text::add_byte(b' ', said, buf);
-    let counted = text::add_number(woken as u64, apart, buf);
-    text::add_byte(10, counted, buf)
-}
-
-// The line of a step call that was refused: agent, `refused`, number.
-fn write_turned_away(agent: u8, number: u8, buf: &mut [u8]) -> usize
-    ensures { λ r. ⌜ Wrote (stepLine agent (Refused number)) (now (buf .entry)) (now (buf .exit)) r ⌝ }
-{
-    let named = text::write_number(agent as u64, buf);
-    let said = text::add_bytes(b" refused ", named, buf);
-    let numbered = text::add_number(number as u64, said, buf);
-    text::add_byte(10, numbered, buf)
-}
-
-// The line of a step call.
-pub fn write_step(agent: u8, answer: Answer, buf: &mut [u8]) -> usize
-    ensures { λ r. ⌜ Wrote (stepLine agent answer) (now (buf .entry)) (now (buf .exit)) r ⌝ }
-{
-    match answer {
-        Answer::Did(word, woken) => write_did(agent, word, woken, buf),
-        Answer::Refused(number) => write_turned_away(agent, number, buf),
+    let c = table::bare();
+    let r = reader::load(c, cell);
+    let v = r.verdict;
+    let d = r.cell;
+    match v {
+        Verdict::Accepted => write_run(d, order, buf),
+        Verdict::Rejected(number, offset) => write_refused(number, offset, buf),
     }
-}
-
-// The one line of a refused file: `refused`, number, offset.
-pub fn write_refused(number: u8, offset: usize, buf: &mut [u8]) -> usize
-    ensures { λ r. ⌜ Wrote (refusedLine number offset) (now (buf .entry)) (now (buf .exit)) r ⌝ }
-{
-    let said = text::write_bytes(b"refused ", buf);
-    let numbered = text::add_number(number as u64, said, buf);
-    let spaced = text::add_byte(b' ', numbered, buf);
-    let placed = text::add_number(offset as u64, spaced, buf);
-    text::add_byte(10, placed, buf)
 }

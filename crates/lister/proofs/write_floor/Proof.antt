@@ -1,7 +1,7 @@
 -- Where the contents have no length there is nothing in the buffer yet.
 use borrow.Author.Needs.{needs}
 use Rattle.lister.specs.Sheet.{sheetOf}
-use Rattle.lister.specs.CallLaws.{floor-none, floor-some}
+use Rattle.lister.specs.WriteLaws.{floor-none, floor-some}
 use Rattle.lister.proofs.write_floor.Statement.{statement}
 use Rattle.lister.proofs.write_floor.Tie as tie
 

@@ -4,7 +4,7 @@ use borrow.Author.Needs.{needs}
 use Rattle.text.specs.TextLaws.{wrote-as}
 use Rattle.lister.specs.SheetLaws.{floor-is}
 use Rattle.lister.specs.DrawnLaws.{drawn}
-use Rattle.lister.specs.CallLaws.{not-at-all, wholly, partly}
+use Rattle.lister.specs.WriteLaws.{not-at-all, wholly, partly}
 use Rattle.lister.proofs.write_if.Statement.{statement}
 use Rattle.lister.proofs.write_if.Tie as tie
 

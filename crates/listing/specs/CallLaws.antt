@@ -1,0 +1,43 @@
+-- The listing call's answers: refused or listed. Assumes nothing.
+-- Idea: the answered length passes the buffer's just if the listing's does, so what was written and the answer fit together.
+use mathlib.Core.Path.{_≡_, refl, ap, _∙_}
+use mathlib.Core.Bool.{Bool, true, false, cond}
+use mathlib.Core.List.{List}
+use Prim.Native.Nat.{ℕ, _<_, _≤_}
+use native.Mathlib.Omega.{arith}
+use lib.Dec.{ltb}
+use lib.ListN.{length}
+use borrow.Author.Tests.{lt-ltb, le-ltb, le-leb, lt-leb}
+use Rattle.table.specs.Cell.{State}
+use Rattle.table.specs.Sound.{sound}
+use Rattle.meaning.specs.Text.{overlay}
+use Rattle.meaning.specs.Listing.{listing, listAnswer, listBuffer}
+use Rattle.meaning.specs.declared.Listed.the-variants.{Length, Unlisted}
+use Rattle.text.specs.TextLaws.{capped-low, over-length}
+use Rattle.lister.specs.Sheet.{WroteIf}
+use Rattle.lister.specs.WriteLaws.{below-length, within-length}
+
+pub refused-unsound : (c : State) (b : List ℕ) → sound c ≡ false → (Unlisted 10 ≡ listAnswer c b) × (b ≡ listBuffer c b)
+unfolding listAnswer listBuffer
+refused-unsound c b e = (rw e, rw e)
+
+module _ (c : State) {b e : List ℕ} {n : ℕ} (room : length b < 18446744073709551615) (s : sound c ≡ true) (w : WroteIf true (listing c) b e n) where
+  if-length : length e ≡ length b
+  if-length = ap length (w .text) ∙ go (ltb (length b) (length (listing c)))
+    where
+      go : (z : Bool) → length (cond z b (overlay (listing c) b)) ≡ length b
+      go true = refl
+      go false = over-length (listing c) b
+
+  pub refused-long : length e < n → (Unlisted 12 ≡ listAnswer c b) × (e ≡ listBuffer c b)
+  unfolding listAnswer listBuffer
+  refused-long l =
+      let k : length b < length (listing c) = below-length (length b) (length (listing c)) room (omega (arith, if-length, w .count)) in
+      (rw (s, lt-leb (length (listing c)) (length b) k), w .text ∙ rw (s, lt-ltb (length b) (length (listing c)) k, lt-leb (length (listing c)) (length b) k))
+
+  pub listed : n ≤ length e → (Length n ≡ listAnswer c b) × (e ≡ listBuffer c b)
+  unfolding listAnswer listBuffer
+  listed l =
+      let k : length (listing c) ≤ length b = within-length (length b) (length (listing c)) room (omega (arith, if-length, w .count)) in
+      let x : n ≡ length (listing c) = w .count ∙ capped-low (length (listing c)) (omega arith) in
+      (rw (s, le-leb (length (listing c)) (length b) k) (ap Length x), w .text ∙ rw (s, le-ltb (length b) (length (listing c)) k, le-leb (length (listing c)) (length b) k))

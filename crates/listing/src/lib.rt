@@ -1,0 +1,37 @@
+// The listing call: refused, or the listing in the lent buffer. What it writes, lister writes.
+use meaning::Listed;
+use table::Cell;
+ghost use mathlib.Core.Path.{_≡_};
+ghost use Rattle.table.specs.Cell.{cellOf};
+ghost use Rattle.table.specs.Sound.{sound};
+ghost use Rattle.meaning.specs.Listing.{listing, listAnswer, listBuffer};
+ghost use Rattle.text.specs.Wrote.{Wrote};
+
+// The listing of any cell, sound or not, as far as there is room; answers its whole length.
+pub fn write_listing(c: Cell, buf: &mut [u8]) -> usize
+    ensures { λ r. ⌜ Wrote (listing (cellOf c)) (now (buf .entry)) (now (buf .exit)) r ⌝ }
+{
+    lister::write_if(c, false, buf)
+}
+
+// The listing call, where it is known whether the table is sound: refused where it is not, then where the listing is longer
+// than the buffer.
+pub fn list_known(known: bool, c: Cell, buf: &mut [u8]) -> Listed
+    ensures { λ r. ⌜ (known ≡ sound (cellOf c) → (r ≡ listAnswer (cellOf c) (now (buf .entry))) × (now (buf .exit) ≡ listBuffer (cellOf c) (now (buf .entry)))) ⌝ }
+{
+    if known {
+        let n = lister::write_if(c, true, buf);
+        if buf.len() < n {
+            return Listed::Unlisted(12);
+        }
+        return Listed::Length(n);
+    }
+    Listed::Unlisted(10)
+}
+
+// The listing call.
+pub fn list(c: Cell, buf: &mut [u8]) -> Listed
+    ensures { λ r. ⌜ (r ≡ listAnswer (cellOf c) (now (buf .entry))) × (now (buf .exit) ≡ listBuffer (cellOf c) (now (buf .entry))) ⌝ }
+{
+    list_known(soundness::is_sound(c), c, buf)
+}
