@@ -1,3 +1,4 @@
+-- Each word is its own text, and that text is what was added.
 use Rattle.table.specs.Base.{tab}
 use Rattle.meaning.specs.Report.{wordText}
 use borrow.Author.Needs.{needs}

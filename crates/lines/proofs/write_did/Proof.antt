@@ -1,3 +1,4 @@
+-- The line is its six pieces one after another: each piece added makes the text so far longer by its own text.
 use native.Mathlib.Omega.{arith}
 use Rattle.table.specs.Base.{tab}
 use Rattle.text.specs.TextLaws.{added}
@@ -43,7 +44,9 @@ same-length c = search needs
 -- src/lib.rt:27:1
 returns : tie.Need-returns
 unfolding stepLine tab
-returns c = added (omega (arith, c .before .before .before .before .before .before .before .before .before .before .before .before .before .before .before .before .before .before .before .before .before .before .before .before .before .good)) (added (omega (arith, c .before .before .before .before .before .before .before .before .before .before .before .before .before .before .before .before .before .before .before .before .before .before .before .before .before .good)) (added (omega (arith, c .before .before .before .before .before .before .before .before .before .before .before .before .before .before .before .before .before .before .before .before .before .before .before .before .before .good)) (added (omega (arith, c .before .before .before .before .before .before .before .before .before .before .before .before .before .before .before .before .before .before .before .before .before .before .before .before .before .good)) (added (omega (arith, c .before .before .before .before .before .before .before .before .before .before .before .before .before .before .before .before .before .before .before .before .before .before .before .before .before .good)) (c .before .before .before .before .before .before .before .before .before .before .before .before .before .before .before .before .before .before .before .before .before .before .write-number .ensures) (c .before .before .before .before .before .before .before .before .before .before .before .before .before .before .before .before .before .before .add-byte .ensures)) (c .before .before .before .before .before .before .before .before .before .before .before .before .before .before .add-word .ensures)) (c .before .before .before .before .before .before .before .before .before .before .add-byte2 .ensures)) (c .before .before .before .before .before .before .add-number .ensures)) (c .before .before .add-byte3 .ensures)
+returns c =
+    let f = c .before .before .before .before .before .before .before .before .before .before .before .before .before .before .before .before .before .before .before .before .before .before .before .before .before in
+    added (omega (arith, f .good)) (added (omega (arith, f .good)) (added (omega (arith, f .good)) (added (omega (arith, f .good)) (added (omega (arith, f .good)) (c .before .before .before .before .before .before .before .before .before .before .before .before .before .before .before .before .before .before .before .before .before .before .write-number .ensures) (c .before .before .before .before .before .before .before .before .before .before .before .before .before .before .before .before .before .before .add-byte .ensures)) (c .before .before .before .before .before .before .before .before .before .before .before .before .before .before .add-word .ensures)) (c .before .before .before .before .before .before .before .before .before .before .add-byte2 .ensures)) (c .before .before .before .before .before .before .add-number .ensures)) (c .before .before .add-byte3 .ensures)
 
 pub write-did-spec : {M : Type 1} → statement M
 write-did-spec =

@@ -1,3 +1,4 @@
+-- The line is its five pieces one after another: each piece added makes the text so far longer by its own text.
 use native.Mathlib.Omega.{arith}
 use Rattle.table.specs.Base.{tab}
 use Rattle.text.specs.TextLaws.{added}
@@ -42,7 +43,9 @@ same-length c = search needs
 -- src/lib.rt:59:1
 returns : tie.Need-returns
 unfolding refusedLine tab
-returns c = added (omega (arith, c .before .before .before .before .before .before .before .before .before .before .before .before .before .before .before .before .before .before .before .before .before .before .good)) (added (omega (arith, c .before .before .before .before .before .before .before .before .before .before .before .before .before .before .before .before .before .before .before .before .before .before .good)) (added (omega (arith, c .before .before .before .before .before .before .before .before .before .before .before .before .before .before .before .before .before .before .before .before .before .before .good)) (added (omega (arith, c .before .before .before .before .before .before .before .before .before .before .before .before .before .before .before .before .before .before .before .before .before .before .good)) (c .before .before .before .before .before .before .before .before .before .before .before .before .before .before .before .before .before .before .write-bytes .ensures) (c .before .before .before .before .before .before .before .before .before .before .before .before .before .before .add-number .ensures)) (c .before .before .before .before .before .before .before .before .before .before .add-byte .ensures)) (c .before .before .before .before .before .before .add-number2 .ensures)) (c .before .before .add-byte2 .ensures)
+returns c =
+    let f = c .before .before .before .before .before .before .before .before .before .before .before .before .before .before .before .before .before .before .before .before .before .before in
+    added (omega (arith, f .good)) (added (omega (arith, f .good)) (added (omega (arith, f .good)) (added (omega (arith, f .good)) (c .before .before .before .before .before .before .before .before .before .before .before .before .before .before .before .before .before .before .write-bytes .ensures) (c .before .before .before .before .before .before .before .before .before .before .before .before .before .before .add-number .ensures)) (c .before .before .before .before .before .before .before .before .before .before .add-byte .ensures)) (c .before .before .before .before .before .before .add-number2 .ensures)) (c .before .before .add-byte2 .ensures)
 
 pub write-refused-spec : {M : Type 1} → statement M
 write-refused-spec =

@@ -1,3 +1,4 @@
+-- The answer is one of two, and each has its own writer of the line.
 use borrow.Author.Needs.{needs}
 use Rattle.lines.proofs.write_step.Statement.{statement}
 use Rattle.lines.proofs.write_step.Tie as tie

@@ -82,10 +82,12 @@ loop-less c = omega (arith, c .before .before .before .before .before .before .b
 -- src/lib.rt:61:5
 loop-again : tie.Need-loop-again Inv-loop μ-loop
 loop-again c =
-    let h = pairs-more _ _ _ (c .before .before .before .before .before .before .before .before .before .before .before .before .before .before .before .pairs .ensures) (c .before .before .before .before .before .before .before .before .loop-test .taken) in
-    (omega (arith, c .before .before .before .before .before .before .before .before .loop-test .taken), λ s b r w.
-      let l = c .before .before .before .before .before .before .before .before .before .loop .inv .1 s b r w in
-      left-more l (h .0) (h .1) _ (c .before .before .before .before .before .step .ensures) (added r (l .wrote) (c .before .before .add-step .ensures)))
+    let h = pairs-more _ _ _ (c .before .before .before .before .before .before .before .before .before .before .before .before .before .before .before .pairs .ensures) (c .before .before .before .before .before .before .before .before .loop-test .taken) in (
+      omega (arith, c .before .before .before .before .before .before .before .before .loop-test .taken),
+      λ s b r w.
+          let l = c .before .before .before .before .before .before .before .before .before .loop .inv .1 s b r w in
+          left-more l (h .0) (h .1) _ (c .before .before .before .before .before .step .ensures) (added r (l .wrote) (c .before .before .add-step .ensures)),
+    )
 
 -- src/lib.rt:71:17
 slice-aggregate-add-listing : tie.Need-slice-aggregate-add-listing Inv-loop μ-loop
@@ -100,14 +102,14 @@ same-length : tie.Need-same-length Inv-loop μ-loop
 unfolding tab
 same-length c = wrote-length (let f = c .before .before .before .before .before .before .before .before .before .before .before .before .before .before .before in
     left-none (c .before .before .before .before .before .before .loop .inv .1 _ _ (omega (arith, f .good)) (c .before .before .before .before .before .before .before .before .before .write-listing-line .ensures))
-      (pairs-none _ _ _ (c .before .before .before .before .before .before .before .before .before .before .before .before .pairs .ensures) (c .before .before .before .before .before .loop-test .left)) (added (omega (arith, f .good)) (c .before .before .before .before .before .before .loop .inv .1 _ _ (omega (arith, f .good)) (c .before .before .before .before .before .before .before .before .before .write-listing-line .ensures) .wrote) (c .before .before .add-listing .ensures)))
+    (pairs-none _ _ _ (c .before .before .before .before .before .before .before .before .before .before .before .before .pairs .ensures) (c .before .before .before .before .before .loop-test .left)) (added (omega (arith, f .good)) (c .before .before .before .before .before .before .loop .inv .1 _ _ (omega (arith, f .good)) (c .before .before .before .before .before .before .before .before .before .write-listing-line .ensures) .wrote) (c .before .before .add-listing .ensures)))
 
 -- src/lib.rt:54:1
 returns : tie.Need-returns Inv-loop μ-loop
 unfolding reportFrom tab
 returns c = let f = c .before .before .before .before .before .before .before .before .before .before .before .before .before .before .before in
     left-none (c .before .before .before .before .before .before .loop .inv .1 _ _ (omega (arith, f .good)) (c .before .before .before .before .before .before .before .before .before .write-listing-line .ensures))
-      (pairs-none _ _ _ (c .before .before .before .before .before .before .before .before .before .before .before .before .pairs .ensures) (c .before .before .before .before .before .loop-test .left)) (added (omega (arith, f .good)) (c .before .before .before .before .before .before .loop .inv .1 _ _ (omega (arith, f .good)) (c .before .before .before .before .before .before .before .before .before .write-listing-line .ensures) .wrote) (c .before .before .add-listing .ensures))
+    (pairs-none _ _ _ (c .before .before .before .before .before .before .before .before .before .before .before .before .pairs .ensures) (c .before .before .before .before .before .loop-test .left)) (added (omega (arith, f .good)) (c .before .before .before .before .before .before .loop .inv .1 _ _ (omega (arith, f .good)) (c .before .before .before .before .before .before .before .before .before .write-listing-line .ensures) .wrote) (c .before .before .add-listing .ensures))
 
 pub write-run-spec : {M : Type 1} → statement M
 write-run-spec =

@@ -18,10 +18,10 @@ use Rattle.meaning.proofs.Checked.Laws as checked-laws
 use Rattle.meaning.specs.Codes.{checkOf, checkNumber}
 use Rattle.numbers.proofs.check_number.Symbol as number
 use Rattle.numbers.proofs.check_number.Met as number-thm
-use Rattle.keeper.proofs.Walk.{_≡_, refl, ap, _∙_, ℕ, [], _∷_, URA, fullShare, named, w64, Val, vptr, ent, GName, Lft, Share, ftrue, fat, flft, Heap, Calls, Loops, WpFn, Atoms, givenOf, tables, Given, ‵, _⊛_, _$_, _∵_, !, qed, by, move, drop, split, rewrite, fsplit, fsplit3, look, init, forget, stop, fld, from, load, lit, and-then, no-more, land, returns, enter, alloc1, alloc0, params1, pass1, pass0, free1, free0, whole, sub, look-in, FmC, owns, Is, uint-lawful, u64, ShrRef, only, owned, Triple, onEntry, cited}
-use Rattle.keeper.proofs.Lent.{R, Equates, applied}
-use Rattle.keeper.proofs.Seeing.{Sees, seeing-lent}
-use Rattle.keeper.proofs.Asks.{of-lent, handed, handed-at, Post, exits, asks-met}
+use Rattle.lending.proofs.Walk.{_≡_, refl, ap, _∙_, ℕ, [], _∷_, URA, fullShare, named, w64, Val, vptr, ent, GName, Lft, Share, ftrue, fat, flft, Heap, Calls, Loops, WpFn, Atoms, givenOf, tables, Given, ‵, _⊛_, _$_, _∵_, !, qed, by, move, drop, split, rewrite, fsplit, fsplit3, look, init, forget, stop, fld, from, load, lit, and-then, no-more, land, returns, enter, alloc1, alloc0, params1, pass1, pass0, free1, free0, whole, sub, look-in, FmC, owns, Is, uint-lawful, u64, ShrRef, only, owned, Triple, onEntry, cited}
+use Rattle.lending.proofs.Lent.{R, Equates, applied}
+use Rattle.lending.proofs.Seeing.{Sees, seeing-lent}
+use Rattle.lending.proofs.Asks.{of-lent, handed, handed-at, Post, exits, asks-met}
 use Rattle.keeper.proofs.checked.Symbol as checked-def
 use Rattle.keeper.proofs.checked.Met as checked-thm
 use Rattle.keeper.proofs.exports.seen.Symbol as seen-def

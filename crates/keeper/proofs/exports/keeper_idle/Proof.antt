@@ -19,10 +19,10 @@ use Rattle.meaning.proofs.Idled.Laws as idled-laws
 use Rattle.meaning.specs.Codes.{idleOf, idleNumber}
 use Rattle.numbers.proofs.idle_number.Symbol as number
 use Rattle.numbers.proofs.idle_number.Met as number-thm
-use Rattle.keeper.proofs.Walk.{_≡_, refl, ap, _∙_, ℕ, [], _∷_, URA, fullShare, named, w64, Val, vptr, SProp, ent, emp, id⊢, GName, Lft, Share, ftrue, fat, flft, Memory, Routine, Heap, Calls, Loops, WpFn, Atoms, Fun, givenOf, tables, Given, ‵, raw, _⊛_, _$_, _∵_, !, qed, by, move, keep, drop, split, join, rewrite, fsplit, fsplit3, fjoin, done, look, look-raw, init, forget, stop, hop, fld, from, load, lit, of-opd, and-then, no-more, assigns, land, returns, enter, alloc1, alloc0, params1, pass1, pass0, free1, free0, whole, sub, look-in, FmC, owns, Is, uint-lawful, u64, ShrRef, only, owned, nothing, Contract, Triple, onEntry, tripleOf, cited}
-use Rattle.keeper.proofs.Lent.{R, mach, is-typed, had, looked, shut, called, Equates, applied}
-use Rattle.keeper.proofs.Seeing.{Sees, seeing-lent}
-use Rattle.keeper.proofs.Asks.{of-lent, handed, handed-at, Post, exits, asks-met}
+use Rattle.lending.proofs.Walk.{_≡_, refl, ap, _∙_, ℕ, [], _∷_, URA, fullShare, named, w64, Val, vptr, SProp, ent, emp, id⊢, GName, Lft, Share, ftrue, fat, flft, Memory, Routine, Heap, Calls, Loops, WpFn, Atoms, Fun, givenOf, tables, Given, ‵, raw, _⊛_, _$_, _∵_, !, qed, by, move, keep, drop, split, join, rewrite, fsplit, fsplit3, fjoin, done, look, look-raw, init, forget, stop, hop, fld, from, load, lit, of-opd, and-then, no-more, assigns, land, returns, enter, alloc1, alloc0, params1, pass1, pass0, free1, free0, whole, sub, look-in, FmC, owns, Is, uint-lawful, u64, ShrRef, only, owned, nothing, Contract, Triple, onEntry, tripleOf, cited}
+use Rattle.lending.proofs.Lent.{R, mach, is-typed, had, looked, shut, called, Equates, applied}
+use Rattle.lending.proofs.Seeing.{Sees, seeing-lent}
+use Rattle.lending.proofs.Asks.{of-lent, handed, handed-at, Post, exits, asks-met}
 use Rattle.keeper.proofs.idled as idles
 use Rattle.keeper.proofs.idled.Symbol as idled-def
 use Rattle.keeper.proofs.idled.Met as idled-thm

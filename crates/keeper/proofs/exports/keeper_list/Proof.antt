@@ -25,9 +25,9 @@ use Rattle.listing.proofs.list_known.Symbol as list-def
 use Rattle.listing.proofs.list_known.Met as list-thm
 use Rattle.numbers.proofs.list_number.Symbol as number
 use Rattle.numbers.proofs.list_number.Met as number-thm
-use Rattle.keeper.proofs.Walk.{_≡_, refl, ap, _∙_, ℕ, List, [], _∷_, URA, fullShare, named, w64, Val, vptr, SProp, ent, id⊢, GName, Lft, Share, Fml, ftrue, fat, flft, fres, fshr-bor, Memory, Routine, Heap, Calls, Loops, WpFn, Atoms, Fun, AllOutlive, givenOf, tables, Given, ‵, raw, _⊛_, ⋆, _$_, _∵_, !, qed, by, move, keep, drop, split, join, rewrite, fsplit, fsplit3, fjoin, fjoin3, feqI, feqL, suffices, frame, done, look, look-raw, init, forget, stop, hop, fld, from, load, lit, addr, of-opd, and-then, no-more, assigns, land, returns, enter, alloc1, alloc0, params1, pass1, pass0, free1, free0, agg, whole, sub, look-in, FmC, owns, Is, partAt, uint-lawful, u8, u64, RefT, ShrRef, ptr-vals, shr-tells, MutSlice, Room, finally, slice-vals, mut-slice-tells, plain, only, owned, nothing, Contract, Triple, onEntry, tripleOf, cited, says, Stays, stay-none-ref, gave-slice, walkOf, goes-none-ref, goes-gave-slice, ends-at, yes, exported}
-use Rattle.keeper.proofs.Lent.{R, mach, is-typed, had, looked, shut, called, Equates, applied}
-use Rattle.keeper.proofs.Seeing.{Sees, seeing-lent}
+use Rattle.lending.proofs.Walk.{_≡_, refl, ap, _∙_, ℕ, List, [], _∷_, URA, fullShare, named, w64, Val, vptr, SProp, ent, id⊢, GName, Lft, Share, Fml, ftrue, fat, flft, fres, fshr-bor, Memory, Routine, Heap, Calls, Loops, WpFn, Atoms, Fun, AllOutlive, givenOf, tables, Given, ‵, raw, _⊛_, ⋆, _$_, _∵_, !, qed, by, move, keep, drop, split, join, rewrite, fsplit, fsplit3, fjoin, fjoin3, feqI, feqL, suffices, frame, done, look, look-raw, init, forget, stop, hop, fld, from, load, lit, addr, of-opd, and-then, no-more, assigns, land, returns, enter, alloc1, alloc0, params1, pass1, pass0, free1, free0, agg, whole, sub, look-in, FmC, owns, Is, partAt, uint-lawful, u8, u64, RefT, ShrRef, ptr-vals, shr-tells, MutSlice, Room, finally, slice-vals, mut-slice-tells, plain, only, owned, nothing, Contract, Triple, onEntry, tripleOf, cited, says, Stays, stay-none-ref, gave-slice, walkOf, goes-none-ref, goes-gave-slice, ends-at, yes, exported}
+use Rattle.lending.proofs.Lent.{R, mach, is-typed, had, looked, shut, called, Equates, applied}
+use Rattle.lending.proofs.Seeing.{Sees, seeing-lent}
 use Rattle.keeper.proofs.exports.seen.Symbol as seen-def
 use Rattle.keeper.proofs.exports.seen.Met as seen-thm
 use Rattle.keeper.proofs.exports.keeper_list.Key.{name}

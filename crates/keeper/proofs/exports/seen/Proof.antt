@@ -9,8 +9,8 @@ use Rattle.soundness.proofs.sound.Seen.Laws as seen-laws
 use Rattle.soundness.proofs.see as sees
 use Rattle.soundness.proofs.see.Symbol as see-def
 use Rattle.soundness.proofs.see.Met as see-thm
-use Rattle.keeper.proofs.Walk.{_≡_, refl, ℕ, _<_, _^_, List, [], _∷_, URA, named, w8, Val, vint, vptr, SProp, ent, id⊢, GName, Lft, Share, ftrue, flft, fres, fshr-bor, Memory, Routine, Heap, Calls, Loops, WpFn, Atoms, sem, Fun, givenOf, tables, Given, ‵, raw, _⊛_, ⋆, _$_, _∵_, !, qed, by, move, keep, drop, use1, split, join, fsplit, fsplit3, fjoin, fjoin3, feqI, suffices, frame, done, look, look-raw, init, forget, stop, hop, from, load, of-opd, and-then, no-more, assigns, land, returns, enter, alloc1, alloc0, params1, pass1, pass0, free1, free0, FmC, owns, Is, partAt, uint-vals, uint-tells, uint-makes, u8, RefT, ShrRef, ptr-vals, shr-tells, plain, owned, nothing, Contract, Triple, onEntry, tripleOf, cited, says, Stays, stay-none, stay-none-ref, walkOf, goes-none, goes-none-ref, ends-at, yes, exported}
-use Rattle.keeper.proofs.Lent.{R, mach, is-typed, had, looked, shut, called}
+use Rattle.lending.proofs.Walk.{_≡_, refl, ℕ, _<_, _^_, List, [], _∷_, URA, named, w8, Val, vint, vptr, SProp, ent, id⊢, GName, Lft, Share, ftrue, flft, fres, fshr-bor, Memory, Routine, Heap, Calls, Loops, WpFn, Atoms, sem, Fun, givenOf, tables, Given, ‵, raw, _⊛_, ⋆, _$_, _∵_, !, qed, by, move, keep, drop, use1, split, join, fsplit, fsplit3, fjoin, fjoin3, feqI, suffices, frame, done, look, look-raw, init, forget, stop, hop, from, load, of-opd, and-then, no-more, assigns, land, returns, enter, alloc1, alloc0, params1, pass1, pass0, free1, free0, FmC, owns, Is, partAt, uint-vals, uint-tells, uint-makes, u8, RefT, ShrRef, ptr-vals, shr-tells, plain, owned, nothing, Contract, Triple, onEntry, tripleOf, cited, says, Stays, stay-none, stay-none-ref, walkOf, goes-none, goes-none-ref, ends-at, yes, exported}
+use Rattle.lending.proofs.Lent.{R, mach, is-typed, had, looked, shut, called}
 use Rattle.keeper.proofs.exports.seen.Key.{name}
 use Rattle.keeper.proofs.exports.seen as f
 use Rattle.keeper.proofs.exports.seen.Statement.{statement}

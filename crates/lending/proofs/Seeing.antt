@@ -27,8 +27,8 @@ use Rattle.table.proofs.Cell.Laws as T′
 use Rattle.soundness.specs.declared.sound.Seen.{Seen}
 use Rattle.soundness.specs.Seen.{seenOf}
 use Rattle.soundness.proofs.sound.Seen as Seen′
-use Rattle.keeper.proofs.Walk.{_≡_, refl, ℕ, _<_, _^_, List, [], _∷_, URA, fullShare, named, w8, Val, vint, vptr, ent, emp, id⊢, GName, Lft, Share, ftrue, flft, fres, fshr-bor, Heap, Calls, Loops, Atoms, fact, Given, ‵, raw, _⊛_, ⋆, _$_, _∵_, !, qed, move, drop, use1, split, join, fsplit, fjoin, fjoin3, feqI, done, FmC, Is, partAt, uint-makes, u8, ShrRef, plain, owned, nothing, Contract, Triple, tripleOf, yes}
-use Rattle.keeper.proofs.Lent.{R, mach, had, called}
+use Rattle.lending.proofs.Walk.{_≡_, refl, ℕ, _<_, _^_, List, [], _∷_, URA, fullShare, named, w8, Val, vint, vptr, ent, emp, id⊢, GName, Lft, Share, ftrue, flft, fres, fshr-bor, Heap, Calls, Loops, Atoms, fact, Given, ‵, raw, _⊛_, ⋆, _$_, _∵_, !, qed, move, drop, use1, split, join, fsplit, fjoin, fjoin3, feqI, done, FmC, Is, partAt, uint-makes, u8, ShrRef, plain, owned, nothing, Contract, Triple, tripleOf, yes}
+use Rattle.lending.proofs.Lent.{R, mach, had, called}
 
 -- a function of a lent cell and a number, which sees
 abbrev pub of-seen : Ended

@@ -22,9 +22,9 @@ use Rattle.table.proofs.Agent.Laws as agent-laws
 use Rattle.table.proofs.Facts.{sized}
 use Rattle.table.proofs.Cell as T
 use Rattle.table.proofs.Cell.Laws as T′
-use Rattle.keeper.proofs.Walk.{_≡_, refl, sym, ap, subst, _∙_, ℕ, List, [], _∷_, URA, fullShare, Val, fat, Heap, Atoms, Given, ‵, whole, sub, Is}
-use Rattle.keeper.proofs.Lent.{R, mach}
-use Rattle.keeper.proofs.Element.{map-set, array-set, unraw, elem}
+use Rattle.lending.proofs.Walk.{_≡_, refl, sym, ap, subst, _∙_, ℕ, List, [], _∷_, URA, fullShare, Val, fat, Heap, Atoms, Given, ‵, whole, sub, Is}
+use Rattle.lending.proofs.Lent.{R, mach}
+use Rattle.lending.proofs.Element.{map-set, array-set, unraw, elem}
 
 -- the table c with agent k set to a, and the locks ls
 abbrev pub placed : Cell → ℕ → Agent → List ℕ → Cell
