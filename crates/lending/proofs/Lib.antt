@@ -5,3 +5,5 @@ pub mod Asks
 pub mod Seeing
 pub mod Element
 pub mod Placed
+pub mod Settled
+pub mod Freed

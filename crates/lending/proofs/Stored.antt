@@ -22,7 +22,7 @@ use Rattle.lending.proofs.Walk.{_≡_, refl, sym, ap, subst, ℕ, List,
 use Rattle.lending.proofs.Lent.{R, is-typed, closed, Equates, applied}
 
 -- a place in a local that the environment has somewhere
-find : {M : Type 1} {𝓤 : URA M} {H : Heap 𝓤} {A : Atoms 𝓤} {K : Type 0} {W : Given 𝓤 H A} {Γ : List (Item 𝓤)} {ls : Env 𝓤 H} {i : ℕ} {st : List PStep} {sp sp′ : Spot 𝓤 H}
+pub find : {M : Type 1} {𝓤 : URA M} {H : Heap 𝓤} {A : Atoms 𝓤} {K : Type 0} {W : Given 𝓤 H A} {Γ : List (Item 𝓤)} {ls : Env 𝓤 H} {i : ℕ} {st : List PStep} {sp sp′ : Spot 𝓤 H}
     → K → spotOf 𝓤 H ls i ≡ sp → Walks K W Γ ls sp st sp′ → Finds K W Γ ls (place i st) sp′
 find {𝓤 = 𝓤} {H} {K = K} {W} {Γ} {ls} {st = st} {sp′ = sp′} t e w = from t (subst (λ (z : Spot 𝓤 H). Walks K W Γ ls z st sp′) (sym e) w)
 

@@ -18,8 +18,9 @@ use Rattle.meaning.proofs.Checked.Laws as checked-laws
 use Rattle.meaning.specs.Codes.{checkOf, checkNumber}
 use Rattle.numbers.proofs.check_number.Symbol as number
 use Rattle.numbers.proofs.check_number.Met as number-thm
-use Rattle.lending.proofs.Walk.{_≡_, refl, ap, _∙_, ℕ, [], _∷_, URA, fullShare, named, w64, Val, vptr, ent, GName, Lft, Share, ftrue, fat, flft, Heap, Calls, Loops, WpFn, Atoms, givenOf, tables, Given, ‵, _⊛_, _$_, _∵_, !, qed, by, move, drop, split, rewrite, fsplit, fsplit3, look, init, forget, stop, fld, from, load, lit, and-then, no-more, land, returns, enter, alloc1, alloc0, params1, pass1, pass0, free1, free0, whole, sub, look-in, FmC, owns, Is, uint-lawful, u64, ShrRef, only, owned, Triple, onEntry, cited}
+use Rattle.lending.proofs.Walk.{_≡_, refl, ap, _∙_, ℕ, [], _∷_, URA, fullShare, named, w64, Val, vptr, ent, GName, Lft, Share, ftrue, fat, flft, Heap, Calls, Loops, WpFn, Atoms, givenOf, tables, Given, ‵, _⊛_, _$_, _∵_, !, qed, by, move, drop, split, rewrite, fsplit, fsplit3, look, init, forget, stop, fld, from, load, lit, and-then, no-more, land, returns, enter, alloc1, alloc0, params1, pass1, pass0, whole, sub, look-in, FmC, owns, Is, uint-lawful, u64, ShrRef, only, owned, Triple, onEntry, cited}
 use Rattle.lending.proofs.Lent.{R, Equates, applied}
+use Rattle.lending.proofs.Freed.{freed}
 use Rattle.lending.proofs.Seeing.{Sees, seeing-lent}
 use Rattle.lending.proofs.Asks.{of-lent, handed, handed-at, Post, exits, asks-met}
 use Rattle.keeper.proofs.checked.Symbol as checked-def
@@ -57,7 +58,7 @@ module _ {M : Type 1} (𝓤 : URA M) (H : Heap 𝓤) (A : Atoms 𝓤) (W : Given
       land ! (from ! (stop !)) (init ! 4 refl (EL.lawful Checked′.the-type checked-laws.the-laws 𝓤 H A W tt .typed r _ is′ .0)) $
       applied ! fm Checked′.the-row u64 checkNumber known-number r u (and-then ! (load ! (from ! (stop !)) (look ! 4 refl)) (no-more !)) (λ v′ y e″ is″.
       land ! (from ! (stop !)) (init ! 10 refl (uint-lawful 𝓤 H A W w64 .typed y _ is″ .0)) $ returns ! (look ! 10 refl) $ forget ! 4 refl $ forget ! 6 refl $ forget ! 8 refl $ forget ! 10 refl $
-      move ! (10 ∷ 11 ∷ 8 ∷ 9 ∷ 6 ∷ 7 ∷ 4 ∷ 5 ∷ []) $ free1 ! $ free1 ! $ free1 ! $ free1 ! $ free0 ! $ move ! (1 ∷ 2 ∷ 3 ∷ 0 ∷ []) $ by ! (exits 𝓤 H A W ask κ q b o γ h y v′ (e″ ∙ ap checkNumber (e′ ∙ answer-is h s e))))))))))
+      move ! (10 ∷ 11 ∷ 8 ∷ 9 ∷ 6 ∷ 7 ∷ 4 ∷ 5 ∷ []) $ freed ! $ move ! (1 ∷ 2 ∷ 3 ∷ 0 ∷ []) $ by ! (exits 𝓤 H A W ask κ q b o γ h y v′ (e″ ∙ ap checkNumber (e′ ∙ answer-is h s e))))))))))
 
 pub keeper-check-spec : {M : Type 1} → statement M
 unfolding code.routine

@@ -19,8 +19,9 @@ use Rattle.meaning.proofs.Idled.Laws as idled-laws
 use Rattle.meaning.specs.Codes.{idleOf, idleNumber}
 use Rattle.numbers.proofs.idle_number.Symbol as number
 use Rattle.numbers.proofs.idle_number.Met as number-thm
-use Rattle.lending.proofs.Walk.{_≡_, refl, ap, _∙_, ℕ, [], _∷_, URA, fullShare, named, w64, Val, vptr, SProp, ent, emp, id⊢, GName, Lft, Share, ftrue, fat, flft, Memory, Routine, Heap, Calls, Loops, WpFn, Atoms, Fun, givenOf, tables, Given, ‵, raw, _⊛_, _$_, _∵_, !, qed, by, move, keep, drop, split, join, rewrite, fsplit, fsplit3, fjoin, done, look, look-raw, init, forget, stop, hop, fld, from, load, lit, of-opd, and-then, no-more, assigns, land, returns, enter, alloc1, alloc0, params1, pass1, pass0, free1, free0, whole, sub, look-in, FmC, owns, Is, uint-lawful, u64, ShrRef, only, owned, nothing, Contract, Triple, onEntry, tripleOf, cited}
+use Rattle.lending.proofs.Walk.{_≡_, refl, ap, _∙_, ℕ, [], _∷_, URA, fullShare, named, w64, Val, vptr, SProp, ent, emp, id⊢, GName, Lft, Share, ftrue, fat, flft, Memory, Routine, Heap, Calls, Loops, WpFn, Atoms, Fun, givenOf, tables, Given, ‵, raw, _⊛_, _$_, _∵_, !, qed, by, move, keep, drop, split, join, rewrite, fsplit, fsplit3, fjoin, done, look, look-raw, init, forget, stop, hop, fld, from, load, lit, of-opd, and-then, no-more, assigns, land, returns, enter, alloc1, alloc0, params1, pass1, pass0, whole, sub, look-in, FmC, owns, Is, uint-lawful, u64, ShrRef, only, owned, nothing, Contract, Triple, onEntry, tripleOf, cited}
 use Rattle.lending.proofs.Lent.{R, mach, is-typed, had, looked, shut, called, Equates, applied}
+use Rattle.lending.proofs.Freed.{freed}
 use Rattle.lending.proofs.Seeing.{Sees, seeing-lent}
 use Rattle.lending.proofs.Asks.{of-lent, handed, handed-at, Post, exits, asks-met}
 use Rattle.keeper.proofs.idled as idles
@@ -66,7 +67,7 @@ module _ {M : Type 1} (𝓤 : URA M) (H : Heap 𝓤) (A : Atoms 𝓤) (W : Given
           land ! (from ! (stop !)) (init ! 8 refl (EL.lawful Idled′.the-type idled-laws.the-laws 𝓤 H A W tt .typed r _ is′ .0)) $
           applied ! fm Idled′.the-row u64 idleNumber known-number r u (and-then ! (load ! (from ! (stop !)) (look ! 8 refl)) (no-more !)) (λ v′ y e″ is″.
           land ! (from ! (stop !)) (init ! 14 refl (uint-lawful 𝓤 H A W w64 .typed y _ is″ .0)) $ returns ! (look ! 14 refl) $ forget ! 6 refl $ forget ! 8 refl $ forget ! 10 refl $ forget ! 12 refl $ forget ! 14 refl $
-          move ! (14 ∷ 15 ∷ 12 ∷ 13 ∷ 10 ∷ 11 ∷ 8 ∷ 9 ∷ 6 ∷ 7 ∷ []) $ free1 ! $ free1 ! $ free1 ! $ free1 ! $ free1 ! $ free0 ! $ keep ! (3 ∷ 5 ∷ 4 ∷ 0 ∷ []) $
+          move ! (14 ∷ 15 ∷ 12 ∷ 13 ∷ 10 ∷ 11 ∷ 8 ∷ 9 ∷ 6 ∷ 7 ∷ []) $ freed ! $ keep ! (3 ∷ 5 ∷ 4 ∷ 0 ∷ []) $
           by ! (exits 𝓤 H A W ask κ q b o γ h y v′ (e″ ∙ ap idleNumber (e′ (ap (λ (z : Seen). z .sound) e)))))))))))))
 
 pub keeper-idle-spec : {M : Type 1} → statement M

@@ -11,8 +11,9 @@ use Rattle.meaning.proofs.Verdict.Laws as verdict
 use Rattle.reader.proofs.load as loads
 use Rattle.reader.proofs.load.Symbol as load-def
 use Rattle.reader.proofs.load.Met as load-thm
-use Rattle.lending.proofs.Walk.{_≡_, refl, ap, _∙_, ℕ, List, [], _∷_, URA, named, Val, vptr, SProp, ent, id⊢, GName, Lft, Share, Fml, ftrue, flft, fobs, fbor, Memory, Routine, Heap, Calls, Loops, WpFn, Atoms, Fun, AllOutlive, givenOf, tables, Given, ‵, raw, _⊛_, ⋆, _$_, _∵_, !, qed, by, move, keep, drop, use1, use3, split, join, fsplit, fsplit3, fjoin, fjoin3, feqI, suffices, frame, done, look, look-raw, init, forget, stop, hop, from, load, of-opd, and-then, no-more, assigns, returns, enter, alloc1, alloc0, params1, pass1, pass0, free1, free0, Body, FmC, owns, mem, u8, u64, RefT, MutRef, ptr-vals, mut-tells, ShrSlice, Room, slice-vals, shr-slice-tells, shr-slice-copy, plain, only, nothing, Contract, Triple, onEntry, tripleOf, cited, says, Stays, stay-ref, stay-none-slice, walkOf, goes-ref, goes-none-slice, ends-at, yes, exported}
+use Rattle.lending.proofs.Walk.{_≡_, refl, ap, _∙_, ℕ, List, [], _∷_, URA, named, Val, vptr, SProp, ent, id⊢, GName, Lft, Share, Fml, ftrue, flft, fobs, fbor, Memory, Routine, Heap, Calls, Loops, WpFn, Atoms, Fun, AllOutlive, givenOf, tables, Given, ‵, raw, _⊛_, ⋆, _$_, _∵_, !, qed, by, move, keep, drop, use1, use3, split, join, fsplit, fsplit3, fjoin, fjoin3, feqI, suffices, frame, done, look, look-raw, init, forget, stop, hop, from, load, of-opd, and-then, no-more, assigns, returns, enter, alloc1, alloc0, params1, pass1, pass0, Body, FmC, owns, mem, u8, u64, RefT, MutRef, ptr-vals, mut-tells, ShrSlice, Room, slice-vals, shr-slice-tells, shr-slice-copy, plain, only, nothing, Contract, Triple, onEntry, tripleOf, cited, says, Stays, stay-ref, stay-none-slice, walkOf, goes-ref, goes-none-slice, ends-at, yes, exported}
 use Rattle.lending.proofs.Lent.{R, mach, is-typed, had, opened, called, Equates}
+use Rattle.lending.proofs.Freed.{freed}
 use Rattle.lending.proofs.Stored.{Result, stored}
 use Rattle.numbers.proofs.load_number.Symbol as number
 use Rattle.numbers.proofs.load_number.Met as number-thm
@@ -74,7 +75,7 @@ module _ {M : Type 1} (𝓤 : URA M) (H : Heap 𝓤) (A : Atoms 𝓤) (W : Given
           move ! (3 ∷ 4 ∷ 5 ∷ 6 ∷ 11 ∷ 15 ∷ 17 ∷ []) $ stored result number.name loadNumber ! fm known-number 3 l₃ refl r v is (λ y v′ e′.
           -- [obs; the borrow; the token; what y owns; _3; _1; _0; what r owns; the slice's token; …; the slice at 10; …; _4 at 12; its end; the end of _3; _2 and its end; the ends of _1 and _0]
           returns ! (look ! 6 refl) $ forget ! 4 refl $ forget ! 5 refl $ forget ! 6 refl $ forget ! 12 refl $ forget ! 15 refl $
-          move ! (6 ∷ 18 ∷ 5 ∷ 17 ∷ 15 ∷ 16 ∷ 4 ∷ 14 ∷ 12 ∷ 13 ∷ []) $ free1 ! $ free1 ! $ free1 ! $ free1 ! $ free1 ! $ free0 ! $
+          move ! (6 ∷ 18 ∷ 5 ∷ 17 ∷ 15 ∷ 16 ∷ 4 ∷ 14 ∷ 12 ∷ 13 ∷ []) $ freed ! $
           keep ! (0 ∷ 1 ∷ 2 ∷ 5 ∷ 7 ∷ 3 ∷ []) $ by ! (exits r y v′ e e′)))))))))
 
 pub keeper-load-spec : {M : Type 1} → statement M

@@ -38,10 +38,12 @@ use Rattle.table.proofs.at.Symbol as at-def
 use Rattle.table.proofs.at.Met as at-thm
 use Rattle.numbers.proofs.step_number.Symbol as number
 use Rattle.numbers.proofs.step_number.Met as number-thm
-use Rattle.lending.proofs.Walk.{_≡_, refl, sym, ap, subst, _∙_, ℕ, _<_, _^_, List, [], _∷_, URA, fullShare, named, w8, w64, Val, vint, vptr, SProp, ent, emp, id⊢, GName, Lft, Share, ftrue, fat, flft, fobs, fbor, Memory, Routine, Heap, Calls, Loops, WpFn, Atoms, Fun, givenOf, tables, Given, ‵, raw, _⊛_, ⋆, _$_, _∵_, !, qed, by, move, drop, split, join, rewrite, fsplit, fsplit3, fjoin, fjoin3, feqI, suffices, frame, done, look, look-raw, init, forget, stop, hop, fld, from, load, lit, addr, of-opd, and-then, no-more, assigns, land, returns, enter, alloc1, alloc0, params1, pass1, pass0, free1, free0, whole, sub, look-in, Body, FmC, owns, Is, mem, uint-vals, uint-tells, uint-makes, uint-lawful, u8, u64, RefT, MutRef, ptr-vals, mut-tells, plain, only, owned, nothing, Contract, Triple, onEntry, tripleOf, cited, says, Stays, stay-ref, stay-none, walkOf, goes-ref, goes-none, ends-at, yes, exported}
-use Rattle.lending.proofs.Placed.{placed, placed-is, agent-val, agent-vals, with-agents, vals-set, store-agent, store-locks}
+use Rattle.lending.proofs.Walk.{_≡_, refl, sym, ap, subst, _∙_, ℕ, _<_, _^_, List, [], _∷_, URA, fullShare, named, w8, w64, Val, vint, vptr, SProp, ent, emp, id⊢, GName, Lft, Share, ftrue, fat, flft, fobs, fbor, Memory, Routine, Heap, Calls, Loops, WpFn, Atoms, Fun, givenOf, tables, Given, ‵, raw, _⊛_, ⋆, _$_, _∵_, !, qed, by, move, drop, split, join, rewrite, fsplit, fsplit3, fjoin, fjoin3, feqI, suffices, frame, done, look, look-raw, init, forget, stop, hop, fld, from, load, lit, addr, of-opd, and-then, no-more, assigns, land, returns, enter, alloc1, alloc0, params1, pass1, pass0, whole, sub, look-in, Body, FmC, owns, Is, mem, uint-vals, uint-tells, uint-makes, uint-lawful, u8, u64, RefT, MutRef, ptr-vals, mut-tells, plain, only, owned, nothing, Contract, Triple, onEntry, tripleOf, cited, says, Stays, stay-ref, stay-none, walkOf, goes-ref, goes-none, ends-at, yes, exported}
+use Rattle.lending.proofs.Placed.{placed}
 use Rattle.lending.proofs.Lent.{R, mach, is-typed, had, opened, closed, called, Equates, applied}
+use Rattle.lending.proofs.Freed.{freed}
 use Rattle.lending.proofs.Stored.{Result, stored}
+use Rattle.lending.proofs.Settled.{val, settled}
 use Rattle.lending.proofs.Seeing.{Sees, seeing, unless}
 use Rattle.keeper.proofs.exports.seen.Symbol as seen-def
 use Rattle.keeper.proofs.exports.seen.Met as seen-thm
@@ -72,10 +74,6 @@ is-false false h = refl
 unmoved : (c : Cell) (x : ℕ) (d : Decision) → d .moves ≡ false → carriedOut c x d ≡ record { cell = placed c (x % 64) (d .agent) (d .locks); answer = d .answer }
 unfolding carriedOut
 unmoved c x d e = ap (λ (y : Bool). cond y (moved c x (d .agent) (d .motion)) (record { cell = placed c (x % 64) (d .agent) (d .locks); answer = d .answer })) e
-
--- the machine value of a decision
-abbrev val : Decision → Val
-val d = LL.val Decision′.the-type decision-laws.the-laws d
 
 module _ {M : Type 1} (𝓤 : URA M) (H : Heap 𝓤) (A : Atoms 𝓤) (W : Given 𝓤 H A) (at-mem : Memory → SProp 𝓤) (run : Routine → Fun 𝓤) where
   abbrev Decide : Contract 𝓤
@@ -155,7 +153,7 @@ module _ {M : Type 1} (𝓤 : URA M) (H : Heap 𝓤) (A : Atoms 𝓤) (W : Given
           -- [obs; the borrow; the token; what y owns; _6; _1; _0; _14 at 7 and its end; …; _7; the end of _6 at 23; _5 at 24; …; _2; the ends of _1 and _0]
           returns-within ! Post refl (look ! 6 refl) $ forget ! 4 refl $ forget ! 5 refl $ forget ! 6 refl $ forget ! 13 refl $ forget ! 15 refl $ forget ! 17 refl $ forget ! 19 refl $ forget ! 24 refl $ forget ! 26 refl $ forget ! 28 refl $ forget ! 30 refl $
           move ! (6 ∷ 33 ∷ 5 ∷ 32 ∷ 30 ∷ 31 ∷ 28 ∷ 29 ∷ 26 ∷ 27 ∷ 24 ∷ 25 ∷ 4 ∷ 23 ∷ 21 ∷ 22 ∷ 19 ∷ 20 ∷ 17 ∷ 18 ∷ 15 ∷ 16 ∷ 13 ∷ 14 ∷ 11 ∷ 12 ∷ 9 ∷ 10 ∷ 7 ∷ 8 ∷ []) $
-          free1 ! $ free1 ! $ free1 ! $ free1 ! $ free1 ! $ free1 ! $ free1 ! $ free1 ! $ free1 ! $ free1 ! $ free1 ! $ free1 ! $ free1 ! $ free1 ! $ free1 ! $ free0 ! $
+          freed ! $
           by ! (exits r y v′ (e″ ∙ e′ e) e‴))))
           -- none does: the agent and the locks are stored in place
           (λ stays.
@@ -164,20 +162,12 @@ module _ {M : Type 1} (𝓤 : URA M) (H : Heap 𝓤) (A : Atoms 𝓤) (W : Given
           assigns ! (bin ! (load ! (from ! (stop !)) (look ! 18 refl)) (lit ! tt) (record { fits = times k (small k m e″) })) (from ! (stop !)) (init ! 8 refl (tt, record { fits = times k (small k m e″) })) $
           assigns ! (addr ! (from ! (hop ! (look ! 30 refl) (fld ! refl (stop !))))) (from ! (stop !)) (init ! 6 refl (tt, tt)) $
           assigns ! (bin ! (load ! (from ! (stop !)) (look ! 6 refl)) (load ! (from ! (stop !)) (look ! 8 refl)) tt) (from ! (stop !)) (init ! 4 refl (tt, tt)) $
-          assigns ! (of-opd ! (load ! (from ! (fld ! refl (stop !))) (look-in ! 22 (sub ! 2 refl (whole !))))) (from ! (hop ! (look ! 4 refl) (stop !)))
-          (store-agent ! h k (d .agent) was (small k m e″) (LL.owed Decision′.the-type decision-laws.the-laws d _ is′ .1 .1 .0)) $
-          assigns ! (of-opd ! (load ! (from ! (fld ! refl (stop !))) (look-in ! 22 (sub ! 3 refl (whole !))))) (from ! (hop ! (look ! 30 refl) (fld ! refl (stop !))))
-          (store-locks ! h (set (agent-vals (h .agents)) k (agent-val (d .agent))) k (d .agent) (d .locks) (LL.owed Decision′.the-type decision-laws.the-laws d _ is′ .1 .1 .1 .0)) $
-          rewrite ! 0 (λ (us : List Val). ‵ (fat fullShare (rawTy T′.mir) b o (with-agents (placed h k (d .agent) (d .locks)) us))) (vals-set (h .agents) k (d .agent)) refl $
-          closed ! tt (placed h k (d .agent) (d .locks)) (placed-is h k (d .agent) (d .locks) was (LL.owed Decision′.the-type decision-laws.the-laws d _ is′ .1 .1 .0) (LL.owed Decision′.the-type decision-laws.the-laws d _ is′ .1 .1 .1 .0)) b o $
-          -- [obs; the borrow; the token; _14 at 3; _13; …; _0 at 31]
-          owned ! Answer.the-row (Is Answer.the-row) (EL.makes Answer.the-type answer.the-plain 𝓤 H A) (d .answer) (EL.vals Answer.the-type answer.the-laws (d .answer)) (LL.owed Decision′.the-type decision-laws.the-laws d _ is′ .1 .1 .1 .1 .0) $
-          applied ! fm Answer.the-row u64 stepNumber known-number (d .answer) (EL.val Answer.the-type answer.the-laws (d .answer)) (and-then ! (load ! (from ! (fld ! refl (stop !))) (look-in ! 22 (sub ! 4 refl (whole !)))) (no-more !)) (λ v′ y e‴ is‴.
-          land ! (from ! (stop !)) (init ! 32 refl (uint-lawful 𝓤 H A W w64 .typed y _ is‴ .0)) $ returns ! (look ! 32 refl) $
-          forget ! 4 refl $ forget ! 6 refl $ forget ! 8 refl $ forget ! 12 refl $ forget ! 14 refl $ forget ! 16 refl $ forget ! 18 refl $ forget ! 22 refl $ forget ! 24 refl $ forget ! 26 refl $ forget ! 28 refl $ forget ! 30 refl $ forget ! 32 refl $
-          move ! (32 ∷ 33 ∷ 30 ∷ 31 ∷ 28 ∷ 29 ∷ 26 ∷ 27 ∷ 24 ∷ 25 ∷ 22 ∷ 23 ∷ 20 ∷ 21 ∷ 18 ∷ 19 ∷ 16 ∷ 17 ∷ 14 ∷ 15 ∷ 12 ∷ 13 ∷ 10 ∷ 11 ∷ 8 ∷ 9 ∷ 6 ∷ 7 ∷ 4 ∷ 5 ∷ []) $
-          free1 ! $ free1 ! $ free1 ! $ free1 ! $ free1 ! $ free1 ! $ free1 ! $ free1 ! $ free1 ! $ free1 ! $ free1 ! $ free1 ! $ free1 ! $ free1 ! $ free1 ! $ free0 ! $
-          move ! (1 ∷ 2 ∷ 3 ∷ 0 ∷ []) $ by ! (exits (settles d k) y v′ (settles-is d k (e′ e) e″ stays) e‴))))))))))))))))))))))
+          move ! (0 ∷ 1 ∷ 2 ∷ 3 ∷ 22 ∷ 4 ∷ 30 ∷ 32 ∷ []) $ settled ! fm known-number 5 14 refl refl h was k (small k m e″) d w is′ (λ y v′ e‴.
+          -- [obs; the borrow; the token; what y owns; _5; _14; _1; _0; the end of _14 at 8; _13 at 9; …; _6; the end of _5 at 25; _4 at 26; …; _2; the ends of _1 and _0]
+          returns ! (look ! 7 refl) $ forget ! 4 refl $ forget ! 5 refl $ forget ! 6 refl $ forget ! 7 refl $ forget ! 9 refl $ forget ! 11 refl $ forget ! 15 refl $ forget ! 17 refl $ forget ! 19 refl $ forget ! 21 refl $ forget ! 26 refl $ forget ! 28 refl $ forget ! 30 refl $
+          move ! (7 ∷ 33 ∷ 6 ∷ 32 ∷ 30 ∷ 31 ∷ 28 ∷ 29 ∷ 26 ∷ 27 ∷ 4 ∷ 25 ∷ 23 ∷ 24 ∷ 21 ∷ 22 ∷ 19 ∷ 20 ∷ 17 ∷ 18 ∷ 15 ∷ 16 ∷ 13 ∷ 14 ∷ 11 ∷ 12 ∷ 9 ∷ 10 ∷ 5 ∷ 8 ∷ []) $
+                    freed ! $
+          by ! (exits (settles d k) y v′ (settles-is d k (e′ e) e″ stays) e‴))))))))))))))))))))))
 
 pub keeper-step-spec : {M : Type 1} → statement M
 unfolding code.routine

@@ -9,8 +9,9 @@ use Rattle.soundness.proofs.sound.Seen.Laws as seen-laws
 use Rattle.soundness.proofs.see as sees
 use Rattle.soundness.proofs.see.Symbol as see-def
 use Rattle.soundness.proofs.see.Met as see-thm
-use Rattle.lending.proofs.Walk.{_≡_, refl, ℕ, _<_, _^_, List, [], _∷_, URA, named, w8, Val, vint, vptr, SProp, ent, id⊢, GName, Lft, Share, ftrue, flft, fres, fshr-bor, Memory, Routine, Heap, Calls, Loops, WpFn, Atoms, sem, Fun, givenOf, tables, Given, ‵, raw, _⊛_, ⋆, _$_, _∵_, !, qed, by, move, keep, drop, use1, split, join, fsplit, fsplit3, fjoin, fjoin3, feqI, suffices, frame, done, look, look-raw, init, forget, stop, hop, from, load, of-opd, and-then, no-more, assigns, land, returns, enter, alloc1, alloc0, params1, pass1, pass0, free1, free0, FmC, owns, Is, partAt, uint-vals, uint-tells, uint-makes, u8, RefT, ShrRef, ptr-vals, shr-tells, plain, owned, nothing, Contract, Triple, onEntry, tripleOf, cited, says, Stays, stay-none, stay-none-ref, walkOf, goes-none, goes-none-ref, ends-at, yes, exported}
+use Rattle.lending.proofs.Walk.{_≡_, refl, ℕ, _<_, _^_, List, [], _∷_, URA, named, w8, Val, vint, vptr, SProp, ent, id⊢, GName, Lft, Share, ftrue, flft, fres, fshr-bor, Memory, Routine, Heap, Calls, Loops, WpFn, Atoms, sem, Fun, givenOf, tables, Given, ‵, raw, _⊛_, ⋆, _$_, _∵_, !, qed, by, move, keep, drop, use1, split, join, fsplit, fsplit3, fjoin, fjoin3, feqI, suffices, frame, done, look, look-raw, init, forget, stop, hop, from, load, of-opd, and-then, no-more, assigns, land, returns, enter, alloc1, alloc0, params1, pass1, pass0, FmC, owns, Is, partAt, uint-vals, uint-tells, uint-makes, u8, RefT, ShrRef, ptr-vals, shr-tells, plain, owned, nothing, Contract, Triple, onEntry, tripleOf, cited, says, Stays, stay-none, stay-none-ref, walkOf, goes-none, goes-none-ref, ends-at, yes, exported}
 use Rattle.lending.proofs.Lent.{R, mach, is-typed, had, looked, shut, called}
+use Rattle.lending.proofs.Freed.{freed}
 use Rattle.keeper.proofs.exports.seen.Key.{name}
 use Rattle.keeper.proofs.exports.seen as f
 use Rattle.keeper.proofs.exports.seen.Statement.{statement}
@@ -63,7 +64,7 @@ module _ {M : Type 1} (𝓤 : URA M) (H : Heap 𝓤) (A : Atoms 𝓤) (W : Given
           -- [what r owns; …; …; the token; the fractured borrow; true; res; …; _3 at 8; _2; _1; _0 at 14]
           land ! (from ! (stop !)) (init ! 14 refl (LL.lawful Seen′.the-type seen-laws.the-laws 𝓤 H A W .typed r _ is .0)) $
           returns ! (look ! 14 refl) $ forget ! 8 refl $ forget ! 10 refl $ forget ! 12 refl $ forget ! 14 refl $
-          move ! (14 ∷ 15 ∷ 12 ∷ 13 ∷ 10 ∷ 11 ∷ 8 ∷ 9 ∷ []) $ free1 ! $ free1 ! $ free1 ! $ free1 ! $ free0 ! $ keep ! (3 ∷ 6 ∷ 4 ∷ 0 ∷ []) $ by ! (exits r v e)))))))
+          move ! (14 ∷ 15 ∷ 12 ∷ 13 ∷ 10 ∷ 11 ∷ 8 ∷ 9 ∷ []) $ freed ! $ keep ! (3 ∷ 6 ∷ 4 ∷ 0 ∷ []) $ by ! (exits r v e)))))))
 
 pub seen-spec : {M : Type 1} → statement M
 unfolding code.routine
