@@ -166,7 +166,7 @@ module _ {M : Type 1} (𝓤 : URA M) (H : Heap 𝓤) (A : Atoms 𝓤) (W : Given
           -- [obs; the borrow; the token; what y owns; _5; _14; _1; _0; the end of _14 at 8; _13 at 9; …; _6; the end of _5 at 25; _4 at 26; …; _2; the ends of _1 and _0]
           returns ! (look ! 7 refl) $ forget ! 4 refl $ forget ! 5 refl $ forget ! 6 refl $ forget ! 7 refl $ forget ! 9 refl $ forget ! 11 refl $ forget ! 15 refl $ forget ! 17 refl $ forget ! 19 refl $ forget ! 21 refl $ forget ! 26 refl $ forget ! 28 refl $ forget ! 30 refl $
           move ! (7 ∷ 33 ∷ 6 ∷ 32 ∷ 30 ∷ 31 ∷ 28 ∷ 29 ∷ 26 ∷ 27 ∷ 4 ∷ 25 ∷ 23 ∷ 24 ∷ 21 ∷ 22 ∷ 19 ∷ 20 ∷ 17 ∷ 18 ∷ 15 ∷ 16 ∷ 13 ∷ 14 ∷ 11 ∷ 12 ∷ 9 ∷ 10 ∷ 5 ∷ 8 ∷ []) $
-                    freed ! $
+          freed ! $
           by ! (exits (settles d k) y v′ (settles-is d k (e′ e) e″ stays) e‴))))))))))))))))))))))
 
 pub keeper-step-spec : {M : Type 1} → statement M
