@@ -61,8 +61,8 @@ extern "C" {
 /* The longest listing: with a buffer of this size, keeper_list never answers 12. */
 #define KEEPER_LISTING_LONGEST 13043
 
-/* The stack that a call uses, in bytes, at most: the bound promised. host/c/stack.c measures it on the library at hand: 39 KB for
-** keeper_list on 63 nested places, 26 KB for keeper_step, 16 KB or less for the others. */
+/* The stack that a call uses, in bytes, at most: the bound promised. host/c/stack.c measures it on the library at hand: 35 KB for
+** keeper_list on 63 nested places, 17 KB for keeper_step, 15 KB or less for the others. */
 #define KEEPER_STACK 65536
 
 /*

@@ -3,12 +3,9 @@
 use mathlib.Core.Bool.{Bool, true, false, not, cond}
 use lib.Dec.{T}
 use denote.Struct.Laws as LL
-use denote.Enum.Laws as EL
 use Prim.Native.Nat.{_%_, _*_}
 use native.Mathlib.Omega.{arith}
 use mir.Syntax.{tyInt}
-use mir.Raw.{raw as rawTy}
-use lib.ListN.{set}
 use types.Kit.{use0}
 use denote.Builtin.{usize}
 use types.Run.{bin, returns-within}
@@ -33,14 +30,13 @@ use Rattle.step.proofs.decide.Met as decide-thm
 use Rattle.step.proofs.carry_out as carries
 use Rattle.step.proofs.carry_out.Symbol as carry-def
 use Rattle.step.proofs.carry_out.Met as carry-thm
-use Rattle.table.proofs.Cell.Laws as T′
 use Rattle.table.proofs.at.Symbol as at-def
 use Rattle.table.proofs.at.Met as at-thm
 use Rattle.numbers.proofs.step_number.Symbol as number
 use Rattle.numbers.proofs.step_number.Met as number-thm
 use Rattle.lending.proofs.Walk.{_≡_, refl, sym, ap, subst, _∙_, ℕ, _<_, _^_, List, [], _∷_, URA, fullShare, named, w8, w64, Val, vint, vptr, SProp, ent, emp, id⊢, GName, Lft, Share, ftrue, fat, flft, fobs, fbor, Memory, Routine, Heap, Calls, Loops, WpFn, Atoms, Fun, givenOf, tables, Given, ‵, raw, _⊛_, ⋆, _$_, _∵_, !, qed, by, move, drop, split, join, rewrite, fsplit, fsplit3, fjoin, fjoin3, feqI, suffices, frame, done, look, look-raw, init, forget, stop, hop, fld, from, load, lit, addr, of-opd, and-then, no-more, assigns, land, returns, enter, alloc1, alloc0, params1, pass1, pass0, whole, sub, look-in, Body, FmC, owns, Is, mem, uint-vals, uint-tells, uint-makes, uint-lawful, u8, u64, RefT, MutRef, ptr-vals, mut-tells, plain, only, owned, nothing, Contract, Triple, onEntry, tripleOf, cited, says, Stays, stay-ref, stay-none, walkOf, goes-ref, goes-none, ends-at, yes, exported}
 use Rattle.lending.proofs.Placed.{placed}
-use Rattle.lending.proofs.Lent.{R, mach, is-typed, had, opened, closed, called, Equates, applied}
+use Rattle.lending.proofs.Lent.{R, mach, is-typed, had, opened, called, Equates, applied}
 use Rattle.lending.proofs.Freed.{freed}
 use Rattle.lending.proofs.Stored.{Result, stored}
 use Rattle.lending.proofs.Settled.{val, settled}
@@ -153,8 +149,7 @@ module _ {M : Type 1} (𝓤 : URA M) (H : Heap 𝓤) (A : Atoms 𝓤) (W : Given
           -- [obs; the borrow; the token; what y owns; _6; _1; _0; _14 at 7 and its end; …; _7; the end of _6 at 23; _5 at 24; …; _2; the ends of _1 and _0]
           returns-within ! Post refl (look ! 6 refl) $ forget ! 4 refl $ forget ! 5 refl $ forget ! 6 refl $ forget ! 13 refl $ forget ! 15 refl $ forget ! 17 refl $ forget ! 19 refl $ forget ! 24 refl $ forget ! 26 refl $ forget ! 28 refl $ forget ! 30 refl $
           move ! (6 ∷ 33 ∷ 5 ∷ 32 ∷ 30 ∷ 31 ∷ 28 ∷ 29 ∷ 26 ∷ 27 ∷ 24 ∷ 25 ∷ 4 ∷ 23 ∷ 21 ∷ 22 ∷ 19 ∷ 20 ∷ 17 ∷ 18 ∷ 15 ∷ 16 ∷ 13 ∷ 14 ∷ 11 ∷ 12 ∷ 9 ∷ 10 ∷ 7 ∷ 8 ∷ []) $
-          freed ! $
-          by ! (exits r y v′ (e″ ∙ e′ e) e‴))))
+          freed ! $ by ! (exits r y v′ (e″ ∙ e′ e) e‴))))
           -- none does: the agent and the locks are stored in place
           (λ stays.
           owned ! u8 (Is u8) (uint-makes 𝓤 H A W w8) m _ (refl, m-fits) $ applied ! fm u8 usize (λ z. z % 64) known-at m (vint w8 m) (and-then ! (load ! (from ! (stop !)) (look ! 29 refl)) (no-more !)) (λ v k e″ is″. drop ! $
@@ -166,8 +161,7 @@ module _ {M : Type 1} (𝓤 : URA M) (H : Heap 𝓤) (A : Atoms 𝓤) (W : Given
           -- [obs; the borrow; the token; what y owns; _5; _14; _1; _0; the end of _14 at 8; _13 at 9; …; _6; the end of _5 at 25; _4 at 26; …; _2; the ends of _1 and _0]
           returns ! (look ! 7 refl) $ forget ! 4 refl $ forget ! 5 refl $ forget ! 6 refl $ forget ! 7 refl $ forget ! 9 refl $ forget ! 11 refl $ forget ! 15 refl $ forget ! 17 refl $ forget ! 19 refl $ forget ! 21 refl $ forget ! 26 refl $ forget ! 28 refl $ forget ! 30 refl $
           move ! (7 ∷ 33 ∷ 6 ∷ 32 ∷ 30 ∷ 31 ∷ 28 ∷ 29 ∷ 26 ∷ 27 ∷ 4 ∷ 25 ∷ 23 ∷ 24 ∷ 21 ∷ 22 ∷ 19 ∷ 20 ∷ 17 ∷ 18 ∷ 15 ∷ 16 ∷ 13 ∷ 14 ∷ 11 ∷ 12 ∷ 9 ∷ 10 ∷ 5 ∷ 8 ∷ []) $
-          freed ! $
-          by ! (exits (settles d k) y v′ (settles-is d k (e′ e) e″ stays) e‴))))))))))))))))))))))
+          freed ! $ by ! (exits (settles d k) y v′ (settles-is d k (e′ e) e″ stays) e‴))))))))))))))))))))))
 
 pub keeper-step-spec : {M : Type 1} → statement M
 unfolding code.routine
