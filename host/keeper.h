@@ -54,11 +54,11 @@ extern "C" {
 #define KEEPER_CELL_BYTES 4816
 
 /* The longest cell file that can be accepted; and how many bytes of a file, at its start, always decide the answer to it: a host may
-** read that many of a longer file and lend those. */
+** read that many of a longer file and lend those. Both are proved (crates/lengths, `accepted-longest` and `prefix`). */
 #define KEEPER_FILE_LONGEST 5628
 #define KEEPER_FILE_DECIDING 5633
 
-/* The longest listing: with a buffer of this size, keeper_list never answers 12. */
+/* The longest listing: with a buffer of this size, keeper_list never answers 12 (proved: crates/lengths, `listing-longest`, `enough-room`). */
 #define KEEPER_LISTING_LONGEST 13043
 
 /* The stack that a call uses, in bytes, at most: the bound promised. host/c/stack.c measures it on the library at hand: 35 KB for

@@ -5,7 +5,6 @@ use mathlib.Core.Logic.{_≢_, _⊎_, inl, inr}
 use mathlib.Core.Bool.{Bool, true, false, _&&_}
 use mathlib.Core.List.{List, [], _∷_, _++_}
 use Prim.Native.Nat.{ℕ, _+_, _*_, _-_, _<_, _≤_}
-use native.Mathlib.Nat.{le-of-suc-le-suc, not-suc-le-zero}
 use native.Mathlib.Omega.{arith}
 use lib.ListN.{length, getD, set, replicate, take, drop, length-set, length-drop, length-replicate, getD-replicate, take-append-drop}
 use lib.Seq.{getD-set-same, getD-set-other, take-append-le, drop-append-le, length-take-le, drop-at}
@@ -20,18 +19,11 @@ use Rattle.table.specs.Cell.{State, hasAction}
 use Rattle.meaning.specs.Text.{overlay}
 use Rattle.meaning.specs.Listing.{agentText}
 use Rattle.text.specs.Wrote.{Wrote}
-use Rattle.text.specs.TextLaws.{part, back, part-is, back-is}
+use Rattle.text.specs.TextLaws.{over-start, part, back, part-is, back-is}
 use Rattle.lister.specs.Sheet.{rowAt, isListed, listedAt, Rows}
 use Rattle.lister.specs.PutLaws.{exactly, back-long}
 
 -- ---- lists
-
--- a text that was written is what the buffer starts with
-over-start : (t b : List ℕ) → length t ≤ length b → take (length t) (overlay t b) ≡ t
-unfolding overlay
-over-start [] b l = refl
-over-start (x ∷ t) [] l = absurd (not-suc-le-zero l)
-over-start (x ∷ t) (y ∷ b) l = ap (λ (z : List ℕ). x ∷ z) (over-start t b (le-of-suc-le-suc l))
 
 -- what lies before k is not changed past k
 cut-same : (xs ys : List ℕ) (d n k : ℕ) → d + n ≤ k → k ≤ length xs → take n (drop d (take k xs ++ ys)) ≡ take n (drop d xs)

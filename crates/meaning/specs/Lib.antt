@@ -10,4 +10,3 @@ pub mod Report
 pub mod Codes
 pub mod Bench
 pub mod FileLaws
-pub mod Prefix

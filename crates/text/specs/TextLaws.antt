@@ -22,6 +22,13 @@ over-length [] b = refl
 over-length (x ∷ t) [] = refl
 over-length (x ∷ t) (y ∷ b) = ap suc (over-length t b)
 
+-- a text that fits stands at the buffer's start
+pub over-start : (t b : List ℕ) → length t ≤ length b → take (length t) (overlay t b) ≡ t
+unfolding overlay
+over-start [] b l = refl
+over-start (x ∷ t) [] l = absurd (not-suc-le-zero l)
+over-start (x ∷ t) (y ∷ b) l = ap (λ (s : List ℕ). x ∷ s) (over-start t b (le-of-suc-le-suc l))
+
 -- a text of two parts, of which the first fits: the second is written on what is left
 over-append : (s t b : List ℕ) → length s ≤ length b → overlay (s ++ t) b ≡ take (length s) (overlay s b) ++ overlay t (drop (length s) (overlay s b))
 unfolding overlay
@@ -65,27 +72,20 @@ pub capped-high : (n : ℕ) → 18446744073709551615 < n → capped n ≡ 184467
 unfolding capped
 capped-high n l = rw (lt-leb n 18446744073709551615 l)
 
+capped-full : (n : ℕ) → 18446744073709551615 ≤ n → capped n ≡ 18446744073709551615
+capped-full n l = go (told (leb n 18446744073709551615))
+  where
+    go : Told (leb n 18446744073709551615) → capped n ≡ 18446744073709551615
+    go (yea e) = capped-low n (leb-true _ _ e) ∙ omega (arith, leb-true n 18446744073709551615 e)
+    go (nay e) = capped-high n (leb-false _ _ e)
+
 pub capped-add : (a b : ℕ) → capped (capped a + capped b) ≡ capped (a + b)
 capped-add a b = go (told (leb a 18446744073709551615)) (told (leb b 18446744073709551615))
   where
     go : Told (leb a 18446744073709551615) → Told (leb b 18446744073709551615) → capped (capped a + capped b) ≡ capped (a + b)
     go (yea p) (yea q) = rw (capped-low a (leb-true _ _ p), capped-low b (leb-true _ _ q))
-    go (yea p) (nay q) = rw (capped-low a (leb-true _ _ p), capped-high b (leb-false _ _ q)) (high (a + 18446744073709551615) (omega arith) ∙ sym (capped-high (a + b) (omega (arith, leb-false b 18446744073709551615 q))))
-      where
-        high : (n : ℕ) → 18446744073709551615 ≤ n → capped n ≡ 18446744073709551615
-        high n l = top n (told (leb n 18446744073709551615)) l
-          where
-            top : (n : ℕ) → Told (leb n 18446744073709551615) → 18446744073709551615 ≤ n → capped n ≡ 18446744073709551615
-            top n (yea e) l = capped-low n (leb-true _ _ e) ∙ omega (arith, leb-true n 18446744073709551615 e)
-            top n (nay e) l = capped-high n (leb-false _ _ e)
-    go (nay p) q = rw (capped-high a (leb-false _ _ p)) (top (18446744073709551615 + capped b) (told (leb (18446744073709551615 + capped b) 18446744073709551615)) ∙ sym (capped-high (a + b) (omega (arith, leb-false a 18446744073709551615 p))))
-      where
-        top : (n : ℕ) → Told (leb n 18446744073709551615) → capped (18446744073709551615 + capped b) ≡ 18446744073709551615
-        top n h = last (told (leb (18446744073709551615 + capped b) 18446744073709551615))
-          where
-            last : Told (leb (18446744073709551615 + capped b) 18446744073709551615) → capped (18446744073709551615 + capped b) ≡ 18446744073709551615
-            last (yea e) = capped-low (18446744073709551615 + capped b) (leb-true _ _ e) ∙ omega (arith, leb-true (18446744073709551615 + capped b) 18446744073709551615 e)
-            last (nay e) = capped-high (18446744073709551615 + capped b) (leb-false _ _ e)
+    go (yea p) (nay q) = rw (capped-high b (leb-false _ _ q)) (capped-full _ (omega arith) ∙ sym (capped-full (a + b) (omega (arith, leb-false b 18446744073709551615 q))))
+    go (nay p) q = rw (capped-high a (leb-false _ _ p)) (capped-full _ (omega arith) ∙ sym (capped-full (a + b) (omega (arith, leb-false a 18446744073709551615 p))))
 
 -- where the next part starts: past the text, or at the end of the buffer
 from-is : (n m : ℕ) → m ≤ 18446744073709551615 → ((n < m) × (least (capped n) m ≡ n)) ⊎ ((m ≤ n) × (least (capped n) m ≡ m))

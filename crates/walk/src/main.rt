@@ -1,8 +1,8 @@
 // Level A, the program: reads a cell and an order and writes the report of the run.
 //
 // It reads the files `cell` and `order` of its working folder, or two paths given as arguments. An absent file reads as
-// empty. The first 8,192 bytes of a cell file decide its answer (the law `prefix` of the meaning asks for 5,633), and the
-// first 32,768 bytes of an order are its 16,384 pairs.
+// empty. The first 8,192 bytes of a cell file decide its answer (the law `prefix` asks for 5,633), the first 32,768 bytes
+// of an order are its 16,384 pairs, and no report is longer than 304,468 bytes (`report-longest`).
 use libc::STDOUT_FILENO;
 ghost use Prim.Native.Nat.{_≤_};
 ghost use lib.ListN.{length};

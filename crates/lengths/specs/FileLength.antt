@@ -1,60 +1,28 @@
--- A load is decided by the first 5,633 bytes of the file.
+-- A load is decided by the first 5,633 bytes of the file, and an accepted file has 5,628 bytes at most.
 -- Idea: each record that is not refused gives a new place, a new agent or a new action, and there is room for 63, 64 and 1,024 of
 -- these: 5 * 63 + 3 * 64 + 5 * 1024 = 5,627 bytes. What comes next is the end or a refusal, and looks at five bytes at most.
-use mathlib.Core.Path.{_≡_, refl, sym, ap, ap₂, _∙_, subst}
-use mathlib.Core.Bool.{Bool, true, false, _||_}
+use mathlib.Core.Path.{_≡_, refl, sym, ap, subst}
+use mathlib.Core.Bool.{Bool, true, false, _||_, cond}
 use mathlib.Core.List.{List}
 use mathlib.Core.Logic.{_≢_, _⊎_, inl, inr}
 use Prim.Native.Nat.{ℕ, zero, suc, _+_, _*_, _-_, _<_, _≤_}
 use native.Mathlib.Omega.{arith}
-use lib.Dec.{leb, eqb}
+use lib.Dec.{ltb, leb, eqb}
 use lib.ListN.{length, take}
 use lib.Seq.{getD-take, take-all, length-take-le}
-use borrow.Author.Tests.{eq-eqb, ne-eqb, lt-ltb, le-ltb, leb-true, leb-false}
+use borrow.Author.Tests.{eq-eqb, ne-eqb, lt-ltb, le-ltb, leb-true, leb-false, ltb-false}
 use Rattle.sets.specs.Word.{bit, has}
 use Rattle.table.specs.BaseLaws.{Told, yea, nay, told, eq?, upd-at, upd-other, upd-all}
 use Rattle.table.specs.Cell.{State, cellOf, bareTable}
 use Rattle.table.specs.declared.Agent.{Agent}
 use Rattle.meaning.specs.declared.Record.{Record}
 use Rattle.meaning.specs.declared.Record.the-variants.{PlaceRecord, AgentRecord, ActionRecord, EndRecord, Faulty}
 use Rattle.meaning.specs.Update.{withHome}
-use Rattle.meaning.specs.File.{byteAt, recordAt, addPlace, addAgent, withAction, addAction, isFull, loadRecord, loadFrom, load}
+use Rattle.meaning.specs.File.{byteAt, recordAt, addPlace, addAgent, withAction, addAction, isFull, Load, accepted, refused, loadRecord, loadFrom, load}
 use Rattle.meaning.specs.FileLaws.{Fits, place, agent, action, end, faulty, record-fits, bare-agent}
+use Rattle.lengths.specs.Sums.{sumBelow, sum-ext, sum-most, sum-more}
 
--- ---- sums below n
-
--- f 0 + f 1 + .. below n
-sumBelow : (ℕ → ℕ) → ℕ → ℕ
-sumBelow f zero = 0
-sumBelow f (suc n) = sumBelow f n + f n
-
--- equal numbers give equal sums, small ones a small sum
-sum-ext : (f g : ℕ → ℕ) (n : ℕ) → ((j : ℕ) → j < n → f j ≡ g j) → sumBelow f n ≡ sumBelow g n
-unfolding sumBelow
-sum-ext f g zero h = refl
-sum-ext f g (suc n) h = ap₂ _+_ (sum-ext f g n (λ j l. h j (omega arith))) (h n (omega arith))
-
-sum-most : (f : ℕ → ℕ) (n m : ℕ) → ((j : ℕ) → j < n → f j ≤ m) → sumBelow f n ≤ n * m
-unfolding sumBelow
-sum-most f zero m h = omega arith
-sum-most f (suc n) m h =
-    let a = sum-most f n m (λ j l. h j (omega arith)) in let b = h n (omega arith) in let c : suc n * m ≡ n * m + m = times n m in omega arith
-  where
-    times : (n m : ℕ) → suc n * m ≡ n * m + m
-    times n m = omega arith
-
--- one more at i
-sum-more : (f g : ℕ → ℕ) (n i : ℕ) → i < n → g i ≡ f i + 1 → ((j : ℕ) → j ≢ i → g j ≡ f j) → sumBelow g n ≡ sumBelow f n + 1
-unfolding sumBelow
-sum-more f g zero i l e h = absurd (omega arith)
-sum-more f g (suc n) i l e h = go (eq? i n) (sum-more f g n i)
-  where
-    go : (i ≡ n) ⊎ (i ≢ n) → (i < n → g i ≡ f i + 1 → ((j : ℕ) → j ≢ i → g j ≡ f j) → sumBelow g n ≡ sumBelow f n + 1)
-        → sumBelow g n + g n ≡ sumBelow f n + f n + 1
-    go (inl q) r =
-        let a : sumBelow g n ≡ sumBelow f n = sum-ext g f n (λ j k. h j (λ z. absurd (omega arith))) in
-        let b : g n ≡ f n + 1 = ap g (sym q) ∙ e ∙ ap (λ (k : ℕ). f k + 1) q in omega arith
-    go (inr q) r = let a = r (omega arith) e h in let b : g n ≡ f n = h n (λ z. q (sym z)) in omega arith
+-- ---- sets counted
 
 -- a set counted: 1 for each member
 abbrev one : (ℕ → Bool) → ℕ → ℕ
@@ -220,3 +188,38 @@ prefix s b wide = go (told (leb (length s) b))
         (let l : b ≤ length s = omega (arith, leb-false (length s) b e) in
         same-load s b wide l (suc (length (take b s))) (suc (length s)) (cellOf bareTable) 0 took-bare (omega (arith, start-long s b wide l))
         (omega arith))
+
+-- ---- accepted files
+
+-- a file that is accepted is short
+abbrev ShortIf : List ℕ → Load → Type 0
+ShortIf s (accepted c) = length s ≤ 5628
+ShortIf s (refused number offset) = Unit {0}
+
+short-from : (s : List ℕ) (turns : ℕ) (c : State) (at : ℕ) → Took c at → ShortIf s (loadFrom turns c s at)
+unfolding loadFrom
+short-from s zero c at h = tt
+short-from s (suc turns) c at h =
+    before (ltb at (length s)) _ (go (recordAt (c .land .used) (c .given) (isFull c) s at) (record-fits (c .land .used) (c .given) (isFull c) s at)
+    (λ d i g. short-from s turns d i g))
+  where
+    before : (b : Bool) (l : Load) → ShortIf s l → ShortIf s (cond b l (refused 1 (length s)))
+    before true l g = g
+    before false l g = tt
+
+    go : (r : Record) → Fits (c .land .used) (c .given) (isFull c) r → ((d : State) (i : ℕ) → Took d i → ShortIf s (loadFrom turns d s i))
+        → ShortIf s (loadRecord (λ d i. loadFrom turns d s i) c s at r)
+    go (PlaceRecord n x y) (place one low under new known named) r = unfold loadRecord in r (addPlace c n x y) (at + 5) (took-place c at n x y h low new)
+    go (AgentRecord n x) (agent low under new known) r = unfold loadRecord in r (addAgent c n x) (at + 3) (took-agent c at n x h low new)
+    go (ActionRecord n x y) (action low known room one three named) r = unfold loadRecord in r (addAction c n x y) (at + 5) (took-action c n x y at h low room)
+    go EndRecord end r = unfold loadRecord in last (told (ltb (at + 1) (length s)))
+      where
+        last : Told (ltb (at + 1) (length s)) → ShortIf s (cond (ltb (at + 1) (length s)) (refused 9 (at + 1)) (accepted c))
+        last (yea e) = rw e tt
+        last (nay e) = rw e (omega (arith, ltb-false (at + 1) (length s) e, at-most c at h))
+    go (Faulty n) faulty r = unfold loadRecord in tt
+
+-- the longest file that is accepted has 5,628 bytes
+pub accepted-longest : (s : List ℕ) (c : State) → load s ≡ accepted c → length s ≤ 5628
+unfolding load
+accepted-longest s c e = subst (ShortIf s) e (short-from s (suc (length s)) (cellOf bareTable) 0 took-bare)

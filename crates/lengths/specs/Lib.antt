@@ -1,0 +1,6 @@
+pub mod Sums
+pub mod FileLength
+pub mod Parts
+pub mod Levels
+pub mod ListingLength
+pub mod ReportLength

@@ -1,0 +1,1 @@
+// How long an accepted file, a listing and a report can be: laws, no code.
