@@ -1,6 +1,6 @@
 -- The listing call's answers: refused or listed. Assumes nothing.
 -- Idea: the answered length passes the buffer's just if the listing's does, so what was written and the answer fit together.
-use mathlib.Core.Path.{_≡_, refl, ap, _∙_}
+use mathlib.Core.Path.{_≡_, refl, ap, ap₂, _∙_}
 use mathlib.Core.Bool.{Bool, true, false, cond}
 use mathlib.Core.List.{List}
 use Prim.Native.Nat.{ℕ, _<_, _≤_}
@@ -12,16 +12,24 @@ use Rattle.table.specs.Cell.{State}
 use Rattle.table.specs.Sound.{sound}
 use Rattle.meaning.specs.Text.{overlay}
 use Rattle.meaning.specs.Listing.{listing, listAnswer, listBuffer}
+use Rattle.meaning.specs.declared.Listed.{Listed}
 use Rattle.meaning.specs.declared.Listed.the-variants.{Length, Unlisted}
 use Rattle.text.specs.TextLaws.{capped-low, over-length}
 use Rattle.lister.specs.Sheet.{WroteIf}
 use Rattle.lister.specs.WriteLaws.{below-length, within-length}
+use Rattle.listing.specs.Known.{knownAnswer, knownBuffer}
 
-pub refused-unsound : (c : State) (b : List ℕ) → sound c ≡ false → (Unlisted 10 ≡ listAnswer c b) × (b ≡ listBuffer c b)
-unfolding listAnswer listBuffer
-refused-unsound c b e = (rw e, rw e)
+-- told the truth of the table, it is the listing call
+pub told-truly : (c : State) (b e : List ℕ) (r : Listed) (known : Bool) → known ≡ sound c
+    → (r ≡ knownAnswer known c b) × (e ≡ knownBuffer known c b) → (r ≡ listAnswer c b) × (e ≡ listBuffer c b)
+unfolding knownAnswer knownBuffer listAnswer listBuffer
+told-truly c b e r known t (f, g) = (f ∙ ap (λ (z : Bool). knownAnswer z c b) t, g ∙ ap (λ (z : Bool). knownBuffer z c b) t)
 
-module _ (c : State) {b e : List ℕ} {n : ℕ} (room : length b < 18446744073709551615) (s : sound c ≡ true) (w : WroteIf true (listing c) b e n) where
+pub refused-unsound : (c : State) (b : List ℕ) (known : Bool) → known ≡ false → (Unlisted 10 ≡ knownAnswer known c b) × (b ≡ knownBuffer known c b)
+unfolding knownAnswer knownBuffer
+refused-unsound c b known e = (rw e, rw e)
+
+module _ (c : State) {b e : List ℕ} {n : ℕ} (room : length b < 18446744073709551615) (known : Bool) (s : known ≡ true) (w : WroteIf true (listing c) b e n) where
   if-length : length e ≡ length b
   if-length = ap length (w .text) ∙ go (ltb (length b) (length (listing c)))
     where
@@ -29,14 +37,14 @@ module _ (c : State) {b e : List ℕ} {n : ℕ} (room : length b < 1844674407370
       go true = refl
       go false = over-length (listing c) b
 
-  pub refused-long : length e < n → (Unlisted 12 ≡ listAnswer c b) × (e ≡ listBuffer c b)
-  unfolding listAnswer listBuffer
+  pub refused-long : length e < n → (Unlisted 12 ≡ knownAnswer known c b) × (e ≡ knownBuffer known c b)
+  unfolding knownAnswer knownBuffer
   refused-long l =
       let k : length b < length (listing c) = below-length (length b) (length (listing c)) room (omega (arith, if-length, w .count)) in
       (rw (s, lt-leb (length (listing c)) (length b) k), w .text ∙ rw (s, lt-ltb (length b) (length (listing c)) k, lt-leb (length (listing c)) (length b) k))
 
-  pub listed : n ≤ length e → (Length n ≡ listAnswer c b) × (e ≡ listBuffer c b)
-  unfolding listAnswer listBuffer
+  pub listed : n ≤ length e → (Length n ≡ knownAnswer known c b) × (e ≡ knownBuffer known c b)
+  unfolding knownAnswer knownBuffer
   listed l =
       let k : length (listing c) ≤ length b = within-length (length b) (length (listing c)) room (omega (arith, if-length, w .count)) in
       let x : n ≡ length (listing c) = w .count ∙ capped-low (length (listing c)) (omega arith) in

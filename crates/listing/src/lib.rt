@@ -3,9 +3,9 @@ use meaning::Listed;
 use table::Cell;
 ghost use mathlib.Core.Path.{_≡_};
 ghost use Rattle.table.specs.Cell.{cellOf};
-ghost use Rattle.table.specs.Sound.{sound};
 ghost use Rattle.meaning.specs.Listing.{listing, listAnswer, listBuffer};
 ghost use Rattle.text.specs.Wrote.{Wrote};
+ghost use Rattle.listing.specs.Known.{knownAnswer, knownBuffer};
 
 // The listing of any cell, sound or not, as far as there is room; answers its whole length.
 pub fn write_listing(c: Cell, buf: &mut [u8]) -> usize
@@ -14,10 +14,10 @@ pub fn write_listing(c: Cell, buf: &mut [u8]) -> usize
     lister::write_if(c, false, buf)
 }
 
-// The listing call, where it is known whether the table is sound: refused where it is not, then where the listing is longer
-// than the buffer.
+// The listing call, told whether the table is sound: refused where it is not, then where the listing is longer than the
+// buffer.
 pub fn list_known(known: bool, c: Cell, buf: &mut [u8]) -> Listed
-    ensures { λ r. ⌜ (known ≡ sound (cellOf c) → (r ≡ listAnswer (cellOf c) (now (buf .entry))) × (now (buf .exit) ≡ listBuffer (cellOf c) (now (buf .entry)))) ⌝ }
+    ensures { λ r. ⌜ (r ≡ knownAnswer known (cellOf c) (now (buf .entry))) × (now (buf .exit) ≡ knownBuffer known (cellOf c) (now (buf .entry))) ⌝ }
 {
     if known {
         let n = lister::write_if(c, true, buf);

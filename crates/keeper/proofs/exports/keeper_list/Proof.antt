@@ -11,7 +11,6 @@ use denote.Struct.Laws as LL
 use denote.Enum.Laws as EL
 use Rattle.table.specs.declared.Cell.{Cell}
 use Rattle.table.specs.Cell.{cellOf}
-use Rattle.table.specs.Sound.{sound}
 use Rattle.soundness.specs.declared.sound.Seen.{Seen}
 use Rattle.soundness.proofs.sound.Seen as Seen′
 use Rattle.soundness.proofs.sound.Seen.Laws as seen-laws
@@ -20,6 +19,8 @@ use Rattle.meaning.specs.Listing.{listAnswer, listBuffer}
 use Rattle.meaning.specs.Codes.{listNumber}
 use Rattle.meaning.proofs.Listed as Listed′
 use Rattle.meaning.proofs.Listed.Laws as listed
+use Rattle.listing.specs.Known.{knownAnswer, knownBuffer}
+use Rattle.listing.specs.CallLaws.{told-truly}
 use Rattle.listing.proofs.list_known as lists
 use Rattle.listing.proofs.list_known.Symbol as list-def
 use Rattle.listing.proofs.list_known.Met as list-thm
@@ -72,7 +73,7 @@ module _ {M : Type 1} (𝓤 : URA M) (H : Heap 𝓤) (A : Atoms 𝓤) (W : Given
 
     -- what the call of `list_known` says
     abbrev Says : Bool → Listed → List ℕ → Type 0
-    Says z r zs = z ≡ sound (cellOf h) → (r ≡ listAnswer (cellOf h) (s .now)) × (zs ≡ listBuffer (cellOf h) (s .now))
+    Says z r zs = (r ≡ knownAnswer z (cellOf h) (s .now)) × (zs ≡ knownBuffer z (cellOf h) (s .now))
 
     module _ (C : Calls 𝓤 H) (Λ : Loops 𝓤 H) (fm : FmC 𝓤 H (W .laws) C) (known-seen : Triple 𝓤 (C seen-def.name) (Sees 𝓤 H A)) (known : Triple 𝓤 (C list-def.name) Lists) (known-number : Triple 𝓤 (C number.name) (Equates 𝓤 H A Listed′.the-row u64 listNumber)) where
       walk : ent 𝓤 (onEntry 𝓤 H A f.signature (κ, (κ′, tt)) (q, (q′, tt)) x at) (WpFn 𝓤 H C Λ code.function (vptr b o ∷ only (slice-vals s) ∷ []) Post)
@@ -100,7 +101,7 @@ module _ {M : Type 1} (𝓤 : URA M) (H : Heap 𝓤) (A : Atoms 𝓤) (W : Given
           -- [the last list; …; …; …; what y owns; the slice's token; the token; the fractured borrow; res; _7 at 9; _6; _5; _4; _3; _2; _1; _0 at 23]
           returns ! (look ! 23 refl) $ forget ! 9 refl $ forget ! 11 refl $ forget ! 13 refl $ forget ! 15 refl $ forget ! 17 refl $ forget ! 19 refl $ forget ! 21 refl $ forget ! 23 refl $
           move ! (23 ∷ 24 ∷ 21 ∷ 22 ∷ 19 ∷ 20 ∷ 17 ∷ 18 ∷ 15 ∷ 16 ∷ 13 ∷ 14 ∷ 11 ∷ 12 ∷ 9 ∷ 10 ∷ []) $ freed ! $
-          keep ! (6 ∷ 5 ∷ 8 ∷ 7 ∷ 0 ∷ 4 ∷ []) $ by ! (exits y v′ (ws .1 .1 .0) (e′ (ap (λ (z : Seen). z .sound) e) .1) (e″ ∙ ap listNumber (e′ (ap (λ (z : Seen). z .sound) e) .0)) l))))))))))))))
+          keep ! (6 ∷ 5 ∷ 8 ∷ 7 ∷ 0 ∷ 4 ∷ []) $ by ! (let told = told-truly (cellOf h) (s .now) (ws .1 .1 .0) r (p .sound) (ap (λ (z : Seen). z .sound) e) e′ in exits y v′ (ws .1 .1 .0) (told .1) (e″ ∙ ap listNumber (told .0)) l))))))))))))))
 
 pub keeper-list-spec : {M : Type 1} → statement M
 unfolding code.routine
