@@ -87,11 +87,13 @@ module _ (c : State) (A B : ℕ) where
     -- the level's agents and the places below it, and what is outside these
     level-counted : (k : ℕ) → k ≤ outside (below level) (λ q. level q || upper q)
         → sumBelow (λ x. pick (level (c .agent x .home)) A) 64 + (sumBelow (λ q. pick (below level q) B) 64 + k) ≤ outside level upper
-    level-counted k l = omega (arith,
-        sum-both (λ x. pick (level (c .agent x .home)) A) (λ x. pick (not (level (c .agent x .home) || upper (c .agent x .home))) A) (λ x. pick (not (upper (c .agent x .home))) A) 64
-            (λ x. once (level (c .agent x .home)) (upper (c .agent x .home)) A (apart (c .agent x .home))),
-        sum-both (λ q. pick (below level q) B) (λ q. pick (not (below level q || (level q || upper q))) B) (λ q. pick (not (level q || upper q)) B) 64
-            (λ q. once (below level q) (level q || upper q) B (below-fresh q)))
+    level-counted k l = omega (
+      arith,
+      sum-both (λ x. pick (level (c .agent x .home)) A) (λ x. pick (not (level (c .agent x .home) || upper (c .agent x .home))) A) (λ x. pick (not (upper (c .agent x .home))) A) 64
+          (λ x. once (level (c .agent x .home)) (upper (c .agent x .home)) A (apart (c .agent x .home))),
+      sum-both (λ q. pick (below level q) B) (λ q. pick (not (below level q || (level q || upper q))) B) (λ q. pick (not (level q || upper q)) B) 64
+          (λ q. once (below level q) (level q || upper q) B (below-fresh q)),
+    )
 
   -- what the places of a level hold, so many levels deep
   levels : (depth : ℕ) (level upper : ℕ → Bool) → ((q : ℕ) → level q ≡ true → upper q ≡ false)
@@ -99,14 +101,16 @@ module _ (c : State) (A B : ℕ) where
       → sumBelow (λ p. pick (level p) (heap depth p)) 64 ≤ outside level upper
   unfolding heap
   levels zero level upper apart above = omega (arith, sum-le (λ p. pick (level p) 0) (λ p. 0) 64 (λ p. pick-le (level p) 0), sum-none 64)
-  levels (suc depth) level upper apart above = omega (arith,
-      picks-add level (λ p. sumBelow (λ x. pick (livesIn p x) A) 64) (λ p. sumBelow (λ q. pick (standsIn p q) (B + heap depth q)) 64) 64,
-      gathered level (λ x. level (c .agent x .home)) (λ x p. livesIn p x) (λ x. c .agent x .home) (λ x. A) lives-one (λ x p e f. rw (lives-one x p e) f) 64 64,
-      gathered level (below level) (λ q p. standsIn p q) (λ q. c .land .place q .parent) (λ q. B + heap depth q) stands-one
-          (λ q p e f. rw (stands-above q p e, stands-one q p e) f) 64 64,
-      picks-add (below level) (λ q. B) (heap depth) 64,
-      level-counted level upper apart above (sumBelow (λ q. pick (below level q) (heap depth q)) 64)
-          (levels depth (below level) (λ q. level q || upper q) (below-fresh level upper apart above) (below-above level upper apart above)))
+  levels (suc depth) level upper apart above = omega (
+    arith,
+    picks-add level (λ p. sumBelow (λ x. pick (livesIn p x) A) 64) (λ p. sumBelow (λ q. pick (standsIn p q) (B + heap depth q)) 64) 64,
+    gathered level (λ x. level (c .agent x .home)) (λ x p. livesIn p x) (λ x. c .agent x .home) (λ x. A) lives-one (λ x p e f. rw (lives-one x p e) f) 64 64,
+    gathered level (below level) (λ q p. standsIn p q) (λ q. c .land .place q .parent) (λ q. B + heap depth q) stands-one
+        (λ q p e f. rw (stands-above q p e, stands-one q p e) f) 64 64,
+    picks-add (below level) (λ q. B) (heap depth) 64,
+    level-counted level upper apart above (sumBelow (λ q. pick (below level q) (heap depth q)) 64)
+        (levels depth (below level) (λ q. level q || upper q) (below-fresh level upper apart above) (below-above level upper apart above)),
+  )
 
   -- from the floor down
   pub heap-floor : (depth : ℕ) → heap depth 0 ≤ 64 * A + 63 * B

@@ -13,8 +13,8 @@ use Rattle.table.specs.Cell.{State, noPlace, noAction, noAgent, cellOf}
 use Rattle.table.specs.BaseLaws.{Told, yea, nay, told}
 use Rattle.table.specs.Sound.{sound}
 use Rattle.table.specs.declared.Cell.{Cell}
-use Rattle.meaning.specs.Text.{ascii, decimal, joined}
-use Rattle.meaning.specs.Listing.{kindText, actionText, isUnused, actionTurn, agentText, listsIn, agentTurn, agentsText, standsUnder, bracketed, contentsText, listing, listAnswer}
+use Rattle.meaning.specs.Text.{ascii, decimal}
+use Rattle.meaning.specs.Listing.{kindText, actionText, isUnused, actionTurn, agentText, listsIn, agentTurn, agentsText, standsUnder, bracketed, placeTurn, contentsText, listing, listAnswer}
 use Rattle.meaning.specs.declared.Listed.the-variants.{Length, Unlisted}
 use Rattle.lengths.specs.Sums.{sumBelow, pick, sum-most, pick-le}
 use Rattle.lengths.specs.Parts.{digits-short, digits-most, room, room-none, length-room, room-length, room-turn, room-fold}
@@ -42,32 +42,49 @@ module _ (w : ℕ) (c : State) (n : Named w c) where
 
   agent-length : (x : ℕ) → length (agentText (c .agent x)) ≤ 111 + 16 * w
   unfolding agentText tab
-  agent-length x = room-length (ascii ".") (agentText (c .agent x)) (111 + 16 * w) (omega (arith, room-none (ascii "."), sum-most (λ j. 7 + w) 16 (7 + w) (λ j l. le-refl (7 + w)),
-      room-fold (ascii ".") (actionTurn (c .agent x)) (λ j. 7 + w)
-          (λ j s. omega (arith, pick-le (isUnused (c .agent x) j) (7 + w),
-              room-turn (ascii ".") (isUnused (c .agent x) j) s (actionText (getD (c .agent x .actions) j noAction)) (7 + w) (omega (arith, action-length x j)))) 16 []))
+  agent-length x = room-length (ascii ".") (agentText (c .agent x)) (111 + 16 * w) (omega (
+    arith,
+    room-none (ascii "."),
+    sum-most (λ j. 7 + w) 16 (7 + w) (λ j l. le-refl (7 + w)),
+    room-fold (ascii ".") (actionTurn (c .agent x)) (λ j. 7 + w)
+        (λ j s. omega (
+          arith,
+          pick-le (isUnused (c .agent x) j) (7 + w),
+          room-turn (ascii ".") (isUnused (c .agent x) j) s (actionText (getD (c .agent x .actions) j noAction)) (7 + w) (omega (arith, action-length x j)),
+        )) 16 [],
+  ))
 
   agents-room : (p : ℕ) → room (ascii " | ") (agentsText c p) ≤ sumBelow (λ x. pick (listsIn (c .given x) (c .agent x) p) (114 + 16 * w)) 64
   unfolding agentsText tab
-  agents-room p = omega (arith, room-none (ascii " | "),
-      room-fold (ascii " | ") (agentTurn c p) (λ x. pick (listsIn (c .given x) (c .agent x) p) (114 + 16 * w))
-          (λ x s. room-turn (ascii " | ") (listsIn (c .given x) (c .agent x) p) s (agentText (c .agent x)) (114 + 16 * w) (omega (arith, agent-length x))) 64 [])
+  agents-room p = omega (
+    arith,
+    room-none (ascii " | "),
+    room-fold (ascii " | ") (agentTurn c p) (λ x. pick (listsIn (c .given x) (c .agent x) p) (114 + 16 * w))
+        (λ x s. room-turn (ascii " | ") (listsIn (c .given x) (c .agent x) p) s (agentText (c .agent x)) (114 + 16 * w) (omega (arith, agent-length x))) 64 [],
+  )
 
   place-length : (q : ℕ) (s : List ℕ) → length (bracketed (c .land .place q .name) s) ≤ 2 + w + length s
   unfolding bracketed tab
-  place-length q s = omega (arith, n .place q, length-append (decimal (c .land .place q .name)) (ascii "["),
-      length-append (decimal (c .land .place q .name) ++ ascii "[") s, length-append ((decimal (c .land .place q .name) ++ ascii "[") ++ s) (ascii "]"))
+  place-length q s = omega (
+    arith,
+    n .place q,
+    length-append (decimal (c .land .place q .name)) (ascii "["),
+    length-append (decimal (c .land .place q .name) ++ ascii "[") s,
+    length-append ((decimal (c .land .place q .name) ++ ascii "[") ++ s) (ascii "]"),
+  )
 
   contents-room : (depth p : ℕ) → room (ascii " | ") (contentsText depth c p) ≤ heap c (114 + 16 * w) (5 + w) depth p
   unfolding contentsText heap tab
   contents-room zero p = omega (arith, room-none (ascii " | "))
-  contents-room (suc depth) p = omega (arith, agents-room p,
-      room-fold (ascii " | ") (λ q s. cond (standsUnder (c .land .used q) q (c .land .place q .parent) p)
-              (joined (ascii " | ") s (bracketed (c .land .place q .name) (contentsText depth c q))) s)
-          (λ q. pick (standsUnder (c .land .used q) q (c .land .place q .parent) p) (5 + w + heap c (114 + 16 * w) (5 + w) depth q))
-          (λ q s. room-turn (ascii " | ") (standsUnder (c .land .used q) q (c .land .place q .parent) p) s (bracketed (c .land .place q .name) (contentsText depth c q)) _
-              (omega (arith, place-length q (contentsText depth c q), length-room (ascii " | ") (contentsText depth c q), contents-room depth q)))
-          64 (agentsText c p))
+  contents-room (suc depth) p = omega (
+    arith,
+    agents-room p,
+    room-fold (ascii " | ") (placeTurn (c .land) p (contentsText depth c))
+        (λ q. pick (standsUnder (c .land .used q) q (c .land .place q .parent) p) (5 + w + heap c (114 + 16 * w) (5 + w) depth q))
+        (λ q s. room-turn (ascii " | ") (standsUnder (c .land .used q) q (c .land .place q .parent) p) s (bracketed (c .land .place q .name) (contentsText depth c q)) _
+        (omega (arith, place-length q (contentsText depth c q), length-room (ascii " | ") (contentsText depth c q), contents-room depth q)))
+        64 (agentsText c p),
+  )
 
   -- 64 agents of sixteen actions and 63 places, with bars between them
   pub listing-length : length (listing c) ≤ 7608 + 1087 * w
@@ -93,9 +110,10 @@ pub record Names16 (t : Cell) : Type 0 where
 -- the longest listing of a table has 13,043 bytes
 pub listing-longest : (t : Cell) → Names16 t → length (listing (cellOf t)) ≤ 13043
 unfolding cellOf
-listing-longest t n = listing-length 5 (cellOf t) (record
-    { place = λ q. digits-short 20 4 _ (omega (arith, n .place q))
-    ; action = λ x j. digits-short 20 4 _ (omega (arith, n .action x j)) })
+listing-longest t n = listing-length 5 (cellOf t) (record {
+  place = λ q. digits-short 20 4 _ (omega (arith, n .place q));
+  action = λ x j. digits-short 20 4 _ (omega (arith, n .action x j));
+})
 
 -- a listing call that is lent 13,043 bytes is never refused by 12
 pub enough-room : (t : Cell) → Names16 t → (b : List ℕ) → 13043 ≤ length b

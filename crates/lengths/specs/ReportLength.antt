@@ -73,7 +73,7 @@ module _ (c : State) (x : ℕ) where
   unfolding act leave dissolve
   few-act a = few-cond (fires (c .land) a)
       (few-cond (eqb (kindOf a) 3) {o = dissolve c x a (a .remembered) (a .chosen)} {p = leave c x a (destinationOf (c .land) a)}
-          (record { most = count-most 64 _ }) (record { most = count-most 64 _ }))
+      (record { most = count-most 64 _ }) (record { most = count-most 64 _ }))
       (few-release _ _ _ Back)
 
   few-travel : (a : Agent) → Few (travel c x a)
@@ -122,26 +122,47 @@ word-length Done = omega arith
 
 line-length : (agent : ℕ) (answer : Answer) → agent < 256 → numberIn answer < 100 → length (stepLine agent answer) ≤ 15
 unfolding stepLine tab
-line-length agent (Did word woken) l m = omega (arith, word-length word, digits-short 20 2 agent (omega arith), digits-short 20 1 woken (omega arith),
-    length-append (decimal agent) (ascii " "), length-append (decimal agent ++ ascii " ") (wordText word),
-    length-append ((decimal agent ++ ascii " ") ++ wordText word) (ascii " "),
-    length-append (((decimal agent ++ ascii " ") ++ wordText word) ++ ascii " ") (decimal woken),
-    length-append ((((decimal agent ++ ascii " ") ++ wordText word) ++ ascii " ") ++ decimal woken) (ascii "\n"))
-line-length agent (Refused number) l m = omega (arith, digits-short 20 2 agent (omega arith), digits-short 20 1 number (omega arith),
-    length-append (decimal agent) (ascii " refused "), length-append (decimal agent ++ ascii " refused ") (decimal number),
-    length-append ((decimal agent ++ ascii " refused ") ++ decimal number) (ascii "\n"))
+line-length agent (Did word woken) l m = omega (
+  arith,
+  word-length word,
+  digits-short 20 2 agent (omega arith),
+  digits-short 20 1 woken (omega arith),
+  length-append (decimal agent) (ascii " "),
+  length-append (decimal agent ++ ascii " ") (wordText word),
+  length-append ((decimal agent ++ ascii " ") ++ wordText word) (ascii " "),
+  length-append (((decimal agent ++ ascii " ") ++ wordText word) ++ ascii " ") (decimal woken),
+  length-append ((((decimal agent ++ ascii " ") ++ wordText word) ++ ascii " ") ++ decimal woken) (ascii "\n"),
+)
+line-length agent (Refused number) l m = omega (
+  arith,
+  digits-short 20 2 agent (omega arith),
+  digits-short 20 1 number (omega arith),
+  length-append (decimal agent) (ascii " refused "),
+  length-append (decimal agent ++ ascii " refused ") (decimal number),
+  length-append ((decimal agent ++ ascii " refused ") ++ decimal number) (ascii "\n"),
+)
 
 refused-length : (number offset : ℕ) → length (refusedLine number offset) ≤ 50
 unfolding refusedLine tab
-refused-length number offset = omega (arith, digits-most 20 number, digits-most 20 offset,
-    length-append (ascii "refused ") (decimal number), length-append (ascii "refused " ++ decimal number) (ascii " "),
-    length-append ((ascii "refused " ++ decimal number) ++ ascii " ") (decimal offset),
-    length-append (((ascii "refused " ++ decimal number) ++ ascii " ") ++ decimal offset) (ascii "\n"))
+refused-length number offset = omega (
+  arith,
+  digits-most 20 number,
+  digits-most 20 offset,
+  length-append (ascii "refused ") (decimal number),
+  length-append (ascii "refused " ++ decimal number) (ascii " "),
+  length-append ((ascii "refused " ++ decimal number) ++ ascii " ") (decimal offset),
+  length-append (((ascii "refused " ++ decimal number) ++ ascii " ") ++ decimal offset) (ascii "\n"),
+)
 
 listing-line-length : (word : List ℕ) (c : State) → length (listingLine word c) ≤ length word + 29350
 unfolding listingLine tab
-listing-line-length word c = omega (arith, listing-any c, length-append word (ascii " "), length-append (word ++ ascii " ") (listing c),
-    length-append ((word ++ ascii " ") ++ listing c) (ascii "\n"))
+listing-line-length word c = omega (
+  arith,
+  listing-any c,
+  length-append word (ascii " "),
+  length-append (word ++ ascii " ") (listing c),
+  length-append ((word ++ ascii " ") ++ listing c) (ascii "\n"),
+)
 
 -- ---- the report
 
@@ -151,10 +172,12 @@ unfolding callsIn reportRun tab
 run-length zero order t bytes = listing-line-length (ascii "end") (cellOf t)
 run-length (suc limit) [] t bytes = omega (arith, listing-line-length (ascii "end") (cellOf t))
 run-length (suc limit) (agent ∷ []) t bytes = omega (arith, listing-line-length (ascii "end") (cellOf t))
-run-length (suc limit) (agent ∷ wish ∷ order) t bytes = omega (arith,
-    length-append (stepLine agent (stepOf t agent wish .answer)) (reportRun (stepOf t agent wish .cell) (callsIn limit order)),
-    line-length agent (stepOf t agent wish .answer) (bytes 0) (step-number t agent wish),
-    run-length limit order (stepOf t agent wish .cell) (λ j. bytes (suc (suc j))))
+run-length (suc limit) (agent ∷ wish ∷ order) t bytes = omega (
+  arith,
+  length-append (stepLine agent (stepOf t agent wish .answer)) (reportRun (stepOf t agent wish .cell) (callsIn limit order)),
+  line-length agent (stepOf t agent wish .answer) (bytes 0) (step-number t agent wish),
+  run-length limit order (stepOf t agent wish .cell) (λ j. bytes (suc (suc j))),
+)
 
 -- the report of an order of bytes, on every file
 pub report-longest : (cell order : List ℕ) → ((j : ℕ) → getD order j 0 < 256) → length (report cell order) ≤ 304468
@@ -162,8 +185,12 @@ unfolding report reportOf tab
 report-longest cell order bytes = go (load cell)
   where
     go : (l : Load) → length (reportOf l (callsIn 16384 order)) ≤ 304468
-    go (accepted c) = omega (arith, length-append (listingLine (ascii "start") (cellOf (tableOf c))) (reportRun (tableOf c) (callsIn 16384 order)),
-        listing-line-length (ascii "start") (cellOf (tableOf c)), run-length 16384 order (tableOf c) bytes)
+    go (accepted c) = omega (
+      arith,
+      length-append (listingLine (ascii "start") (cellOf (tableOf c))) (reportRun (tableOf c) (callsIn 16384 order)),
+      listing-line-length (ascii "start") (cellOf (tableOf c)),
+      run-length 16384 order (tableOf c) bytes,
+    )
     go (refused number offset) = omega (arith, refused-length number offset)
 
 -- ---- the whole of it is written

@@ -133,5 +133,8 @@ module _ (P S : ℕ → Bool) (isIn : ℕ → ℕ → Bool) (up v : ℕ → ℕ)
       inside = sum-le _ _ n (λ p. rw (pick-sum (P p) (λ q. pick (isIn q p) (v q)) m) (le-refl _))
 
       outside : sumBelow (λ q. sumBelow (λ p. pick (P p) (pick (isIn q p) (v q))) n) m ≤ sumBelow (λ q. pick (S q) (v q)) m
-      outside = sum-le _ _ m (λ q. omega (arith, sum-le (λ p. pick (P p) (pick (isIn q p) (v q))) (λ p. pick (eqb (up q) p) (pick (S q) (v q))) n (in-one q),
-          one-of (up q) (pick (S q) (v q)) n))
+      outside = sum-le _ _ m (λ q. omega (
+        arith,
+        sum-le (λ p. pick (P p) (pick (isIn q p) (v q))) (λ p. pick (eqb (up q) p) (pick (S q) (v q))) n (in-one q),
+        one-of (up q) (pick (S q) (v q)) n,
+      ))

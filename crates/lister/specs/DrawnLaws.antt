@@ -47,13 +47,14 @@ listed-so false a b e = clash e refl
 module _ (t : Cell) {names parents places homes agents lengths texts : List ℕ} (n : names ≡ namesOf (t .places)) (u : parents ≡ parentsOf (t .places)) (s : places ≡ groupedOf (t .used) parents)
     (r : Rows (cellOf t) homes lengths texts) (v : agents ≡ groupedOf (t .given) homes) where
   pub drawn : Drawn (cellOf t) (sheetOf places agents names texts lengths)
-  drawn = record
-    { stands = λ p q l m. ap (λ (w : List ℕ). has (getD w p 0) q) s ∙ in-word (t .used) parents p q l m
-        ∙ ap (λ (k : ℕ). member (t .used) q && eqb k p) (parent q m) ∙ unfold cellOf standsUnder in stands-so (member (t .used) q) (eqb q 0) (getD (t .places) q noPlace .parent) p l
-    ; lives = λ p x l m. ap (λ (w : List ℕ). has (getD w p 0) x) v ∙ in-word (t .given) homes p x l m
-        ∙ ap (λ (k : ℕ). member (t .given) x && eqb k p) (home x m) ∙ unfold cellOf listedAt listsIn in lives-so (member (t .given) x) (hasAction (cellOf t .agent x)) (cellOf t .agent x .home) p l
-    ; name = λ q m. ap (λ (w : List ℕ). getD w q 0) n ∙ unfold cellOf namesOf in getD-tab _ 64 q 0 m
-    ; text = λ p x m e. r .row x m (unfold listsIn in listed-so (cellOf t .given x) (hasAction (cellOf t .agent x)) (eqb (cellOf t .agent x .home) p) e) }
+  drawn = record {
+    stands = λ p q l m. ap (λ (w : List ℕ). has (getD w p 0) q) s ∙ in-word (t .used) parents p q l m
+        ∙ ap (λ (k : ℕ). member (t .used) q && eqb k p) (parent q m) ∙ unfold cellOf standsUnder in stands-so (member (t .used) q) (eqb q 0) (getD (t .places) q noPlace .parent) p l;
+    lives = λ p x l m. ap (λ (w : List ℕ). has (getD w p 0) x) v ∙ in-word (t .given) homes p x l m
+        ∙ ap (λ (k : ℕ). member (t .given) x && eqb k p) (home x m) ∙ unfold cellOf listedAt listsIn in lives-so (member (t .given) x) (hasAction (cellOf t .agent x)) (cellOf t .agent x .home) p l;
+    name = λ q m. ap (λ (w : List ℕ). getD w q 0) n ∙ unfold cellOf namesOf in getD-tab _ 64 q 0 m;
+    text = λ p x m e. r .row x m (unfold listsIn in listed-so (cellOf t .given x) (hasAction (cellOf t .agent x)) (eqb (cellOf t .agent x .home) p) e);
+  }
     where
       parent : (q : ℕ) → q < 64 → getD parents q 0 ≡ cond (eqb q 0) 64 (getD (t .places) q noPlace .parent)
       parent q m = ap (λ (w : List ℕ). getD w q 0) u ∙ unfold parentsOf in getD-tab _ 64 q 0 m

@@ -54,8 +54,8 @@ placed {s} {t} {b} {xs} {ys} {zs} {at} {mid} {from} {n} {r} room w v f u e = nex
 pub row-cut : (texts lengths : List ℕ) (x m n : ℕ) → n ≡ getD lengths x 0 → x ≡ m → take (256 * x + n - 256 * x) (drop (256 * x) texts) ≡ rowAt texts lengths m
 unfolding rowAt
 row-cut texts lengths x m n h e =
-  let z : 256 * x + n - 256 * x ≡ getD lengths x 0 = omega arith in
-  ap (λ (k : ℕ). take k (drop (256 * x) texts)) z ∙ ap (λ (k : ℕ). take (getD lengths k 0) (drop (256 * k) texts)) e
+    let z : 256 * x + n - 256 * x ≡ getD lengths x 0 = omega arith in
+    ap (λ (k : ℕ). take k (drop (256 * x) texts)) z ∙ ap (λ (k : ℕ). take (getD lengths k 0) (drop (256 * k) texts)) e
 
 -- the same text under another name
 pub added-as : {t u b e : List ℕ} {at r : ℕ} → t ≡ u → Added t b e at r → Added u b e at r

@@ -38,9 +38,10 @@ least-low a b l = go (told (ltb a b))
 -- ---- one store
 
 pub stored : {s b xs : List ℕ} {at : ℕ} (x : ℕ) → length b ≤ 18446744073709551615 → at < length xs → Wrote s b xs at → Wrote (s ++ (x ∷ [])) b (set xs at x) (at + 1)
-stored {s} {b} {xs} {at} x room l w = record
-  { count = (let n = length-append s (x ∷ []) in let k : at + 1 ≡ length (s ++ (x ∷ [])) = omega (arith, n, exact) in k ∙ sym (capped-low _ (omega (arith, k, long))))
-  ; text = ap₂ (λ (z : List ℕ) (i : ℕ). set z i x) (w .text) exact ∙ store s b x (omega (arith, exact, long)) }
+stored {s} {b} {xs} {at} x room l w = record {
+  count = (let n = length-append s (x ∷ []) in let k : at + 1 ≡ length (s ++ (x ∷ [])) = omega (arith, n, exact) in k ∙ sym (capped-low _ (omega (arith, k, long))));
+  text = ap₂ (λ (z : List ℕ) (i : ℕ). set z i x) (w .text) exact ∙ store s b x (omega (arith, exact, long));
+}
   where
     long : length xs ≡ length b
     long = wrote-length w
@@ -50,16 +51,18 @@ stored {s} {b} {xs} {at} x room l w = record
 
 pub one-added : (b : List ℕ) (at x : ℕ) → length b ≤ 18446744073709551615 → at < length b → Added (x ∷ []) b (set b at x) at (at + 1)
 unfolding writtenAt overlay
-one-added b at x room l = record
-  { count = sym (ap (λ (i : ℕ). capped (at + i)) (capped-low 1 (omega arith)) ∙ capped-low (at + 1) (omega arith))
-  ; text = set-split b at x l ∙ ap (λ (z : List ℕ). take at b ++ overlay (x ∷ []) z) (sym (drop-cons b at 0 l))
-      ∙ ap (λ (k : ℕ). take k b ++ overlay (x ∷ []) (drop k b)) (least-low at (length b) (omega arith)) }
+one-added b at x room l = record {
+  count = sym (ap (λ (i : ℕ). capped (at + i)) (capped-low 1 (omega arith)) ∙ capped-low (at + 1) (omega arith));
+  text = set-split b at x l ∙ ap (λ (z : List ℕ). take at b ++ overlay (x ∷ []) z) (sym (drop-cons b at 0 l))
+      ∙ ap (λ (k : ℕ). take k b ++ overlay (x ∷ []) (drop k b)) (least-low at (length b) (omega arith));
+}
 
 pub none-added : (b : List ℕ) (at : ℕ) → length b ≤ 18446744073709551615 → at ≤ length b → Added [] b b at at
 unfolding writtenAt overlay
-none-added b at room l = record
-  { count = sym (ap (λ (i : ℕ). capped (at + i)) (capped-low 0 (omega arith)) ∙ ap capped (omega arith) ∙ capped-low at (omega arith))
-  ; text = sym (take-append-drop (least at (length b)) b) }
+none-added b at room l = record {
+  count = sym (ap (λ (i : ℕ). capped (at + i)) (capped-low 0 (omega arith)) ∙ ap capped (omega arith) ∙ capped-low at (omega arith));
+  text = sym (take-append-drop (least at (length b)) b);
+}
 
 -- ---- a part after a text, lent from the position on
 
@@ -75,8 +78,8 @@ back-long {t} {ys} {n} xs at l v = added-length (adds t xs ys at at n (capped (a
 pub joined-put : (by : List ℕ) {s t b xs ys zs : List ℕ} {at n m : ℕ} → length b ≤ 18446744073709551615 → Wrote s b xs at → at ≤ length xs → at + n ≤ length xs → at + n + m ≤ 18446744073709551615
     → Wrote (cond (eqb at 0) [] by) (part at xs) ys n → Wrote t (part (at + n) (back at xs ys)) zs m → Wrote (joined by s t) b (back (at + n) (back at xs ys) zs) (at + n + m)
 joined-put by {s} {t} {b} {xs} {ys} {zs} {at} {n} {m} room w l k h v u =
-  let half : Wrote (s ++ gap by s) b (back at xs ys) (at + n) = wrote-as (ap (λ (g : List ℕ). s ++ g) (gap-at by s at (w .count))) (followed room w l (omega arith) v) in
-  followed room half (omega (arith, wrote-length half, wrote-length w)) h u
+    let half : Wrote (s ++ gap by s) b (back at xs ys) (at + n) = wrote-as (ap (λ (g : List ℕ). s ++ g) (gap-at by s at (w .count))) (followed room w l (omega arith) v) in
+    followed room half (omega (arith, wrote-length half, wrote-length w)) h u
 
 -- ---- five stores
 
@@ -128,17 +131,17 @@ last-digit n = go (told (ltb n 10))
 -- all digits of a number below 65,536
 digits-are : (n : ℕ) → n < 65536 → (((digitAt n 10000 ++ digitAt n 1000) ++ digitAt n 100) ++ digitAt n 10) ++ ((48 + n % 10) ∷ []) ≡ digits 20 n
 digits-are n l =
-  let e₁ = ap (λ (t : List ℕ). t ++ digitAt n 1000) (one-digit n l) ∙ more-digits 16 n 1000 (omega arith) in
-  let e₂ = ap (λ (t : List ℕ). t ++ digitAt n 100) e₁ ∙ more-digits 17 n 100 (omega arith) in
-  let e₃ = ap (λ (t : List ℕ). t ++ digitAt n 10) e₂ ∙ more-digits 18 n 10 (omega arith) in
-  ap (λ (t : List ℕ). t ++ ((48 + n % 10) ∷ [])) e₃ ∙ last-digit n
+    let e₁ = ap (λ (t : List ℕ). t ++ digitAt n 1000) (one-digit n l) ∙ more-digits 16 n 1000 (omega arith) in
+    let e₂ = ap (λ (t : List ℕ). t ++ digitAt n 100) e₁ ∙ more-digits 17 n 100 (omega arith) in
+    let e₃ = ap (λ (t : List ℕ). t ++ digitAt n 10) e₂ ∙ more-digits 18 n 10 (omega arith) in
+    ap (λ (t : List ℕ). t ++ ((48 + n % 10) ∷ [])) e₃ ∙ last-digit n
 
 -- a number below 65,536, digit after digit
 pub number-put : (n : ℕ) (b y₁ y₂ y₃ y₄ : List ℕ) (a₁ a₂ a₃ a₄ : ℕ) → n < 65536 → length b ≤ 18446744073709551615
     → Added (digitAt n 10000) b y₁ 0 a₁ → Added (digitAt n 1000) y₁ y₂ a₁ a₂ → Added (digitAt n 100) y₂ y₃ a₂ a₃ → Added (digitAt n 10) y₃ y₄ a₃ a₄
     → a₄ < length y₄ → Wrote (digits 20 n) b (set y₄ a₄ (48 + n % 10)) (a₄ + 1)
 number-put n b y₁ y₂ y₃ y₄ a₁ a₂ a₃ a₄ l room d₁ d₂ d₃ d₄ f =
-  wrote-as (digits-are n l) (stored (48 + n % 10) room f (added room (added room (added room (added room (begun b) d₁) d₂) d₃) d₄))
+    wrote-as (digits-are n l) (stored (48 + n % 10) room f (added room (added room (added room (added room (begun b) d₁) d₂) d₃) d₄))
 
 -- how many there are, by the units that n reaches
 pub digits-count : (n : ℕ) → n < 65536 → length (digits 20 n) ≡ length ((((digitAt n 10000 ++ digitAt n 1000) ++ digitAt n 100) ++ digitAt n 10) ++ ((48 + n % 10) ∷ []))

@@ -3,8 +3,8 @@
 use mathlib.Core.Path.{_≡_, refl, sym, ap, ap₂, _∙_}
 use mathlib.Core.Logic.{_≢_, _⊎_, inl, inr}
 use mathlib.Core.Bool.{Bool, true, false, _&&_}
-use mathlib.Core.List.{List, [], _∷_, _++_}
-use Prim.Native.Nat.{ℕ, _+_, _*_, _-_, _<_, _≤_}
+use mathlib.Core.List.{List, _++_}
+use Prim.Native.Nat.{ℕ, _+_, _*_, _<_, _≤_}
 use native.Mathlib.Omega.{arith}
 use lib.ListN.{length, getD, set, replicate, take, drop, length-set, length-drop, length-replicate, getD-replicate, take-append-drop}
 use lib.Seq.{getD-set-same, getD-set-other, take-append-le, drop-append-le, length-take-le, drop-at}
@@ -69,9 +69,10 @@ filled-none c lengths texts = record { small = λ x l _. absurd (omega arith); r
 
 -- turns that have no row
 pub filled-skip : {c : State} {lengths texts : List ℕ} {i : ℕ} (m : ℕ) → ((j : ℕ) → i ≤ j → j < m → isListed c j ≡ false) → Filled c lengths texts i → Filled c lengths texts m
-filled-skip {c} {lengths} {texts} {i} m h f = record
-  { small = λ x l e. f .small x (below x l e) e
-  ; row = λ x l e. f .row x (below x l e) e }
+filled-skip {c} {lengths} {texts} {i} m h f = record {
+  small = λ x l e. f .small x (below x l e) e;
+  row = λ x l e. f .row x (below x l e) e;
+}
   where
     below : (x : ℕ) → x < m → isListed c x ≡ true → x < i
     below x l e = go (told (ltb x i))
@@ -83,9 +84,10 @@ filled-skip {c} {lengths} {texts} {i} m h f = record
 -- one row more
 pub filled-more : {c : State} {lengths texts ys : List ℕ} {m n : ℕ} → Filled c lengths texts m → length texts ≡ 16384 → length lengths ≡ 64 → m < 64
     → Wrote (agentText (c .agent m)) (part (256 * m) texts) ys n → n ≤ 192 → Filled c (set lengths m n) (back (256 * m) texts ys) (m + 1)
-filled-more {c} {lengths} {texts} {ys} {m} {n} f e g l w s = record
-  { small = λ x b q. go x (eq? x m) b q
-  ; row = λ x b q. rows x (eq? x m) b q }
+filled-more {c} {lengths} {texts} {ys} {m} {n} f e g l w s = record {
+  small = λ x b q. go x (eq? x m) b q;
+  row = λ x b q. rows x (eq? x m) b q;
+}
   where
     fits : 256 * m + 192 ≤ length texts
     fits = omega arith
@@ -119,25 +121,27 @@ pub row-of : (v : ℕ) → replicate 64 v ≡ tab (λ _. v) 64 0
 row-of v = as-tab 0 (replicate 64 v) 64 (λ _. v) (length-replicate 64 v) (λ j m. getD-replicate 64 j v 0 m)
 
 pub held-none : (c : State) (texts : List ℕ) → length texts ≡ 16384 → Held c (replicate 64 64) (replicate 64 0) texts 0
-held-none c texts l = record
-  { home = sweep-start 0 (λ _. 64) (listedAt c) (replicate 64 64) (row-of 64)
-  ; long = l
-  ; count = length-replicate {A = ℕ} 64 0
-  ; filled = filled-none c (replicate 64 0) texts }
+held-none c texts l = record {
+  home = sweep-start 0 (λ _. 64) (listedAt c) (replicate 64 64) (row-of 64);
+  long = l;
+  count = length-replicate {A = ℕ} 64 0;
+  filled = filled-none c (replicate 64 0) texts;
+}
 
 -- turns that have no agent
 held-skip : {c : State} {homes lengths texts : List ℕ} {i : ℕ} (m : ℕ) → i ≤ m → ((j : ℕ) → i ≤ j → j < m → isListed c j ≡ false) → Held c homes lengths texts i → Held c homes lengths texts m
-held-skip {c} {homes} {lengths} {texts} {i} m l h k = record
-  { home = sweep-skip 0 (λ _. 64) (listedAt c) homes i m l (λ j a b. unlisted c j (h j a b)) (k .home)
-  ; long = k .long
-  ; count = k .count
-  ; filled = filled-skip m h (k .filled) }
+held-skip {c} {homes} {lengths} {texts} {i} m l h k = record {
+  home = sweep-skip 0 (λ _. 64) (listedAt c) homes i m l (λ j a b. unlisted c j (h j a b)) (k .home);
+  long = k .long;
+  count = k .count;
+  filled = filled-skip m h (k .filled);
+}
 
 module _ {c : State} {homes lengths texts : List ℕ} {i : ℕ} {s : Set} (k : Held c homes lengths texts i) (r : Rest (c .given) i s) where
   pub held-all : s .bits ≡ 0 → Rows c homes lengths texts
   held-all e =
-    let z = held-skip 64 (r .end) (λ j a b. not-given c j (rest-end r e j a b)) k in
-    record { home = sweep-end 0 (λ _. 64) (listedAt c) homes 64 refl (z .home); row = λ x l q. z .filled .row x l q }
+      let z = held-skip 64 (r .end) (λ j a b. not-given c j (rest-end r e j a b)) k in
+      record { home = sweep-end 0 (λ _. 64) (listedAt c) homes 64 refl (z .home); row = λ x l q. z .filled .row x l q }
 
   module _ (some : 0 < s .bits) {x : ℕ} (e : x ≡ lowestIn s) where
     in-reach : x < 64
@@ -159,8 +163,9 @@ module _ {c : State} {homes lengths texts : List ℕ} {i : ℕ} {s : Set} (k : H
     -- an agent with its row
     pub held-more : {ys : List ℕ} {n : ℕ} → hasAction (c .agent x) ≡ true → Wrote (agentText (c .agent x)) (part (256 * x) texts) ys n → n ≤ 192
         → Held c (set homes x (c .agent x .home)) (set lengths x n) (back (256 * x) texts ys) (x + 1)
-    held-more {ys} {n} h w l = record
-      { home = sweep-hit 0 (λ _. 64) (listedAt c) homes x (c .agent x .home) in-reach (unfold listedAt in rw (given-x, h)) (reached .home)
-      ; long = back-long texts (256 * x) (omega (arith, in-reach, k .long)) w ∙ k .long
-      ; count = length-set lengths x n ∙ k .count
-      ; filled = filled-more (reached .filled) (k .long) (k .count) in-reach w l }
+    held-more {ys} {n} h w l = record {
+      home = sweep-hit 0 (λ _. 64) (listedAt c) homes x (c .agent x .home) in-reach (unfold listedAt in rw (given-x, h)) (reached .home);
+      long = back-long texts (256 * x) (omega (arith, in-reach, k .long)) w ∙ k .long;
+      count = length-set lengths x n ∙ k .count;
+      filled = filled-more (reached .filled) (k .long) (k .count) in-reach w l;
+    }

@@ -74,11 +74,12 @@ pub record Sheet : Type 0 where
 
 -- the sheet of five arrays: words of places, words of agents, names, rows and their lengths
 abbrev pub sheetOf : List ℕ → List ℕ → List ℕ → List ℕ → List ℕ → Sheet
-sheetOf places agents names texts lengths = record
-  { stands = λ p. has (getD places p 0)
-  ; lives = λ p. has (getD agents p 0)
-  ; name = λ q. getD names q 0
-  ; text = rowAt texts lengths }
+sheetOf places agents names texts lengths = record {
+  stands = λ p. has (getD places p 0);
+  lives = λ p. has (getD agents p 0);
+  name = λ q. getD names q 0;
+  text = rowAt texts lengths;
+}
 
 -- a name and the bracket that opens the contents
 unfoldable pub headText : ℕ → List ℕ

@@ -59,7 +59,7 @@ parts-ext : (P Q : ℕ → Bool) (F G : ℕ → List ℕ) (s t : List ℕ) → s
 unfolding parts
 parts-ext P Q F G s t e f g =
     fold-ext (join bar P F s) (λ k z. cond (Q k) (joined bar z (G k)) z) 64 s
-      (λ k l z. ap (λ (b : Bool). cond b (joined bar z (F k)) z) (f k l) ∙ cond-cong (Q k) (joined bar z (F k)) (joined bar z (G k)) z (λ q. ap (joined bar z) (g k l q)))
+    (λ k l z. ap (λ (b : Bool). cond b (joined bar z (F k)) z) (f k l) ∙ cond-cong (Q k) (joined bar z (F k)) (joined bar z (G k)) z (λ q. ap (joined bar z) (g k l q)))
     ∙ ap (foldUp (λ k z. cond (Q k) (joined bar z (G k)) z) 64) e
 
 module _ {c : State} {h : Sheet} (d : Drawn c h) where

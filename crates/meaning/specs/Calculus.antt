@@ -41,8 +41,8 @@ standsAt t q p = t .used q && (not (eqb q 0) && eqb (t .parent q) p)
 unfoldable pub mayEnter : Tree → ℕ → ℕ → Bool
 unfolding standsAt
 mayEnter t a m =
-  not (eqb (t .home a) 0)
-  && (standsAt t m (t .parent (t .home a)) && (not (eqb m (t .home a)) && eqb (t .name m) (nextOf t a .name)))
+    not (eqb (t .home a) 0)
+    && (standsAt t m (t .parent (t .home a)) && (not (eqb m (t .home a)) && eqb (t .name m) (nextOf t a .name)))
 
 -- "exit n if its own stands in a place named n": m[n[exit m.P | Q] | R]
 unfoldable pub mayExit : Tree → ℕ → ℕ → Bool
@@ -57,35 +57,39 @@ mayOpen t a m = standsAt t m (t .home a) && eqb (t .name m) (nextOf t a .name)
 unfoldable pub permits : Tree → ℕ → ℕ → Bool
 unfolding mayEnter mayExit mayOpen
 permits t a m =
-  cond (eqb (nextOf t a .kind) 1) (mayEnter t a m)
-  (cond (eqb (nextOf t a .kind) 2) (mayExit t a m)
-  (cond (eqb (nextOf t a .kind) 3) (mayOpen t a m) false))
+    cond (eqb (nextOf t a .kind) 1) (mayEnter t a m)
+    (cond (eqb (nextOf t a .kind) 2) (mayExit t a m)
+    (cond (eqb (nextOf t a .kind) 3) (mayOpen t a m) false))
 
 -- ---- what a move makes
 
 -- the agent's own place stands in d, the action is used up
 unfoldable pub putInto : Tree → ℕ → ℕ → Tree
-putInto t a d = record
-  { used = t .used; name = t .name
-  ; parent = upd (t .parent) (t .home a) d
-  ; home = t .home
-  ; unused = upd (t .unused) a (restOf (t .unused a)) }
+putInto t a d = record {
+  used = t .used;
+  name = t .name;
+  parent = upd (t .parent) (t .home a) d;
+  home = t .home;
+  unused = upd (t .unused) a (restOf (t .unused a));
+}
 
 -- places and agents in m go to the agent's own place, m's number becomes unused, the action is used up
 unfoldable pub openUp : Tree → ℕ → ℕ → Tree
-openUp t a m = record
-  { used = upd (t .used) m false; name = upd (t .name) m 0
-  ; parent = λ q. cond (eqb q m) 0 (cond (eqb (t .parent q) m) (t .home a) (t .parent q))
-  ; home = λ x. cond (eqb (t .home x) m) (t .home a) (t .home x)
-  ; unused = upd (t .unused) a (restOf (t .unused a)) }
+openUp t a m = record {
+  used = upd (t .used) m false;
+  name = upd (t .name) m 0;
+  parent = λ q. cond (eqb q m) 0 (cond (eqb (t .parent q) m) (t .home a) (t .parent q));
+  home = λ x. cond (eqb (t .home x) m) (t .home a) (t .home x);
+  unused = upd (t .unused) a (restOf (t .unused a));
+}
 
 -- the tree after agent a's next action on m: enter m, exit to where the place around its own stands, or open m
 unfoldable pub move : Tree → ℕ → ℕ → Tree
 unfolding putInto openUp
 move t a m =
-  cond (eqb (nextOf t a .kind) 1) (putInto t a m)
-  (cond (eqb (nextOf t a .kind) 2) (putInto t a (t .parent (t .parent (t .home a))))
-  (openUp t a m))
+    cond (eqb (nextOf t a .kind) 1) (putInto t a m)
+    (cond (eqb (nextOf t a .kind) 2) (putInto t a (t .parent (t .parent (t .home a))))
+    (openUp t a m))
 
 -- one move of agent a that the calculus permits, from t to u
 pub record Move (t : Tree) (a : ℕ) (u : Tree) : Type 0 where

@@ -27,59 +27,65 @@ byteAt s i = getD s i 0
 -- 3 number too large, or place number 0; 4 number given twice; 5 not yet given; 6 name 0
 unfoldable pub placeRecord : Bool → Bool → ℕ → ℕ → ℕ → Record
 placeRecord taken known number parent name =
-  cond (ltb number 1) (Faulty 3)
-  (cond (leb 64 number) (Faulty 3)
-  (cond (leb 64 parent) (Faulty 3)
-  (cond taken (Faulty 4)
-  (cond known
-    (cond (ltb name 1) (Faulty 6) (PlaceRecord number parent name))
-  (Faulty 5)))))
+    cond (ltb number 1) (Faulty 3)
+    (cond (leb 64 number) (Faulty 3)
+    (cond (leb 64 parent) (Faulty 3)
+    (cond taken (Faulty 4)
+    (cond known (cond (ltb name 1) (Faulty 6) (PlaceRecord number parent name)) (Faulty 5)))))
 
 -- an agent: 3 its number or home too large, 4 number given twice, 5 home not yet given
 unfoldable pub agentRecord : Bool → Bool → ℕ → ℕ → Record
 agentRecord taken known number home =
-  cond (leb 64 number) (Faulty 3)
-  (cond (leb 64 home) (Faulty 3)
-  (cond taken (Faulty 4)
-  (cond known (AgentRecord number home)
-  (Faulty 5))))
+    cond (leb 64 number) (Faulty 3)
+    (cond (leb 64 home) (Faulty 3)
+    (cond taken (Faulty 4)
+    (cond known (AgentRecord number home) (Faulty 5))))
 
--- an action: 3 its agent's number too large, 5 agent not yet given, 7 kind not 1 to 3, 6 name 0, 8 seventeenth action
-unfoldable pub actionRecord : Bool → Bool → ℕ → ℕ → ℕ → Record
-actionRecord known full agent kind name =
-  cond (leb 64 agent) (Faulty 3)
-  (cond known
-    (cond (ltb kind 1) (Faulty 7)
+-- an action of a given agent: 7 kind not 1 to 3, 6 name 0, 8 seventeenth action
+abbrev pub givenAction : Bool → ℕ → ℕ → ℕ → Record
+givenAction full agent kind name =
+    cond (ltb kind 1) (Faulty 7)
     (cond (leb 4 kind) (Faulty 7)
     (cond (ltb name 1) (Faulty 6)
-    (cond full (Faulty 8) (ActionRecord agent kind name)))))
-  (Faulty 5))
+    (cond full (Faulty 8) (ActionRecord agent kind name))))
 
--- "One byte of kind, then a body whose length the kind fixes": 2 unknown kind, 1 a body incomplete.
--- used, given: the places and agents so far; full: the agents with sixteen actions
+-- an action: 3 its agent's number too large, 5 agent not yet given
+unfoldable pub actionRecord : Bool → Bool → ℕ → ℕ → ℕ → Record
+actionRecord known full agent kind name = cond (leb 64 agent) (Faulty 3) (cond known (givenAction full agent kind name) (Faulty 5))
+
+-- a record of n bytes with its kind: 1 where its body is incomplete
+abbrev pub complete : List ℕ → ℕ → ℕ → Record → Record
+complete s at n r = cond (ltb (length s - at) n) (Faulty 1) r
+
+-- the name in a record of five bytes
+abbrev pub nameAt : List ℕ → ℕ → ℕ
+nameAt s at = twoBytes (byteAt s (at + 3)) (byteAt s (at + 4))
+
+-- the three bodies. used, given: the places and agents so far; full: the agents with sixteen actions
+abbrev pub placeAt : (ℕ → Bool) → List ℕ → ℕ → Record
+placeAt used s at = placeRecord (used (byteAt s (at + 1))) (used (byteAt s (at + 2))) (byteAt s (at + 1)) (byteAt s (at + 2)) (nameAt s at)
+
+abbrev pub agentAt : (ℕ → Bool) → (ℕ → Bool) → List ℕ → ℕ → Record
+agentAt used given s at = agentRecord (given (byteAt s (at + 1))) (used (byteAt s (at + 2))) (byteAt s (at + 1)) (byteAt s (at + 2))
+
+abbrev pub actionAt : (ℕ → Bool) → (ℕ → Bool) → List ℕ → ℕ → Record
+actionAt given full s at = actionRecord (given (byteAt s (at + 1))) (full (byteAt s (at + 1))) (byteAt s (at + 1)) (byteAt s (at + 2)) (nameAt s at)
+
+-- "One byte of kind, then a body whose length the kind fixes": 2 unknown kind
 unfoldable pub recordAt : (ℕ → Bool) → (ℕ → Bool) → (ℕ → Bool) → List ℕ → ℕ → Record
 recordAt used given full s at =
-  cond (eqb (byteAt s at) 1)
-    (cond (ltb (length s - at) 5) (Faulty 1)
-    (placeRecord (used (byteAt s (at + 1))) (used (byteAt s (at + 2)))
-      (byteAt s (at + 1)) (byteAt s (at + 2)) (twoBytes (byteAt s (at + 3)) (byteAt s (at + 4)))))
-  (cond (eqb (byteAt s at) 2)
-    (cond (ltb (length s - at) 3) (Faulty 1)
-    (agentRecord (given (byteAt s (at + 1))) (used (byteAt s (at + 2))) (byteAt s (at + 1)) (byteAt s (at + 2))))
-  (cond (eqb (byteAt s at) 3)
-    (cond (ltb (length s - at) 5) (Faulty 1)
-    (actionRecord (given (byteAt s (at + 1))) (full (byteAt s (at + 1)))
-      (byteAt s (at + 1)) (byteAt s (at + 2)) (twoBytes (byteAt s (at + 3)) (byteAt s (at + 4)))))
-  (cond (eqb (byteAt s at) 4) EndRecord
-  (Faulty 2))))
+    cond (eqb (byteAt s at) 1) (complete s at 5 (placeAt used s at))
+    (cond (eqb (byteAt s at) 2) (complete s at 3 (agentAt used given s at))
+    (cond (eqb (byteAt s at) 3) (complete s at 5 (actionAt given full s at))
+    (cond (eqb (byteAt s at) 4) EndRecord (Faulty 2))))
 
 -- ---- what a record adds
 
 -- a new place, linked to its parent
 unfoldable pub addPlace : State → ℕ → ℕ → ℕ → State
 addPlace c number parent name = withLand c (withUsed
-  (withPlaces (c .land) (upd (c .land .place) number (linkedPlace name parent)))
-  (λ j. eqb j number || c .land .used j))
+    (withPlaces (c .land) (upd (c .land .place) number (linkedPlace name parent)))
+    (λ j. eqb j number || c .land .used j))
 
 -- a new agent: "an agent loaded without actions is at 8"
 unfoldable pub addAgent : State → ℕ → ℕ → State
@@ -88,7 +94,7 @@ addAgent c number home = withGiven (withAgent c number (withHome (c .agent numbe
 -- "put after that agent's earlier ones"; "one loaded with some at 0"
 unfoldable pub withAction : Agent → ℕ → ℕ → Agent
 withAction a kind name =
-  withStage (withCount (withActions a (set (a .actions) (a .count) (record { kind = kind; name = name }))) (a .count + 1)) 0
+    withStage (withCount (withActions a (set (a .actions) (a .count) (record { kind = kind; name = name }))) (a .count + 1)) 0
 
 unfoldable pub addAction : State → ℕ → ℕ → ℕ → State
 unfolding withAction
@@ -120,7 +126,7 @@ unfoldable pub loadFrom : ℕ → State → List ℕ → ℕ → Load
 unfolding loadRecord recordAt
 loadFrom zero c s at = refused 1 (length s)
 loadFrom (suc turns) c s at =
-  cond (ltb at (length s))
+    cond (ltb at (length s))
     (loadRecord (λ d next. loadFrom turns d s next) c s at (recordAt (c .land .used) (c .given) (isFull c) s at))
     (refused 1 (length s))
 

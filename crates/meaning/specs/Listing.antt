@@ -5,7 +5,7 @@ use mathlib.Core.List.{List, [], _++_}
 use lib.Dec.{ltb, leb, eqb}
 use lib.ListN.{length, getD}
 use Rattle.table.specs.Base.{tab, foldUp}
-use Rattle.table.specs.Cell.{State, noAction}
+use Rattle.table.specs.Cell.{Land, State, noAction}
 use Rattle.table.specs.Sound.{sound}
 use Rattle.table.specs.declared.Action.{Action}
 use Rattle.table.specs.declared.Agent.{Agent}
@@ -61,14 +61,15 @@ unfoldable pub bracketed : ℕ → List ℕ → List ℕ
 unfolding tab
 bracketed name contents = ((decimal name ++ ascii "[") ++ contents) ++ ascii "]"
 
+-- one place more, after a bar
+abbrev pub placeTurn : Land → ℕ → (ℕ → List ℕ) → ℕ → List ℕ → List ℕ
+placeTurn l p text q s = cond (standsUnder (l .used q) q (l .place q .parent) p) (joined (ascii " | ") s (bracketed (l .place q .name) (text q))) s
+
 -- "Contents are the agents with unused actions by number, then places by number, joined by ` | `", so many levels deep
 unfoldable pub contentsText : ℕ → State → ℕ → List ℕ
 unfolding agentsText standsUnder bracketed gap tab
 contentsText zero c p = []
-contentsText (suc depth) c p =
-  foldUp (λ q s. cond (standsUnder (c .land .used q) q (c .land .place q .parent) p)
-      (joined (ascii " | ") s (bracketed (c .land .place q .name) (contentsText depth c q))) s)
-    64 (agentsText c p)
+contentsText (suc depth) c p = foldUp (placeTurn (c .land) p (contentsText depth c)) 64 (agentsText c p)
 
 -- "a place writes its contents"
 unfoldable pub placeText : ℕ → State → ℕ → List ℕ
@@ -86,10 +87,10 @@ listing c = cond (eqb (length (contentsText 65 c 0)) 0) (ascii "0") (contentsTex
 unfoldable pub listAnswer : State → List ℕ → Listed
 unfolding listing sound
 listAnswer c buffer =
-  cond (sound c) (cond (leb (length (listing c)) (length buffer)) (Length (length (listing c))) (Unlisted 12)) (Unlisted 10)
+    cond (sound c) (cond (leb (length (listing c)) (length buffer)) (Length (length (listing c))) (Unlisted 12)) (Unlisted 10)
 
 -- "bytes past the listing stay untouched", and a refusal leaves the whole buffer
 unfoldable pub listBuffer : State → List ℕ → List ℕ
 unfolding listing overlay sound
 listBuffer c buffer =
-  cond (sound c) (cond (leb (length (listing c)) (length buffer)) (overlay (listing c) buffer) buffer) buffer
+    cond (sound c) (cond (leb (length (listing c)) (length buffer)) (overlay (listing c) buffer) buffer) buffer

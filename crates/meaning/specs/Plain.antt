@@ -25,12 +25,13 @@ pub record Plain : Type 0 where
 -- the tree of a cell: "the same place numbers are in use, with the same names and parents (the destination for a place on its way), and
 -- each agent has the same home and the same unused actions in order"; what is not in use reads as 0 and without actions
 unfoldable pub treeOf : State → Tree
-treeOf c = record
-  { used = c .land .used
-  ; name = λ q. cond (c .land .used q) (c .land .place q .name) 0
-  ; parent = λ q. cond (c .land .used q) (c .land .place q .parent) 0
-  ; home = λ x. cond (c .given x) (c .agent x .home) 0
-  ; unused = λ x. cond (c .given x) (unused (c .agent x)) [] }
+treeOf c = record {
+  used = c .land .used;
+  name = λ q. cond (c .land .used q) (c .land .place q .name) 0;
+  parent = λ q. cond (c .land .used q) (c .land .place q .parent) 0;
+  home = λ x. cond (c .given x) (c .agent x .home) 0;
+  unused = λ x. cond (c .given x) (unused (c .agent x)) [];
+}
 
 -- "It starts as the file says, with nothing travelling and no picks": c is the cell that the file gives
 unfoldable pub plainOf : State → Plain
@@ -41,9 +42,10 @@ plainOf c = record { tree = treeOf c; travels = λ q. false; pick = λ x. none }
 
 -- the plain tree as stage 2 reads places: "a travelling place is on its way to where it stands, any other is linked there"
 unfoldable pub landIn : Plain → Land
-landIn t = record
-  { place = λ q. record { name = t .tree .name q; parent = t .tree .parent q; way = cond (eqb q 0 || t .travels q) 1 0 }
-  ; used = t .tree .used }
+landIn t = record {
+  place = λ q. record { name = t .tree .name q; parent = t .tree .parent q; way = cond (eqb q 0 || t .travels q) 1 0 };
+  used = t .tree .used;
+}
 
 -- "There p is where its own place stands (open: its own place)"
 abbrev pub heldIn : Tree → ℕ → ℕ
@@ -53,8 +55,8 @@ heldIn t a = cond (eqb (nextOf t a .kind) 3) (t .home a) (t .parent (t .home a))
 unfoldable pub pickOf : Plain → ℕ → ℕ → ℕ
 unfolding landIn
 pickOf t a wish =
-  cond (eqb (nextOf (t .tree) a .kind) 2) none
-  (choose (landIn t) (nextOf (t .tree) a .kind) (nextOf (t .tree) a .name) (t .tree .home a) (heldIn (t .tree) a) wish)
+    cond (eqb (nextOf (t .tree) a .kind) 2) none
+    (choose (landIn t) (nextOf (t .tree) a .kind) (nextOf (t .tree) a .name) (t .tree .home a) (heldIn (t .tree) a) wish)
 
 -- ---- one call
 
@@ -111,6 +113,6 @@ saysMove (Refused number) = false
 pub data History : Tree → List Call → List Answer → Tree → Type 0 where
   start : {t : Tree} → History t [] [] t
   moved : {t u v : Tree} {k : Call} {calls : List Call} {a : Answer} {answers : List Answer}
-    → saysMove a ≡ true → Move t (k .agent) u → History u calls answers v → History t (k ∷ calls) (a ∷ answers) v
+      → saysMove a ≡ true → Move t (k .agent) u → History u calls answers v → History t (k ∷ calls) (a ∷ answers) v
   stayed : {t v : Tree} {k : Call} {calls : List Call} {a : Answer} {answers : List Answer}
-    → saysMove a ≡ false → History t calls answers v → History t (k ∷ calls) (a ∷ answers) v
+      → saysMove a ≡ false → History t calls answers v → History t (k ∷ calls) (a ∷ answers) v

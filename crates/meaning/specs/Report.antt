@@ -59,7 +59,7 @@ unfoldable pub reportRun : Cell → List Call → List ℕ
 unfolding tab
 reportRun t [] = listingLine (ascii "end") (cellOf t)
 reportRun t (k ∷ calls) =
-  stepLine (k .agent) (stepOf t (k .agent) (k .wish) .answer) ++ reportRun (stepOf t (k .agent) (k .wish) .cell) calls
+    stepLine (k .agent) (stepOf t (k .agent) (k .wish) .answer) ++ reportRun (stepOf t (k .agent) (k .wish) .cell) calls
 
 -- the report of a load and the order's calls
 unfoldable pub reportOf : Load → List Call → List ℕ

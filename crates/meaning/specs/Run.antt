@@ -32,7 +32,7 @@ turnedAway t number = record { cell = t; answer = Refused number }
 -- the step call on a table: "Calls on a table test 10 first, then 11"
 unfoldable pub stepOf : Cell → ℕ → ℕ → Stepped
 stepOf t agent wish =
-  cond (sound (cellOf t))
+    cond (sound (cellOf t))
     (cond (cellOf t .given agent) (made (step (cellOf t) agent wish)) (turnedAway t 11))
     (turnedAway t 10)
 

@@ -46,9 +46,9 @@ opensAt l n p q = linkedTo l q p && (named l q n && not (awaited l q))
 -- the action (kind, n) of an agent that lives in home and holds p fires on q; exit fires on p itself
 unfoldable pub qualifies : Land → ℕ → ℕ → ℕ → ℕ → ℕ → Bool
 qualifies l kind n home p q =
-  cond (eqb kind 1) (entersAt l n home p q)
-  (cond (eqb kind 2) (eqb q p && exitsFrom l n p)
-  (opensAt l n p q))
+    cond (eqb kind 1) (entersAt l n home p q)
+    (cond (eqb kind 2) (eqb q p && exitsFrom l n p)
+    (opensAt l n p q))
 
 -- "Enter and open choose the wished place if it qualifies, else the lowest qualifying number. Other wishes are passed over";
 -- 64 where the action can't fire
@@ -116,9 +116,9 @@ wokenOn c p q r = countOf 64 (sleeper c p q r)
 -- slept, stage 7 on its own place."
 unfoldable pub look : State → ℕ → Agent → Outcome
 look c x a =
-  cond (eqb (kindOf a) 3) (turn c x (atStage a 1 (a .home) 0) Looked)
-  (cond (linked (c .land) (a .home)) (turn c x (atStage a 1 (c .land .place (a .home) .parent) 0) Looked)
-  (turn c x (atStage a 7 (a .home) 0) Slept))
+    cond (eqb (kindOf a) 3) (turn c x (atStage a 1 (a .home) 0) Looked)
+    (cond (linked (c .land) (a .home)) (turn c x (atStage a 1 (c .land .place (a .home) .parent) 0) Looked)
+    (turn c x (atStage a 7 (a .home) 0) Slept))
 
 -- ---- stage 1, found
 
@@ -131,14 +131,14 @@ lockFirst c x a = take c x (a .remembered) (atStage a 2 (a .remembered) 0)
 -- "If the action can't fire: release, slept, stage 7 on p. Otherwise lock the second place: took, stage 3, or held"; q is the choice
 unfoldable pub lockSecond : State → ℕ → Agent → ℕ → Outcome
 lockSecond c x a q =
-  cond (ltb q 64)
+    cond (ltb q 64)
     (take c x (secondPlace (kindOf a) (a .home) q) (atStage a 3 (a .remembered) (cond (eqb (kindOf a) 2) 0 q)))
     (release c x (a .remembered) (a .remembered) (atStage a 7 (a .remembered) 0) Slept)
 
 -- "Enter or exit, and its place is no longer linked to p: release, back, stage 0."
 unfoldable pub hold : State → ℕ → Agent → ℕ → Outcome
 hold c x a wish =
-  cond (stays (c .land) a)
+    cond (stays (c .land) a)
     (lockSecond c x a (choice (c .land) a wish))
     (release c x (a .remembered) (a .remembered) (atStage a 0 0 0) Back)
 
@@ -155,25 +155,26 @@ sendTo l h d = withPlaces l (upd (l .place) h (withWay (withParent (l .place h) 
 -- "Enter or exit: unlink its place; the destination is the chosen place, or p's parent as it is now; the action is used up;
 -- release both; wake all asleep on p or its own place; left, stage 4."
 unfoldable pub leave : State → ℕ → Agent → ℕ → Outcome
-leave c x a d = record
-  { cell = withLand (withLocks (withAgents c (upd (wake c (a .remembered) (a .home) (a .home)) x (atStage (useUp a) 4 0 0)))
-      (released (c .lock) (a .remembered) (a .home))) (sendTo (c .land) (a .home) d)
-  ; word = Left
-  ; woken = wokenOn c (a .remembered) (a .home) (a .home) }
+leave c x a d = record {
+  cell = withLand (withLocks (withAgents c (upd (wake c (a .remembered) (a .home) (a .home)) x (atStage (useUp a) 4 0 0)))
+      (released (c .lock) (a .remembered) (a .home))) (sendTo (c .land) (a .home) d);
+  word = Left;
+  woken = wokenOn c (a .remembered) (a .home) (a .home);
+}
 
 -- "children of the chosen place go to p, its number becomes unused": place t is dissolved into p
 abbrev pub dissolveLand : Land → ℕ → ℕ → Land
 dissolveLand l p t = withUsed
-  (withPlaces l (λ q. cond (eqb q t) noPlace (cond (eqb (l .place q .parent) t) (withParent (l .place q) p) (l .place q))))
-  (λ q. not (eqb q t) && l .used q)
+    (withPlaces l (λ q. cond (eqb q t) noPlace (cond (eqb (l .place q .parent) t) (withParent (l .place q) p) (l .place q))))
+    (λ q. not (eqb q t) && l .used q)
 
 -- "agents of the chosen place go to p, the moved agents that aren't done go to stage 0"; "wake all asleep on p or on it, and set to
 -- stage 0 all that remembered it at stage 1"
 unfoldable pub dissolveAgent : ℕ → ℕ → Agent → Agent
 dissolveAgent p t a =
-  cond (eqb (a .home) t) (withHome (atStage a (cond (eqb (a .stage) 8) 8 0) 0 0) p)
-  (cond (eqb (a .stage) 1 && eqb (a .remembered) t) (atStage a 0 0 0)
-  (cond (asleepOn p t t a) (atStage a 0 0 0) a))
+    cond (eqb (a .home) t) (withHome (atStage a (cond (eqb (a .stage) 8) 8 0) 0 0) p)
+    (cond (eqb (a .stage) 1 && eqb (a .remembered) t) (atStage a 0 0 0)
+    (cond (asleepOn p t t a) (atStage a 0 0 0) a))
 
 -- "The count of woken agents is of those that were at stage 7": a moved agent that slept is woken too
 unfoldable pub wokenBy : ℕ → ℕ → Agent → Bool
@@ -182,16 +183,17 @@ wokenBy p t a = eqb (a .stage) 7 && (eqb (a .home) t || (eqb (a .remembered) p |
 -- "a lock that one of them held at stage 2 being released"
 unfoldable pub dissolveLock : State → ℕ → ℕ → ℕ
 dissolveLock c t q =
-  cond (ltb (c .lock q) 64 && (eqb (c .agent (c .lock q) .home) t && eqb (c .agent (c .lock q) .stage) 2)) none (c .lock q)
+    cond (ltb (c .lock q) 64 && (eqb (c .agent (c .lock q) .home) t && eqb (c .agent (c .lock q) .stage) 2)) none (c .lock q)
 
 -- "Open: children and agents of the chosen place go to p, .. the action is used up; release both; opened."
 unfoldable pub dissolve : State → ℕ → Agent → ℕ → ℕ → Outcome
-dissolve c x a p t = record
-  { cell = withLand (withLocks (withAgents c
+dissolve c x a p t = record {
+  cell = withLand (withLocks (withAgents c
       (upd (λ y. cond (c .given y) (dissolveAgent p t (c .agent y)) (c .agent y)) x (atStage (useUp a) (restStage (useUp a)) 0 0)))
-      (released (dissolveLock c t) p t)) (dissolveLand (c .land) p t)
-  ; word = Opened
-  ; woken = countOf 64 (λ y. c .given y && wokenBy p t (c .agent y)) }
+      (released (dissolveLock c t) p t)) (dissolveLand (c .land) p t);
+  word = Opened;
+  woken = countOf 64 (λ y. c .given y && wokenBy p t (c .agent y));
+}
 
 -- enter goes to the chosen place, exit to "p's parent as it is now"
 abbrev pub destinationOf : Land → Agent → ℕ
@@ -200,7 +202,7 @@ destinationOf l a = cond (eqb (kindOf a) 1) (a .chosen) (l .place (a .remembered
 -- "If the action (on the chosen place) no longer fires: release both, back, stage 0."
 unfoldable pub act : State → ℕ → Agent → Outcome
 act c x a =
-  cond (fires (c .land) a)
+    cond (fires (c .land) a)
     (cond (eqb (kindOf a) 3) (dissolve c x a (a .remembered) (a .chosen)) (leave c x a (destinationOf (c .land) a)))
     (release c x (a .remembered) (secondPlace (kindOf a) (a .home) (a .chosen)) (atStage a 0 0 0) Back)
 
@@ -216,31 +218,32 @@ beyond l d = cond (linked l d) (l .place d .parent) d
 
 -- "6. Link; release both; wake all asleep on its own place, the destination, or the place that the destination is linked to, if any; came."
 unfoldable pub arrive : State → ℕ → Agent → ℕ → Outcome
-arrive c x a d = record
-  { cell = withLand (withLocks (withAgents c (upd (wake c (a .home) d (beyond (c .land) d)) x (atStage a (restStage a) 0 0)))
-      (released (c .lock) (a .home) d)) (linkUp (c .land) (a .home))
-  ; word = Came
-  ; woken = wokenOn c (a .home) d (beyond (c .land) d) }
+arrive c x a d = record {
+  cell = withLand (withLocks (withAgents c (upd (wake c (a .home) d (beyond (c .land) d)) x (atStage a (restStage a) 0 0)))
+      (released (c .lock) (a .home) d)) (linkUp (c .land) (a .home));
+  word = Came;
+  woken = wokenOn c (a .home) d (beyond (c .land) d);
+}
 
 -- "4 on its way. Lock its own place: took, stage 5, or held. 5. Lock the destination: took, stage 6, or held."
 unfoldable pub travel : State → ℕ → Agent → Outcome
 travel c x a =
-  cond (eqb (a .stage) 4) (take c x (a .home) (atStage a 5 0 0))
-  (cond (eqb (a .stage) 5) (take c x (c .land .place (a .home) .parent) (atStage a 6 0 0))
-  (arrive c x a (c .land .place (a .home) .parent)))
+    cond (eqb (a .stage) 4) (take c x (a .home) (atStage a 5 0 0))
+    (cond (eqb (a .stage) 5) (take c x (c .land .place (a .home) .parent) (atStage a 6 0 0))
+    (arrive c x a (c .land .place (a .home) .parent)))
 
 -- ---- the step
 
 -- "The agent's stage, a number from 0 to 8, decides the step": agent x, which is a, with its stage and wish
 unfoldable pub stepAt : ℕ → State → ℕ → Agent → ℕ → Outcome
 stepAt stage c x a wish =
-  cond (eqb stage 0) (look c x a)
-  (cond (eqb stage 1) (lockFirst c x a)
-  (cond (eqb stage 2) (hold c x a wish)
-  (cond (eqb stage 3) (act c x a)
-  (cond (leb stage 6) (travel c x a)
-  (cond (eqb stage 7) (still c Asleep)
-  (still c Done))))))
+    cond (eqb stage 0) (look c x a)
+    (cond (eqb stage 1) (lockFirst c x a)
+    (cond (eqb stage 2) (hold c x a wish)
+    (cond (eqb stage 3) (act c x a)
+    (cond (leb stage 6) (travel c x a)
+    (cond (eqb stage 7) (still c Asleep)
+    (still c Done))))))
 
 -- one step of agent x
 unfoldable pub step : State → ℕ → ℕ → Outcome

@@ -1,11 +1,11 @@
 -- The step that opens a place: the sweep over the agents, and the table after it. Assumes nothing.
 -- Idea: before turn j the agents below j are as after the opening, the others as they were, and the sets have their members below j.
-use mathlib.Core.Path.{_≡_, refl, sym, ap, ap₂, _∙_}
-use mathlib.Core.Bool.{Bool, true, false, not, _&&_, cond}
+use mathlib.Core.Path.{_≡_, refl, ap, ap₂, _∙_}
+use mathlib.Core.Bool.{Bool, _&&_, cond}
 use mathlib.Core.List.{List}
 use Prim.Native.Nat.{ℕ, _+_, _≤_, _<_, zero-le}
 use native.Mathlib.Omega.{arith}
-use lib.Dec.{eqb, ltb}
+use lib.Dec.{eqb}
 use lib.ListN.{getD, set}
 use Rattle.sets.specs.Word.{countOf, upto}
 use Rattle.sets.specs.WordLaws.{count-ext}
@@ -14,7 +14,7 @@ use Rattle.sets.specs.SetLaws.{emptySet, member-set, collect-none, collect-more
 use Rattle.sets.specs.declared.Set.{Set}
 use Rattle.table.specs.Base.{tab, upd}
 use Rattle.table.specs.BaseLaws.{set-tab, tab-ext, getD-tab}
-use Rattle.table.specs.SweepLaws.{below, sweep-start, sweep-at, sweep-hit, sweep-miss, sweep-end}
+use Rattle.table.specs.SweepLaws.{below, sweep-start, sweep-at, sweep-hit, sweep-end}
 use Rattle.table.specs.Cell.{none, noPlace, noAgent, cellOf}
 use Rattle.table.specs.Bounds.{Sized}
 use Rattle.table.specs.CellLaws.{agents-are, given-are}
@@ -24,12 +24,11 @@ use Rattle.table.specs.declared.Agent.{Agent}
 use Rattle.table.specs.declared.Cell.{Cell}
 use Rattle.meaning.specs.declared.Word.the-variants.{Opened}
 use Rattle.meaning.specs.declared.Answer.the-variants.{Did}
-use Rattle.meaning.specs.declared.Stepped.{Stepped}
 use Rattle.meaning.specs.Update.{atStage, useUp, released}
 use Rattle.meaning.specs.Step.{wokenBy, dissolveAgent, dissolveLock, dissolve, restStage}
 use Rattle.meaning.specs.Run.{made}
 use Rattle.updates.specs.GatherLaws.{member-upto}
-use Rattle.updates.specs.UpdateLaws.{did, store-tab}
+use Rattle.updates.specs.UpdateLaws.{did}
 use Rattle.moves.specs.Motions.{adopted}
 
 -- t: the table before; place o is opened into p

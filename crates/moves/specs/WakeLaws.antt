@@ -1,13 +1,13 @@
 -- The step in which a place moves: the walk that wakes the sleepers, and the table after it. Assumes nothing.
 -- Idea: an agent that is not given is left alone, so the walk over the given ones is a sweep over all that skips some turns.
-use mathlib.Core.Path.{_≡_, refl, sym, ap, ap₂, _∙_}
+use mathlib.Core.Path.{_≡_, refl, sym, ap, _∙_}
 use mathlib.Core.Bool.{Bool, true, false, _&&_, cond}
 use mathlib.Core.List.{List}
-use Prim.Native.Nat.{ℕ, _+_, _≤_, _<_}
+use Prim.Native.Nat.{ℕ, _<_}
 use lib.ListN.{getD, set}
 use Rattle.sets.specs.Word.{countOf}
 use Rattle.sets.specs.WordLaws.{count-ext}
-use Rattle.sets.specs.Set.{member, setOf, insertedIf, removed}
+use Rattle.sets.specs.Set.{member, insertedIf, removed}
 use Rattle.sets.specs.SetLaws.{emptySet, member-set}
 use Rattle.sets.specs.WalkLaws.{rest-end, rest-lt, rest-member, rest-from, rest-skip, lowestIn}
 use Rattle.sets.specs.declared.Set.{Set}
@@ -23,9 +23,8 @@ use Rattle.table.specs.declared.Agent.{Agent}
 use Rattle.table.specs.declared.Cell.{Cell}
 use Rattle.meaning.specs.declared.Word.{Word}
 use Rattle.meaning.specs.declared.Answer.the-variants.{Did}
-use Rattle.meaning.specs.declared.Stepped.{Stepped}
 use Rattle.meaning.specs.Update.{atStage, released}
-use Rattle.meaning.specs.Step.{asleepOn, sleeper, wake}
+use Rattle.meaning.specs.Step.{asleepOn, wake}
 use Rattle.meaning.specs.Run.{made}
 use Rattle.updates.specs.GatherLaws.{Gathered, gathered-start, gathered-more, gathered-end}
 use Rattle.updates.specs.UpdateLaws.{did}

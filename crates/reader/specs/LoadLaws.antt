@@ -15,7 +15,7 @@ use Rattle.sets.specs.SetLaws.{set-eq, member-set, set-ext}
 use Rattle.sets.specs.declared.Set.{Set}
 use Rattle.table.specs.Base.{upd, tab}
 use Rattle.table.specs.BaseLaws.{eq?, upd-at, upd-other, getD-tab, set-tab}
-use Rattle.table.specs.Cell.{Land, State, none, noPlace, noAgent, bareTable, cellOf, tableOf}
+use Rattle.table.specs.Cell.{State, noPlace, noAgent, bareTable, cellOf, tableOf}
 use Rattle.table.specs.Bounds.{Sized}
 use Rattle.table.specs.CellLaws.{table-eq, back}
 use Rattle.table.specs.declared.Place.{Place}
@@ -25,8 +25,8 @@ use Rattle.meaning.specs.declared.Record.{Record}
 use Rattle.meaning.specs.declared.Record.the-variants.{PlaceRecord, AgentRecord, ActionRecord, EndRecord, Faulty}
 use Rattle.meaning.specs.declared.Verdict.the-variants.{Accepted, Rejected}
 use Rattle.meaning.specs.Update.{linkedPlace, withHome}
-use Rattle.meaning.specs.File.{recordAt, addPlace, withAction, addAgent, addAction, isFull, Load, accepted, refused, loadRecord, loadFrom, load, loaded, loadOf}
-use Rattle.meaning.specs.FileLaws.{Fits, place, agent, action, end, faulty, record-fits, record-same}
+use Rattle.meaning.specs.File.{recordAt, addPlace, withAction, addAgent, addAction, isFull, accepted, refused, loadRecord, loadFrom, load, loaded, loadOf}
+use Rattle.meaning.specs.FileLaws.{Fits, place, agent, action, end, record-fits, record-same}
 
 -- ---- the load from an offset on
 
@@ -51,11 +51,14 @@ none-full = refl
 -- the loop starts with the bare floor and the whole file
 pub rest-all : (s : List ℕ) (d : Cell) (full : Set) → d ≡ bareTable → full .bits ≡ 0 → Rest s 0 d full
 unfolding load
-rest-all s d full e f = record
-  { cell = cellOf bareTable; turns = suc (length s)
-  ; is = e ∙ sym (back bareTable sized-bare)
-  ; filled = set-eq (f ∙ none-full)
-  ; enough = omega arith; rest = refl }
+rest-all s d full e f = record {
+  cell = cellOf bareTable;
+  turns = suc (length s);
+  is = e ∙ sym (back bareTable sized-bare);
+  filled = set-eq (f ∙ none-full);
+  enough = omega arith;
+  rest = refl;
+}
 
 module _ (s : List ℕ) (at : ℕ) (d : Cell) (full : Set) (r : Rest s at d full) where
   abbrev c : State
@@ -151,14 +154,15 @@ module _ (s : List ℕ) (at : ℕ) (d : Cell) (full : Set) (r : Rest s at d full
     rest-place n p m i u q e f = go (fits q)
       where
         go : Fits (member (d .used)) (member (d .given)) (member full) (PlaceRecord n p m) → Rest s (at + 5) (newPlace p m i u) full
-        go (place one l under new known named) = record
-          { cell = addPlace c n p m
-          ; turns = more .0
-          ; is = table-eq (place-put n i l e _) (ap (λ (t : Cell). t .locks) (r .is)) (ap (λ (t : Cell). t .agents) (r .is))
-              (one-more (c .land .used) (d .used) u n used-at f) (ap (λ (t : Cell). t .given .bits) (r .is))
-          ; filled = r .filled
-          ; enough = omega (arith, r .enough, more .1)
-          ; rest = turn-is (PlaceRecord n p m) q }
+        go (place one l under new known named) = record {
+          cell = addPlace c n p m;
+          turns = more .0;
+          is = table-eq (place-put n i l e _) (ap (λ (t : Cell). t .locks) (r .is)) (ap (λ (t : Cell). t .agents) (r .is))
+              (one-more (c .land .used) (d .used) u n used-at f) (ap (λ (t : Cell). t .given .bits) (r .is));
+          filled = r .filled;
+          enough = omega (arith, r .enough, more .1);
+          rest = turn-is (PlaceRecord n p m) q;
+        }
 
     -- ---- an agent record
 
@@ -175,20 +179,21 @@ module _ (s : List ℕ) (at : ℕ) (d : Cell) (full : Set) (r : Rest s at d full
     newAgent i a u = record { places = d .places; locks = d .locks; agents = set (d .agents) i a; used = d .used; given = u }
 
     pub rest-agent : (n h i : ℕ) (a : Agent) (u : Set) → Reads (AgentRecord n h) → i ≡ n % 64 → a ≡ withHome (getD (d .agents) i noAgent) h
-      → u ≡ inserted (d .given) n → Rest s (at + 3) (newAgent i a u) full
+        → u ≡ inserted (d .given) n → Rest s (at + 3) (newAgent i a u) full
     unfolding tableOf addAgent loadRecord
     rest-agent n h i a u q e b f = go (fits q)
       where
         go : Fits (member (d .used)) (member (d .given)) (member full) (AgentRecord n h) → Rest s (at + 3) (newAgent i a u) full
-        go (agent l under new known) = record
-          { cell = addAgent c n h
-          ; turns = more .0
-          ; is = table-eq (ap (λ (t : Cell). t .places) (r .is)) (ap (λ (t : Cell). t .locks) (r .is))
+        go (agent l under new known) = record {
+          cell = addAgent c n h;
+          turns = more .0;
+          is = table-eq (ap (λ (t : Cell). t .places) (r .is)) (ap (λ (t : Cell). t .locks) (r .is))
               (ap (set (d .agents) i) (b ∙ ap (λ (x : Agent). withHome x h) (agent-at n i l e)) ∙ agent-put n i l e (withHome (c .agent n) h))
-              (ap (λ (t : Cell). t .used .bits) (r .is)) (one-more (c .given) (d .given) u n given-at f)
-          ; filled = r .filled ∙ set-ext _ _ (λ j k. home-full n h j)
-          ; enough = omega (arith, r .enough, more .1)
-          ; rest = turn-is (AgentRecord n h) q }
+              (ap (λ (t : Cell). t .used .bits) (r .is)) (one-more (c .given) (d .given) u n given-at f);
+          filled = r .filled ∙ set-ext _ _ (λ j k. home-full n h j);
+          enough = omega (arith, r .enough, more .1);
+          rest = turn-is (AgentRecord n h) q;
+        }
 
     -- ---- an action record
 
@@ -226,17 +231,18 @@ module _ (s : List ℕ) (at : ℕ) (d : Cell) (full : Set) (r : Rest s at d full
           go j (inr t) = sym (full-else j t)
 
       pub rest-action : (a : Agent) (f : Set) → a ≡ withAction (getD (d .agents) i noAgent) k m → f ≡ insertedIf full n (ltb 15 (a .count))
-        → Rest s (at + 5) (newAgent i a (d .given)) f
+          → Rest s (at + 5) (newAgent i a (d .given)) f
       unfolding tableOf addAction loadRecord withAction
-      rest-action a f b h = record
-        { cell = addAction c n k m
-        ; turns = more .0
-        ; is = table-eq (ap (λ (t : Cell). t .places) (r .is)) (ap (λ (t : Cell). t .locks) (r .is))
+      rest-action a f b h = record {
+        cell = addAction c n k m;
+        turns = more .0;
+        is = table-eq (ap (λ (t : Cell). t .places) (r .is)) (ap (λ (t : Cell). t .locks) (r .is))
             (ap (set (d .agents) i) new ∙ agent-put n i l e (withAction (c .agent n) k m))
-            (ap (λ (t : Cell). t .used .bits) (r .is)) (ap (λ (t : Cell). t .given .bits) (r .is))
-        ; filled = h ∙ filled-now (ltb 15 (a .count)) (ap (λ (x : Agent). ltb 15 (x .count)) new)
-        ; enough = omega (arith, r .enough, more .1)
-        ; rest = turn-is (ActionRecord n k m) q }
+            (ap (λ (t : Cell). t .used .bits) (r .is)) (ap (λ (t : Cell). t .given .bits) (r .is));
+        filled = h ∙ filled-now (ltb 15 (a .count)) (ap (λ (x : Agent). ltb 15 (x .count)) new);
+        enough = omega (arith, r .enough, more .1);
+        rest = turn-is (ActionRecord n k m) q;
+      }
         where
           new : a ≡ withAction (c .agent n) k m
           new = b ∙ ap (λ (x : Agent). withAction x k m) (agent-at n i l e)

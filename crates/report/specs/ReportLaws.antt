@@ -43,4 +43,4 @@ module _ (t : Cell) (z : Loaded) (file order : List ℕ) (e : z ≡ loadOf t fil
       go : (l : Load) → z ≡ loaded t l → refusedLine n o ≡ reportOf l (callsIn 16384 order)
       go (accepted c) q = unfold loaded isAccepted in clash refl (sym (ap (λ (y : Loaded). isAccepted (y .verdict)) q) ∙ ap isAccepted v)
       go (refused m p) q = unfold loaded reportOf numberOf offsetOf in
-        ap₂ refusedLine (sym (ap numberOf v) ∙ ap (λ (y : Loaded). numberOf (y .verdict)) q) (sym (ap offsetOf v) ∙ ap (λ (y : Loaded). offsetOf (y .verdict)) q)
+          ap₂ refusedLine (sym (ap numberOf v) ∙ ap (λ (y : Loaded). numberOf (y .verdict)) q) (sym (ap offsetOf v) ∙ ap (λ (y : Loaded). offsetOf (y .verdict)) q)

@@ -1,6 +1,6 @@
 -- One turn of walk's loop: the text so far, with what is left of the report, is the whole report.
 -- A pair of the order is one call more; where no pair is left, or the limit is reached, the last line is left.
-use mathlib.Core.Path.{_≡_, refl, sym, ap, ap₂, _∙_, subst}
+use mathlib.Core.Path.{_≡_, refl, sym, ap, ap₂, _∙_}
 use mathlib.Core.Logic.{_⊎_, inl, inr}
 use mathlib.Core.List.{List, [], _∷_, _++_, append-assoc}
 use Prim.Native.Nat.{ℕ, zero, suc, _+_, _*_, _-_, _/_, _≤_, _<_}
@@ -40,14 +40,14 @@ callsFrom order i = callsIn (16384 - i) (drop (2 * i) order)
 
 -- while a pair is left, it is the next call
 pub calls-more : (order : List ℕ) (i : ℕ) → i < 16384 → 2 * i + 1 < length order
-  → callsFrom order i ≡ record { agent = getD order (2 * i) 0; wish = getD order (2 * i + 1) 0 } ∷ callsFrom order (i + 1)
+    → callsFrom order i ≡ record { agent = getD order (2 * i) 0; wish = getD order (2 * i + 1) 0 } ∷ callsFrom order (i + 1)
 unfolding callsIn
 calls-more order i l m =
-  let next : 16384 - i ≡ suc (16384 - (i + 1)) = omega arith in
-  let place : 2 * (i + 1) ≡ suc (suc (2 * i)) = omega arith in
-  let one : suc (2 * i) ≡ 2 * i + 1 = omega arith in
-  ap₂ callsIn next (two-more (2 * i) order (omega arith))
-  ∙ ap₂ (λ (j k : ℕ). record { agent = getD order (2 * i) 0; wish = getD order j 0 } ∷ callsIn (16384 - (i + 1)) (drop k order)) one (sym place)
+    let next : 16384 - i ≡ suc (16384 - (i + 1)) = omega arith in
+    let place : 2 * (i + 1) ≡ suc (suc (2 * i)) = omega arith in
+    let one : suc (2 * i) ≡ 2 * i + 1 = omega arith in
+    ap₂ callsIn next (two-more (2 * i) order (omega arith))
+    ∙ ap₂ (λ (j k : ℕ). record { agent = getD order (2 * i) 0; wish = getD order j 0 } ∷ callsIn (16384 - (i + 1)) (drop k order)) one (sym place)
 
 -- then there is none
 pub calls-none : (order : List ℕ) (i : ℕ) → (16384 ≤ i) ⊎ (length order ≤ 2 * i + 1) → callsFrom order i ≡ []
@@ -79,19 +79,20 @@ pub record Left (whole order before after : List ℕ) (d : Cell) (i at : ℕ) : 
 
 -- one call more: z is what the step answered
 pub left-more : {whole order before after : List ℕ} {d : Cell} {i at : ℕ} → (l : Left whole order before after d i at) → i < 16384 → 2 * i + 1 < length order
-  → (z : Stepped) → z ≡ stepOf d (getD order (2 * i) 0) (getD order (2 * i + 1) 0)
-  → {last : List ℕ} {to : ℕ} → Wrote (l .text ++ stepLine (getD order (2 * i) 0) (z .answer)) before last to → Left whole order before last (z .cell) (i + 1) to
+    → (z : Stepped) → z ≡ stepOf d (getD order (2 * i) 0) (getD order (2 * i + 1) 0)
+    → {last : List ℕ} {to : ℕ} → Wrote (l .text ++ stepLine (getD order (2 * i) 0) (z .answer)) before last to → Left whole order before last (z .cell) (i + 1) to
 unfolding reportRun
-left-more {whole} {order} {before} {after} {d} {i} {at} l low room z e {last} {to} w = record
-  { text = l .text ++ stepLine (getD order (2 * i) 0) (z .answer)
-  ; wrote = w
-  ; rest = append-assoc (l .text) _ _
+left-more {whole} {order} {before} {after} {d} {i} {at} l low room z e {last} {to} w = record {
+  text = l .text ++ stepLine (getD order (2 * i) 0) (z .answer);
+  wrote = w;
+  rest = append-assoc (l .text) _ _
       ∙ ap (λ (y : Stepped). l .text ++ (stepLine (getD order (2 * i) 0) (y .answer) ++ reportRun (y .cell) (callsFrom order (i + 1)))) e
-      ∙ ap (λ (calls : List Call). l .text ++ reportRun d calls) (sym (calls-more order i low room)) ∙ l .rest }
+      ∙ ap (λ (calls : List Call). l .text ++ reportRun d calls) (sym (calls-more order i low room)) ∙ l .rest;
+}
 
 -- no call more: the last line is what is left
 pub left-none : {whole order before after : List ℕ} {d : Cell} {i at : ℕ} → (l : Left whole order before after d i at) → (16384 ≤ i) ⊎ (length order ≤ 2 * i + 1)
-  → {last : List ℕ} {to : ℕ} → Wrote (l .text ++ listingLine (ascii "end") (cellOf d)) before last to → Wrote whole before last to
+    → {last : List ℕ} {to : ℕ} → Wrote (l .text ++ listingLine (ascii "end") (cellOf d)) before last to → Wrote whole before last to
 unfolding reportRun tab
 left-none {whole} {order} {before} {after} {d} {i} {at} l done w =
-  wrote-as (sym (ap (λ (calls : List Call). l .text ++ reportRun d calls) (calls-none order i done)) ∙ l .rest) w
+    wrote-as (sym (ap (λ (calls : List Call). l .text ++ reportRun d calls) (calls-none order i done)) ∙ l .rest) w

@@ -1,6 +1,6 @@
 -- The set struct: what insertion, removal and union make, each by its members.
 use Prim.Native.Nat.{ℕ}
-use mathlib.Core.Bool.{Bool, true, false, not, _&&_, _||_, cond}
+use mathlib.Core.Bool.{Bool, true, false, not, _&&_, _||_}
 use lib.Dec.{eqb}
 use Rattle.sets.specs.Word.{has, wordOf}
 use Rattle.sets.specs.declared.Set.{Set}

@@ -1,6 +1,6 @@
 -- A set of numbers below 64 as a word: bit i is set where i is a member.
 use Prim.Native.Nat.{ℕ, zero, suc, _+_, _*_, _/_, _%_, _^_}
-use mathlib.Core.Bool.{Bool, true, false, not, _&&_, _||_, cond}
+use mathlib.Core.Bool.{Bool, true, false, _&&_, cond}
 use lib.Dec.{eqb, ltb}
 
 -- a test as a bit: 1 where it holds

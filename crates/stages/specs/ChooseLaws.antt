@@ -9,7 +9,7 @@ use lib.Dec.{eqb, ltb, lit<}
 use lib.ListN.{getD}
 use borrow.Author.Tests.{ltb-false, ne-eqb}
 use Rattle.sets.specs.Word.{upto, chosenOf}
-use Rattle.sets.specs.WordLaws.{has-word, has-past, has-none}
+use Rattle.sets.specs.WordLaws.{has-past, has-none}
 use Rattle.sets.specs.Set.{member, setOf, insertedIf, removed}
 use Rattle.sets.specs.SetLaws.{emptySet, set-ext, set-member, member-set}
 use Rattle.sets.specs.declared.Set.{Set}

@@ -1,11 +1,11 @@
 -- The cell as total functions over numbers, and the table of such a cell (document 01, "The cell").
-use Prim.Native.Nat.{ℕ, zero, suc, _+_, _-_}
-use mathlib.Core.Bool.{Bool, true, false, not, _&&_, _||_, cond}
+use Prim.Native.Nat.{ℕ, _-_}
+use mathlib.Core.Bool.{Bool, not, _&&_, cond}
 use mathlib.Core.List.{List, [], _∷_}
-use lib.Dec.{ltb, leb, eqb}
+use lib.Dec.{ltb, eqb}
 use lib.ListN.{getD, replicate}
 use Rattle.sets.specs.Word.{has, wordOf}
-use Rattle.table.specs.Base.{upd, tab}
+use Rattle.table.specs.Base.{tab}
 use Rattle.table.specs.declared.Place.{Place}
 use Rattle.table.specs.declared.Action.{Action}
 use Rattle.table.specs.declared.Agent.{Agent}
@@ -53,29 +53,32 @@ pub record State : Type 0 where
 
 -- the cell that a table holds
 unfoldable pub cellOf : Cell → State
-cellOf t = record
-  { land = record { place = λ q. getD (t .places) q noPlace; used = has (t .used .bits) }
-  ; lock = λ q. getD (t .locks) q 0
-  ; agent = λ x. getD (t .agents) x noAgent
-  ; given = has (t .given .bits) }
+cellOf t = record {
+  land = record { place = λ q. getD (t .places) q noPlace; used = has (t .used .bits) };
+  lock = λ q. getD (t .locks) q 0;
+  agent = λ x. getD (t .agents) x noAgent;
+  given = has (t .given .bits);
+}
 
 -- the table that holds a cell
 unfoldable pub tableOf : State → Cell
-tableOf c = record
-  { places = tab (c .land .place) 64 0
-  ; locks = tab (c .lock) 64 0
-  ; agents = tab (c .agent) 64 0
-  ; used = record { bits = wordOf 64 (c .land .used) }
-  ; given = record { bits = wordOf 64 (c .given) } }
+tableOf c = record {
+  places = tab (c .land .place) 64 0;
+  locks = tab (c .lock) 64 0;
+  agents = tab (c .agent) 64 0;
+  used = record { bits = wordOf 64 (c .land .used) };
+  given = record { bits = wordOf 64 (c .given) };
+}
 
 -- "A load starts from a bare floor": one place, no lock held, no agents
 unfoldable pub bareTable : Cell
-bareTable = record
-  { places = floorPlace ∷ replicate 63 noPlace
-  ; locks = replicate 64 none
-  ; agents = replicate 64 freshAgent
-  ; used = record { bits = 1 }
-  ; given = record { bits = 0 } }
+bareTable = record {
+  places = floorPlace ∷ replicate 63 noPlace;
+  locks = replicate 64 none;
+  agents = replicate 64 freshAgent;
+  used = record { bits = 1 };
+  given = record { bits = 0 };
+}
 
 -- ---- reading
 

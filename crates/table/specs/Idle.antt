@@ -1,6 +1,6 @@
 -- Whether all agents are asleep or done (document 01, "Sources and what is kept").
 use Prim.Native.Nat.{ℕ}
-use mathlib.Core.Bool.{Bool, true, false, not, _&&_, _||_, cond}
+use mathlib.Core.Bool.{Bool, true, cond}
 use lib.Dec.{leb}
 use Rattle.table.specs.Base.{allBelow}
 use Rattle.table.specs.Cell.{State}

@@ -5,12 +5,12 @@
 -- just by the agent whose stage says so; an agent at stage 3 has its place, and for enter its chosen place too, linked under the
 -- held parent (open: its target linked under its home); an agent at stages 0 to 3 or 7 has an action left, one at 8 has none; an
 -- opener at stages 1 to 3 remembers its home."
-use Prim.Native.Nat.{ℕ, zero, suc, _+_}
+use Prim.Native.Nat.{ℕ}
 use mathlib.Core.Bool.{Bool, true, false, not, _&&_, _||_, cond}
 use lib.Dec.{ltb, leb, eqb}
 use lib.ListN.{getD}
 use Rattle.table.specs.Base.{allBelow, anyBelow, countBelow, iter}
-use Rattle.table.specs.Cell.{noAction, none, Land, State, hasAction, nextAction, kindOf, linkedTo}
+use Rattle.table.specs.Cell.{noAction, none, Land, State, hasAction, kindOf, linkedTo}
 use Rattle.table.specs.declared.Action.{Action}
 use Rattle.table.specs.declared.Agent.{Agent}
 use Rattle.table.specs.declared.Place.{Place}
@@ -43,12 +43,12 @@ holdsBoth kind here there = cond (eqb kind 1) (here && there) (cond (eqb kind 2)
 -- here, there: the home and the chosen place are linked to it
 unfoldable pub stageFits : ℕ → Bool → Bool → Bool → ℕ → Bool → Bool → Bool
 stageFits s some known same kind here there =
-  cond (eqb s 0) some
-  (cond (leb s 2) (ready some known same kind)
-  (cond (leb s 3) (ready some known same kind && holdsBoth kind here there)
-  (cond (leb s 6) true
-  (cond (leb s 7) (some && known)
-  (cond (leb s 8) (not some) false)))))
+    cond (eqb s 0) some
+    (cond (leb s 2) (ready some known same kind)
+    (cond (leb s 3) (ready some known same kind && holdsBoth kind here there)
+    (cond (leb s 6) true
+    (cond (leb s 7) (some && known)
+    (cond (leb s 8) (not some) false)))))
 
 -- ---- locks
 
@@ -63,7 +63,7 @@ secondPlace kind home chosen = cond (eqb kind 3) chosen home
 -- the place whose lock it took second: the second place at stage 3, the destination at stage 6
 unfoldable pub secondHeld : Agent → ℕ → ℕ → ℕ
 secondHeld a kind destination =
-  cond (eqb (a .stage) 3) (secondPlace kind (a .home) (a .chosen)) (cond (eqb (a .stage) 6) destination none)
+    cond (eqb (a .stage) 3) (secondPlace kind (a .home) (a .chosen)) (cond (eqb (a .stage) 6) destination none)
 
 -- where a place in use stands
 abbrev pub standsIn : Land → ℕ → ℕ
@@ -82,14 +82,18 @@ claims c q x = c .given x && (eqb q (firstHeld (c .agent x)) || eqb q (secondHel
 
 -- ---- agents
 
+-- its stage has what it asks
+abbrev pub stageSound : Land → Agent → Bool
+stageSound l a = stageFits (a .stage) (hasAction a) (l .used (a .remembered)) (eqb (a .remembered) (a .home)) (kindOf a)
+    (linkedTo l (a .home) (a .remembered)) (linkedTo l (a .chosen) (a .remembered))
+
 -- an agent with its number x: home in use, actions and stage as they should be, what its stage holds locked by it
 unfoldable pub agentFits : State → ℕ → Agent → Bool
 agentFits c x a =
-  c .land .used (a .home)
-  && (actionsFit a
-  && (stageFits (a .stage) (hasAction a) (c .land .used (a .remembered)) (eqb (a .remembered) (a .home)) (kindOf a)
-      (linkedTo (c .land) (a .home) (a .remembered)) (linkedTo (c .land) (a .chosen) (a .remembered))
-  && (lockIs c x (firstHeld a) && lockIs c x (secondHeldIn c a))))
+    c .land .used (a .home)
+    && (actionsFit a
+    && (stageSound (c .land) a
+    && (lockIs c x (firstHeld a) && lockIs c x (secondHeldIn c a))))
 
 abbrev pub agentSound : State → ℕ → Bool
 agentSound c x = cond (c .given x) (agentFits c x (c .agent x)) true
@@ -115,9 +119,9 @@ stands q x known = cond (eqb q 0) (eqb (x .name) 0 && (eqb (x .parent) 0 && not 
 -- a place in use: its lock is free or some agent's stage says that it holds it
 unfoldable pub placeFits : State → ℕ → Bool
 placeFits c q =
-  (eqb (c .lock q) none || anyBelow (claims c q) 64)
-  && (stands q (c .land .place q) (c .land .used (c .land .place q .parent))
-  && travellersFit q (c .land .place q .way) (countBelow (goes c q) 64))
+    (eqb (c .lock q) none || anyBelow (claims c q) 64)
+    && (stands q (c .land .place q) (c .land .used (c .land .place q .parent))
+    && travellersFit q (c .land .place q .way) (countBelow (goes c q) 64))
 
 abbrev pub placeSound : State → ℕ → Bool
 placeSound c q = cond (c .land .used q) (placeFits c q) true

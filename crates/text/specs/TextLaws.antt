@@ -1,16 +1,16 @@
 -- Laws of texts written over a buffer, one after another. Assumes nothing.
-use mathlib.Core.Path.{_≡_, refl, sym, ap, ap₂, _∙_, subst}
-use mathlib.Core.Bool.{Bool, true, false, not, _&&_, _||_, cond}
-use mathlib.Core.List.{List, [], _∷_, _++_, append-assoc, append-nil}
+use mathlib.Core.Path.{_≡_, refl, sym, ap, ap₂, _∙_}
+use mathlib.Core.Bool.{Bool, true, false, cond}
+use mathlib.Core.List.{List, [], _∷_, _++_, append-nil}
 use mathlib.Core.Logic.{_⊎_, inl, inr}
 use Prim.Native.Nat.{ℕ, zero, suc, _+_, _-_, _/_, _%_, _<_, _≤_}
 use native.Mathlib.Nat.{le-of-suc-le-suc, not-suc-le-zero}
 use native.Mathlib.Omega.{arith}
 use native.Mathlib.Numerals.{add-one, sub-one}
-use lib.ListN.{length, take, drop, set, getD, length-set, length-append, length-drop, drop-of-length-le, take-append-drop}
+use lib.ListN.{length, take, drop, set, getD, length-append, length-drop, drop-of-length-le, take-append-drop}
 use lib.Seq.{take-all, take-suc}
 use lib.Dec.{leb, ltb, eqb}
-use borrow.Author.Tests.{le-leb, lt-leb, leb-true, leb-false, ltb-true, ltb-false, eqb-true, eqb-false, eq-eqb, ne-eqb, lt-ltb, le-ltb}
+use borrow.Author.Tests.{le-leb, lt-leb, leb-true, leb-false, ltb-true, ltb-false, eqb-true, eqb-false, ne-eqb, lt-ltb, le-ltb}
 use Rattle.table.specs.Base.{foldUp}
 use Rattle.table.specs.BaseLaws.{Told, yea, nay, told, fold-more}
 use Rattle.meaning.specs.Text.{overlay, digits, gap, joined}
@@ -145,26 +145,29 @@ module _ (s t b xs ys : List ℕ) (at from n m : ℕ) (room : length b ≤ 18446
 -- what a writer that was lent the part from a position on has added
 pub adds : (t xs ys : List ℕ) (at from n m : ℕ) → from ≡ least at (length xs) → Wrote t (part from xs) ys n → m ≡ capped (at + n) → Added t xs (back from xs ys) at m
 unfolding writtenAt
-adds t xs ys at from n m f v e = record
-  { count = e ∙ ap (λ (i : ℕ). capped (at + i)) (v .count)
-  ; text = back-is from xs ys ∙ ap (λ (l : List ℕ). take from xs ++ l) (v .text ∙ ap (overlay t) (part-is from xs))
-      ∙ ap (λ (k : ℕ). take k xs ++ overlay t (drop k xs)) f }
+adds t xs ys at from n m f v e = record {
+  count = e ∙ ap (λ (i : ℕ). capped (at + i)) (v .count);
+  text = back-is from xs ys ∙ ap (λ (l : List ℕ). take from xs ++ l) (v .text ∙ ap (overlay t) (part-is from xs))
+      ∙ ap (λ (k : ℕ). take k xs ++ overlay t (drop k xs)) f;
+}
 
 -- a text and one added to it
 pub added : {s t b xs ys : List ℕ} {at m : ℕ} → length b ≤ 18446744073709551615 → Wrote s b xs at → Added t xs ys at m → Wrote (s ++ t) b ys m
 unfolding writtenAt
 added {s} {t} {b} {xs} {ys} {at} {m} room w v =
-  let from = least at (length xs) in
-  let z = next s t b xs (overlay t (part from xs)) at from (capped (length t)) m room w refl (record { count = refl; text = refl }) (v .count) in
-  record { count = z .count
-    ; text = v .text ∙ sym (back-is from xs (overlay t (part from xs)) ∙ ap (λ (l : List ℕ). take from xs ++ overlay t l) (part-is from xs)) ∙ z .text }
+    let from = least at (length xs) in
+    let z = next s t b xs (overlay t (part from xs)) at from (capped (length t)) m room w refl (record { count = refl; text = refl }) (v .count) in
+    record {
+      count = z .count;
+      text = v .text ∙ sym (back-is from xs (overlay t (part from xs)) ∙ ap (λ (l : List ℕ). take from xs ++ overlay t l) (part-is from xs)) ∙ z .text;
+    }
 
 pub added-length : {t xs ys : List ℕ} {at m : ℕ} → Added t xs ys at m → length ys ≡ length xs
 unfolding writtenAt
 added-length {t} {xs} {ys} {at} {m} v =
-  ap length (v .text) ∙ length-append (take (least at (length xs)) xs) (overlay t (drop (least at (length xs)) xs))
-  ∙ ap (λ (n : ℕ). length (take (least at (length xs)) xs) + n) (over-length t (drop (least at (length xs)) xs))
-  ∙ sym (length-append (take (least at (length xs)) xs) (drop (least at (length xs)) xs)) ∙ ap length (take-append-drop (least at (length xs)) xs)
+    ap length (v .text) ∙ length-append (take (least at (length xs)) xs) (overlay t (drop (least at (length xs)) xs))
+    ∙ ap (λ (n : ℕ). length (take (least at (length xs)) xs) + n) (over-length t (drop (least at (length xs)) xs))
+    ∙ sym (length-append (take (least at (length xs)) xs) (drop (least at (length xs)) xs)) ∙ ap length (take-append-drop (least at (length xs)) xs)
 
 pub wrote-length : {t b e : List ℕ} {r : ℕ} → Wrote t b e r → length e ≡ length b
 wrote-length {t} {b} w = ap length (w .text) ∙ over-length t b
