@@ -22,21 +22,6 @@ use Rattle.step.specs.CarryLaws.{index, unsettled, stepped}
 use borrow.Author.Needs.{needs}
 use Rattle.step.proofs.decide.Statement.{statement}
 use Rattle.step.proofs.decide.Tie as tie
-use Rattle.step.proofs.decide.Reads as reads
-use Rattle.step.proofs.decide.Lts as lts
-use Rattle.sets.proofs.Set.has.Reads as has-reads
-use Rattle.step.proofs.settle.settled.Reads as settled-reads
-use Rattle.step.proofs.settle.stays.Reads as stays-reads
-use Rattle.stages.proofs.stage_step.Reads as stage-step-reads
-
-has-requires : tie.Need-has-requires
-has-requires c κs = search needs
-
-stage-step-requires : tie.Need-stage-step-requires
-stage-step-requires c κs = search needs
-
-settled-requires : tie.Need-settled-requires
-settled-requires c κs = search needs
 
 module _ (m : tie.After-settled) where
   abbrev t : Cell
@@ -69,36 +54,31 @@ module _ (m : tie.After-settled) where
 
 returns : tie.Need-returns
 unfolding cellOf
-returns c = λ h. c .settled .ensures (t c) (whole c) (low c) (room c h) (read c h) refl
+returns c h =
+    c .settled .ensures (t c) (whole c) (low c) (room c h) (read c h) refl
     ∙ stepped (t c) (x c) _ _ _ (sounds c h) (gives c) (read c h) (c .before .stage-step .ensures (cellOf (t c)) (x c))
-
-stays-requires : tie.Need-stays-requires
-stays-requires c κs = search needs
 
 returns-2 : tie.Need-returns-2
 unfolding stepOf turnedAway cellOf carriedOut
-returns-2 c = λ h. let a = c .before .before .before .before .before .before .before .args in
-    rw (sym (ap (λ (i : Seen). i .sound) h) ∙ c .before .before .before .before .if1 .taken, sym (c .before .before .has .ensures) ∙ c .before .if2 .left)
-    (ap (carriedOut (a .c) (a .agent)) (c .stays .ensures) ∙ ap (λ (t : Cell). record { cell = t; answer = Refused 11 }) (unsettled (a .c) (a .agent) _ _ (ap (λ (i : Seen). i .agent) h) refl))
-
-stays-requires-2 : tie.Need-stays-requires-2
-stays-requires-2 c κs = search needs
+returns-2 c h =
+    let test = c .before .before .before .before in
+    let a = test .before .before .before .args in
+    rw (sym (ap (λ (i : Seen). i .sound) h) ∙ test .if1 .taken, sym (c .before .before .has .ensures) ∙ c .before .if2 .left)
+    (ap (carriedOut (a .c) (a .agent)) (c .stays .ensures)
+    ∙ ap (λ (t : Cell). record { cell = t; answer = Refused 11 }) (unsettled (a .c) (a .agent) _ _ (ap (λ (i : Seen). i .agent) h) refl))
 
 returns-3 : tie.Need-returns-3
 unfolding stepOf turnedAway cellOf carriedOut
-returns-3 c = λ h. let a = c .before .before .before .before .args in
+returns-3 c h =
+    let a = c .before .before .before .before .args in
     rw (sym (ap (λ (i : Seen). i .sound) h) ∙ c .before .if1 .left)
-    (ap (carriedOut (a .c) (a .agent)) (c .stays2 .ensures) ∙ ap (λ (t : Cell). record { cell = t; answer = Refused 10 }) (unsettled (a .c) (a .agent) _ _ (ap (λ (i : Seen). i .agent) h) refl))
+    (ap (carriedOut (a .c) (a .agent)) (c .stays2 .ensures)
+    ∙ ap (λ (t : Cell). record { cell = t; answer = Refused 10 }) (unsettled (a .c) (a .agent) _ _ (ap (λ (i : Seen). i .agent) h) refl))
 
 pub decide-spec : {M : Type 1} → statement M
 decide-spec =
     tie.close
     (tie.spec
-    has-requires
-    stage-step-requires
-    settled-requires
-    returns
-    stays-requires
-    returns-2
-    stays-requires-2
-    returns-3)
+    (λ c κs. search needs) (λ c κs. search needs) (λ c κs. search needs) returns
+    (λ c κs. search needs) returns-2
+    (λ c κs. search needs) returns-3)

@@ -10,9 +10,6 @@ use Rattle.table.specs.Cell.{noPlace}
 use Rattle.moves.specs.Motions.{adopted}
 use Rattle.moves.proofs.open.adopt.Statement.{statement}
 use Rattle.moves.proofs.open.adopt.Tie as tie
-use Rattle.moves.proofs.open.adopt.Reads as reads
-use Rattle.moves.proofs.open.adopt.Lts as lts
-use Rattle.moves.proofs.open.adopt_one.Reads as adopt-one-reads
 
 abbrev Inv-loop : tie.InvT-loop
 Inv-loop p t ps qs₀ q₀ qs q = (q ≤ 64) × (qs ≡ tab (below noPlace (λ j. getD qs₀ j noPlace) (λ j. adopted p t j (getD ps j noPlace)) q) 64 0)
@@ -20,40 +17,18 @@ Inv-loop p t ps qs₀ q₀ qs q = (q ≤ 64) × (qs ≡ tab (below noPlace (λ j
 abbrev μ-loop : tie.MeasureT-loop
 μ-loop p t ps qs₀ q₀ qs q = 64 - q
 
-loop-holds : tie.Need-loop-holds Inv-loop μ-loop
-loop-holds c = (omega arith, sweep-start noPlace _ _ _ (sym (tab-getD noPlace _ 64 (c .good .0 .1 .0 .1))))
-
-cast-k : tie.Need-cast-k Inv-loop μ-loop
-cast-k c = omega arith
-
-mul-x : tie.Need-mul-x Inv-loop μ-loop
-mul-x c = omega arith
-
-array-copy-out-x : tie.Need-array-copy-out-x Inv-loop μ-loop
-array-copy-out-x c = omega arith
-
-adopt-one-requires : tie.Need-adopt-one-requires Inv-loop μ-loop
-adopt-one-requires c κs = tt
-
-mul-qs : tie.Need-mul-qs Inv-loop μ-loop
-mul-qs c = omega arith
-
-array-set-from-qs : tie.Need-array-set-from-qs Inv-loop μ-loop
-array-set-from-qs c = omega arith
-
-add-q : tie.Need-add-q Inv-loop μ-loop
-add-q c = omega arith
-
-loop-less : tie.Need-loop-less Inv-loop μ-loop
-loop-less c = omega arith
-
 loop-again : tie.Need-loop-again Inv-loop μ-loop
-loop-again c = let l = c .before .before .before in
-    let a = l .before .args in
-    (omega arith, rw (c .adopt-one .ensures) (sweep-hit noPlace _ (λ j. adopted (a .p) (a .t) j (getD (a .t1) j noPlace)) (l .loop .qs) (l .loop .q) _ (omega arith) refl (l .loop .inv .1)))
+loop-again c =
+    let l = c .before .before .before in
+    let a = l .before .args in (
+      omega arith,
+      rw (c .adopt-one .ensures)
+          (sweep-hit noPlace _ (λ j. adopted (a .p) (a .t) j (getD (a .t1) j noPlace)) (l .loop .qs) (l .loop .q) _ (omega arith) refl (l .loop .inv .1)),
+    )
 
 returns : tie.Need-returns Inv-loop μ-loop
-returns c = let l = c .before in
+returns c =
+    let l = c .before in
     let a = l .before .args in
     sweep-end noPlace _ (λ j. adopted (a .p) (a .t) j (getD (a .t1) j noPlace)) (l .loop .qs) (l .loop .q) (omega arith) (l .loop .inv .1)
 
@@ -61,16 +36,6 @@ pub adopt-spec : {M : Type 1} → statement M
 adopt-spec =
     tie.close
     (tie.spec
-    Inv-loop
-    μ-loop
-    loop-holds
-    cast-k
-    mul-x
-    array-copy-out-x
-    adopt-one-requires
-    mul-qs
-    array-set-from-qs
-    add-q
-    loop-less
-    loop-again
-    returns)
+    Inv-loop μ-loop (λ c. (omega arith, sweep-start noPlace _ _ _ (sym (tab-getD noPlace _ 64 (c .good .0 .1 .0 .1)))))
+    (λ c. omega arith) (λ c. omega arith) (λ c. omega arith) (λ c κs. tt) (λ c. omega arith) (λ c. omega arith)
+    (λ c. omega arith) (λ c. omega arith) loop-again returns)

@@ -11,9 +11,6 @@ use Rattle.table.specs.SweepLaws.{below, sweep-start, sweep-hit, sweep-end}
 use Rattle.table.specs.Cell.{none}
 use Rattle.moves.proofs.open.free_held.Statement.{statement}
 use Rattle.moves.proofs.open.free_held.Tie as tie
-use Rattle.moves.proofs.open.free_held.Reads as reads
-use Rattle.moves.proofs.open.free_held.Lts as lts
-use Rattle.moves.proofs.open.free_one.Reads as free-one-reads
 
 abbrev Inv-loop : tie.InvT-loop
 Inv-loop s ls ms₀ q₀ ms q = (q ≤ 64) × (ms ≡ tab (below 0 (λ j. getD ms₀ j 0) (λ j. cond (member s (getD ls j 0)) none (getD ls j 0)) q) 64 0)
@@ -21,31 +18,19 @@ Inv-loop s ls ms₀ q₀ ms q = (q ≤ 64) × (ms ≡ tab (below 0 (λ j. getD m
 abbrev μ-loop : tie.MeasureT-loop
 μ-loop s ls ms₀ q₀ ms q = 64 - q
 
-loop-holds : tie.Need-loop-holds Inv-loop μ-loop
-loop-holds c = (omega arith, sweep-start 0 _ _ _ (sym (tab-getD 0 _ 64 (c .good .0 .1 .0 .1))))
-
-array-read-l : tie.Need-array-read-l Inv-loop μ-loop
-array-read-l c = omega arith
-
-free-one-requires : tie.Need-free-one-requires Inv-loop μ-loop
-free-one-requires c κs = tt
-
-array-write-ms : tie.Need-array-write-ms Inv-loop μ-loop
-array-write-ms c = omega arith
-
-add-q : tie.Need-add-q Inv-loop μ-loop
-add-q c = omega arith
-
-loop-less : tie.Need-loop-less Inv-loop μ-loop
-loop-less c = omega arith
-
 loop-again : tie.Need-loop-again Inv-loop μ-loop
-loop-again c = let l = c .before .before in
-    let a = l .before .args in
-    (omega arith, rw (c .free-one .ensures) (sweep-hit 0 _ (λ j. cond (member (a .s) (getD (a .t1) j 0)) none (getD (a .t1) j 0)) (l .loop .ms) (l .loop .q) _ (omega arith) refl (l .loop .inv .1)))
+loop-again c =
+    let l = c .before .before in
+    let a = l .before .args in (
+      omega arith,
+      rw (c .free-one .ensures)
+          (sweep-hit 0 _ (λ j. cond (member (a .s) (getD (a .t1) j 0)) none (getD (a .t1) j 0)) (l .loop .ms) (l .loop .q) _ (omega arith) refl
+          (l .loop .inv .1)),
+    )
 
 returns : tie.Need-returns Inv-loop μ-loop
-returns c = let l = c .before in
+returns c =
+    let l = c .before in
     let a = l .before .args in
     sweep-end 0 _ (λ j. cond (member (a .s) (getD (a .t1) j 0)) none (getD (a .t1) j 0)) (l .loop .ms) (l .loop .q) (omega arith) (l .loop .inv .1)
 
@@ -53,13 +38,5 @@ pub free-held-spec : {M : Type 1} → statement M
 free-held-spec =
     tie.close
     (tie.spec
-    Inv-loop
-    μ-loop
-    loop-holds
-    array-read-l
-    free-one-requires
-    array-write-ms
-    add-q
-    loop-less
-    loop-again
-    returns)
+    Inv-loop μ-loop (λ c. (omega arith, sweep-start 0 _ _ _ (sym (tab-getD 0 _ 64 (c .good .0 .1 .0 .1)))))
+    (λ c. omega arith) (λ c κs. tt) (λ c. omega arith) (λ c. omega arith) (λ c. omega arith) loop-again returns)

@@ -2,14 +2,6 @@
 use Rattle.table.proofs.Rules.{tests}
 use Rattle.moves.proofs.open.moved_stage.Statement.{statement}
 use Rattle.moves.proofs.open.moved_stage.Tie as tie
-use Rattle.moves.proofs.open.moved_stage.Reads as reads
-use Rattle.moves.proofs.open.moved_stage.Lts as lts
-
-returns : tie.Need-returns
-returns c = search tests
-
-returns-2 : tie.Need-returns-2
-returns-2 c = search tests
 
 pub moved-stage-spec : {M : Type 1} → statement M
-moved-stage-spec = tie.close (tie.spec returns returns-2)
+moved-stage-spec = tie.close (tie.spec (λ c. search tests) (λ c. search tests))

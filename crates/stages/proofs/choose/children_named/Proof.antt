@@ -16,15 +16,10 @@ use Rattle.stages.specs.ChildLaws.{child-split}
 use Rattle.updates.specs.UpdateLaws.{positive}
 use Rattle.stages.proofs.choose.children_named.Statement.{statement}
 use Rattle.stages.proofs.choose.children_named.Tie as tie
-use Rattle.stages.proofs.choose.children_named.Reads as reads
-use Rattle.stages.proofs.choose.children_named.Lts as lts
-use Rattle.sets.proofs.Set.first.Reads as first-reads
-use Rattle.sets.proofs.Set.insert_if.Reads as insert-if-reads
-use Rattle.sets.proofs.Set.rest.Reads as rest-reads
-use Rattle.stages.proofs.choose.child_named.Reads as child-named-reads
 
 abbrev Inv-loop : tie.InvT-loop
-Inv-loop p n ps found₀ rest₀ found rest = Gathered (member rest₀) (λ q. eqb (getD ps q noPlace .way) 0 && eqb (getD ps q noPlace .parent) p && eqb (getD ps q noPlace .name) n) found rest
+Inv-loop p n ps found₀ rest₀ found rest =
+    Gathered (member rest₀) (λ q. eqb (getD ps q noPlace .way) 0 && eqb (getD ps q noPlace .parent) p && eqb (getD ps q noPlace .name) n) found rest
 
 abbrev μ-loop : tie.MeasureT-loop
 μ-loop p n ps found₀ rest₀ found rest = rest .bits
@@ -34,57 +29,30 @@ small : (c : tie.After-rest Inv-loop μ-loop) → c .before .first .result < 64
 small c = let l = c .before .before .before .before in
     subst (λ (n : ℕ). n < 64) (sym (c .before .first .ensures)) (rest-lt (l .loop .inv .left) (positive (c .before .before .if1 .taken)))
 
-loop-holds : tie.Need-loop-holds Inv-loop μ-loop
-loop-holds c = gathered-start (c .args .used) _ (search needs)
-
-first-requires : tie.Need-first-requires Inv-loop μ-loop
-first-requires c κs = tt
-
-rest-requires : tie.Need-rest-requires Inv-loop μ-loop
-rest-requires c κs = tt
-
-cast-k : tie.Need-cast-k Inv-loop μ-loop
-cast-k c = let h = small c in omega arith
-
-mul-x : tie.Need-mul-x Inv-loop μ-loop
-mul-x c = let h = small c in omega arith
-
-array-copy-out-x : tie.Need-array-copy-out-x Inv-loop μ-loop
-array-copy-out-x c = let h = small c in omega arith
-
-child-named-requires : tie.Need-child-named-requires Inv-loop μ-loop
-child-named-requires c κs = tt
-
-insert-if-requires : tie.Need-insert-if-requires Inv-loop μ-loop
-insert-if-requires c κs = tt
-
 loop-less : tie.Need-loop-less Inv-loop μ-loop
 loop-less c = let l = c .before .before .before .before .before .before .before in
-    subst (λ (z : Set). z .bits < l .loop .rest .bits) (sym (c .before .before .before .rest .ensures)) (removed-less (l .loop .rest) (l .loop .inv .left .small) (positive (c .before .before .before .before .before .if1 .taken)))
+    subst (λ (z : Set). z .bits < l .loop .rest .bits) (sym (c .before .before .before .rest .ensures))
+    (removed-less (l .loop .rest) (l .loop .inv .left .small) (positive (c .before .before .before .before .before .if1 .taken)))
 
 loop-again : tie.Need-loop-again Inv-loop μ-loop
-loop-again c = let l = c .before .before .before .before .before .before .before in
-    let a = c .before .before .before .before .before .before .before .before .args in
-    rw (c .insert-if .ensures, c .before .before .before .rest .ensures, c .before .before .before .before .first .ensures)
-    (gathered-more (l .loop .inv) (positive (c .before .before .before .before .before .if1 .taken)) (c .before .child-named .result) (c .before .child-named .ensures ∙ ap (λ (q : ℕ). eqb (getD (a .t1) q noPlace .way) 0 && eqb (getD (a .t1) q noPlace .parent) (a .p) && eqb (getD (a .t1) q noPlace .name) (a .n)) (c .before .before .before .before .first .ensures)))
+loop-again c =
+    let q = c .before .before .before .before in
+    let l = q .before .before .before in
+    let a = l .before .args in
+    rw (c .insert-if .ensures, c .before .before .before .rest .ensures, q .first .ensures)
+    (gathered-more (l .loop .inv) (positive (q .before .if1 .taken)) (c .before .child-named .result)
+    (c .before .child-named .ensures
+    ∙ ap (λ (i : ℕ). eqb (getD (a .t1) i noPlace .way) 0 && eqb (getD (a .t1) i noPlace .parent) (a .p) && eqb (getD (a .t1) i noPlace .name) (a .n))
+    (q .first .ensures)))
 
 returns : tie.Need-returns Inv-loop μ-loop
-returns c = let a = c .before .before .before .args in gathered-end (c .before .before .loop .inv) (c .if1 .left) ∙ child-split (landOf (a .t1) (a .used)) (a .p) (a .n)
+returns c = let a = c .before .before .before .args in
+    gathered-end (c .before .before .loop .inv) (c .if1 .left) ∙ child-split (landOf (a .t1) (a .used)) (a .p) (a .n)
 
 pub children-named-spec : {M : Type 1} → statement M
 children-named-spec =
     tie.close
     (tie.spec
-    Inv-loop
-    μ-loop
-    loop-holds
-    first-requires
-    rest-requires
-    cast-k
-    mul-x
-    array-copy-out-x
-    child-named-requires
-    insert-if-requires
-    loop-less
-    loop-again
-    returns)
+    Inv-loop μ-loop (λ c. gathered-start (c .args .used) _ (search needs)) (λ c κs. tt) (λ c κs. tt)
+    (λ c. let h = small c in omega arith) (λ c. let h = small c in omega arith) (λ c. let h = small c in omega arith)
+    (λ c κs. tt) (λ c κs. tt) loop-less loop-again returns)

@@ -14,12 +14,6 @@ use Rattle.stages.specs.ChildLaws.{Unmet, unmet-start, unmet-end, unmet-
 use Rattle.updates.specs.UpdateLaws.{positive}
 use Rattle.stages.proofs.choose.unawaited.Statement.{statement}
 use Rattle.stages.proofs.choose.unawaited.Tie as tie
-use Rattle.stages.proofs.choose.unawaited.Reads as reads
-use Rattle.stages.proofs.choose.unawaited.Lts as lts
-use Rattle.sets.proofs.Set.first.Reads as first-reads
-use Rattle.sets.proofs.Set.remove.Reads as remove-reads
-use Rattle.sets.proofs.Set.rest.Reads as rest-reads
-use Rattle.stages.proofs.choose.way_out.Reads as way-out-reads
 
 abbrev Inv-loop : tie.InvT-loop
 Inv-loop ps left₀ rest₀ left rest = Unmet (landOf ps rest₀) left₀ left rest
@@ -33,38 +27,23 @@ small c = let l = c .before .before .before .before in
     subst (λ (n : ℕ). n < 64) (sym (c .before .first .ensures)) (rest-lt (l .loop .inv .left) (positive (c .before .before .if1 .taken)))
 
 loop-holds : tie.Need-loop-holds Inv-loop μ-loop
-loop-holds c = unmet-start (landOf (c .args .t1) (c .args .used)) (c .args .among) (c .args .used) (search needs) (rest-start (c .args .used) (search needs))
-
-first-requires : tie.Need-first-requires Inv-loop μ-loop
-first-requires c κs = tt
-
-rest-requires : tie.Need-rest-requires Inv-loop μ-loop
-rest-requires c κs = tt
-
-cast-k : tie.Need-cast-k Inv-loop μ-loop
-cast-k c = let h = small c in omega arith
-
-mul-x : tie.Need-mul-x Inv-loop μ-loop
-mul-x c = let h = small c in omega arith
-
-array-copy-out-x : tie.Need-array-copy-out-x Inv-loop μ-loop
-array-copy-out-x c = let h = small c in omega arith
-
-way-out-requires : tie.Need-way-out-requires Inv-loop μ-loop
-way-out-requires c κs = tt
-
-remove-requires : tie.Need-remove-requires Inv-loop μ-loop
-remove-requires c κs = tt
+loop-holds c = unmet-start (landOf (c .args .t1) (c .args .used)) (c .args .among) (c .args .used) (search needs)
+    (rest-start (c .args .used) (search needs))
 
 loop-less : tie.Need-loop-less Inv-loop μ-loop
 loop-less c = let l = c .before .before .before .before .before .before .before in
-    subst (λ (z : Set). z .bits < l .loop .rest .bits) (sym (c .before .before .before .rest .ensures)) (removed-less (l .loop .rest) (l .loop .inv .left .small) (positive (c .before .before .before .before .before .if1 .taken)))
+    subst (λ (z : Set). z .bits < l .loop .rest .bits) (sym (c .before .before .before .rest .ensures))
+    (removed-less (l .loop .rest) (l .loop .inv .left .small) (positive (c .before .before .before .before .before .if1 .taken)))
 
 loop-again : tie.Need-loop-again Inv-loop μ-loop
-loop-again c = let l = c .before .before .before .before .before .before .before in
-    let a = c .before .before .before .before .before .before .before .before .args in
+loop-again c =
+    let q = c .before .before .before .before in
+    let l = q .before .before .before in
+    let a = l .before .args in
     rw (c .remove .ensures, c .before .before .before .rest .ensures)
-    (unmet-more (landOf (a .t1) (a .used)) (a .among) (l .loop .inv) (positive (c .before .before .before .before .before .if1 .taken)) (c .before .way-out .result) (c .before .way-out .ensures ∙ ap (λ (q : ℕ). cond (not (eqb q 0) && not (eqb (getD (a .t1) q noPlace .way) 0)) (getD (a .t1) q noPlace .parent) 64) (c .before .before .before .before .first .ensures)))
+    (unmet-more (landOf (a .t1) (a .used)) (a .among) (l .loop .inv) (positive (q .before .if1 .taken)) (c .before .way-out .result)
+    (c .before .way-out .ensures
+    ∙ ap (λ (i : ℕ). cond (not (eqb i 0) && not (eqb (getD (a .t1) i noPlace .way) 0)) (getD (a .t1) i noPlace .parent) 64) (q .first .ensures)))
 
 returns : tie.Need-returns Inv-loop μ-loop
 returns c = let a = c .before .before .before .args in unmet-end (landOf (a .t1) (a .used)) (a .among) (c .before .before .loop .inv) (c .if1 .left)
@@ -73,16 +52,6 @@ pub unawaited-spec : {M : Type 1} → statement M
 unawaited-spec =
     tie.close
     (tie.spec
-    Inv-loop
-    μ-loop
-    loop-holds
-    first-requires
-    rest-requires
-    cast-k
-    mul-x
-    array-copy-out-x
-    way-out-requires
-    remove-requires
-    loop-less
-    loop-again
-    returns)
+    Inv-loop μ-loop loop-holds (λ c κs. tt) (λ c κs. tt)
+    (λ c. let h = small c in omega arith) (λ c. let h = small c in omega arith) (λ c. let h = small c in omega arith)
+    (λ c κs. tt) (λ c κs. tt) loop-less loop-again returns)
