@@ -6,9 +6,8 @@ use meaning::Idled;
 use table::Cell;
 ghost use mathlib.Core.Path.{_≡_};
 ghost use mathlib.Core.Bool.{cond};
-ghost use Rattle.table.specs.Cell.{cellOf};
-ghost use Rattle.table.specs.Sound.{sound};
 ghost use Rattle.meaning.specs.Codes.{checkOf, idleOf};
+ghost use Rattle.keeper.specs.Known.{knownIdle};
 
 // A bare floor: `bareTable`.
 pub use table::bare;
@@ -41,9 +40,9 @@ fn checked(sound: bool) -> Checked
     }
 }
 
-// What is answered of a cell's idleness, where it is known whether the cell is sound: 10 is its one refusal.
+// Whether all agents are asleep or done, told whether the cell is sound: 10 is its one refusal.
 fn idled(known: bool, c: Cell) -> Idled
-    ensures { λ r. ⌜ (known ≡ sound (cellOf c) → r ≡ idleOf c) ⌝ }
+    ensures { λ r. ⌜ r ≡ knownIdle known c ⌝ }
 {
     if known {
         if table::is_idle(c) {

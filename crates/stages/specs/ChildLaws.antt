@@ -16,7 +16,7 @@ use Rattle.table.specs.Base.{anyBelow}
 use Rattle.table.specs.BaseLaws.{eq?, any-rest}
 use Rattle.table.specs.Cell.{Land, linkedTo, travels}
 use Rattle.meaning.specs.Step.{onWayTo, awaited, named}
-use Rattle.stages.specs.Says.{childNamed}
+use Rattle.stages.specs.Changes.{childNamed}
 
 -- ---- children
 

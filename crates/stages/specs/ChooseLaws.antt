@@ -20,7 +20,7 @@ use Rattle.table.specs.declared.Action.{Action}
 use Rattle.table.specs.declared.Agent.{Agent}
 use Rattle.meaning.specs.Step.{named, awaited, entersAt, exitsFrom, opensAt, qualifies, choose, choice, fires, stays}
 use Rattle.updates.specs.GatherLaws.{member-upto}
-use Rattle.stages.specs.Says.{landOf, childNamed}
+use Rattle.stages.specs.Changes.{landOf, childNamed}
 
 -- ---- reading a set
 

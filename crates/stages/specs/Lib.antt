@@ -1,3 +1,4 @@
-pub mod Says
+pub mod Changes
+pub mod ChangeLaws
 pub mod ChooseLaws
 pub mod ChildLaws

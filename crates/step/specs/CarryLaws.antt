@@ -1,30 +1,39 @@
--- What each decision makes of a table is what the change makes of its cell. Assumes nothing.
+-- What is decided of what is seen of a table, carried out, is the step call. Assumes nothing.
 -- Idea: a field that is not changed is the table of its own elements, and a changed one has one value stored.
-use mathlib.Core.Path.{_≡_, refl, sym, ap, ap₂, _∙_}
+use mathlib.Core.Path.{_≡_, refl, sym, ap, ap₂, _∙_, subst}
 use mathlib.Core.Bool.{true}
 use mathlib.Core.List.{List, [], _∷_}
 use Prim.Native.Nat.{ℕ, zero, suc, _%_, _<_}
 use native.Mathlib.Omega.{arith}
+use lib.Dec.{eqb}
 use lib.ListN.{getD, set}
-use borrow.Author.Tests.{eq-eqb, ne-eqb, lt-ltb}
+use borrow.Author.Tests.{eq-eqb, ne-eqb, eqb-true, eqb-false, lt-ltb}
+use Rattle.sets.specs.Set.{member}
 use Rattle.table.specs.Base.{tab, upd}
-use Rattle.table.specs.Cell.{noAgent, cellOf}
+use Rattle.table.specs.BaseLaws.{Told, yea, nay, told}
+use Rattle.table.specs.Cell.{none, noAgent, cellOf}
 use Rattle.table.specs.Sound.{sound}
 use Rattle.table.specs.Bounds.{Sized}
-use Rattle.table.specs.CellLaws.{places-are, locks-are, used-are, given-are, back, agent-set}
+use Rattle.table.specs.CellLaws.{places-are, locks-are, used-are, given-are, back, agent-set, is-given}
 use Rattle.table.specs.CellLaws as cells
 use Rattle.table.specs.declared.Agent.{Agent}
 use Rattle.table.specs.declared.Cell.{Cell}
 use Rattle.meaning.specs.declared.Word.{Word}
 use Rattle.meaning.specs.declared.Word.the-variants.{Took, Held}
-use Rattle.meaning.specs.declared.Answer.the-variants.{Did}
-use Rattle.meaning.specs.Update.{released}
-use Rattle.meaning.specs.Step.{Outcome, still, turn, take, release, stepAt, step}
-use Rattle.meaning.specs.Run.{made, stepOf}
+use Rattle.meaning.specs.declared.Answer.the-variants.{Did, Refused}
+use Rattle.meaning.specs.Update.{atStage, released}
+use Rattle.meaning.specs.Step.{still, turn, take, release, stepAt, step}
+use Rattle.meaning.specs.Run.{made, turnedAway, stepOf}
+use Rattle.soundness.specs.Seen.{seenOf}
+use Rattle.soundness.specs.SoundUse.{next-small}
 use Rattle.updates.specs.UpdateLaws.{did}
 use Rattle.moves.specs.Motions.{shifted, moved}
 use Rattle.moves.specs.declared.Motion.{Motion}
-use Rattle.step.specs.Decided.{staying, going, settled, carriedOut}
+use Rattle.stages.specs.Changes.{landOf, carried, changeAt}
+use Rattle.stages.specs.ChangeLaws.{step-carried}
+use Rattle.stages.specs.declared.Change.{Change}
+use Rattle.stages.specs.declared.Change.the-variants.{Still, Turn, Take, Release, Move}
+use Rattle.step.specs.Decided.{staying, going, settling, decided, settled, carriedOut}
 
 -- ---- the agent's row
 
@@ -84,8 +93,47 @@ carry-move t x a m ls l n = rw (lt-ltb x 64 l, lt-ltb (a .next) 255 n)
 
 -- ---- the call
 
--- a call of an agent that is given, on a sound table, makes the step
-pub stepped : (t : Cell) (x w : ℕ) (a : Agent) (o : Outcome) → sound (cellOf t) ≡ true → cellOf t .given x ≡ true → a ≡ cellOf t .agent x
-    → o ≡ stepAt (a .stage) (cellOf t) x a w → made o ≡ stepOf t x w
-unfolding stepOf step
-stepped t x w a o s g q f = rw (s, g) (ap made (f ∙ ap (λ (b : Agent). stepAt (b .stage) (cellOf t) x b w) q))
+-- what a change makes of the agent and the locks of a table, carried out, is what it makes of the cell
+pub settles : (k : Change) (t : Cell) → Sized t → (x : ℕ) → x < 64 → (a : Agent) → a .next < 255 → a ≡ getD (t .agents) x noAgent
+    → carriedOut t x (settling k x a (t .locks)) ≡ made (carried (cellOf t) x a k)
+settles (Still w) t z x l a n f = carry-still t z x l (t .locks) refl a w f
+settles (Turn stage remembered w) t z x l a n f = carry-turn t z x l (t .locks) refl (atStage a stage remembered 0) w
+settles (Take q stage remembered chosen) t z x l a n f = go (told (eqb (getD (t .locks) q 0) none))
+  where
+    go : Told (eqb (getD (t .locks) q 0) none) → carriedOut t x (settling (Take q stage remembered chosen) x a (t .locks)) ≡ made (carried (cellOf t) x a (Take q stage remembered chosen))
+    go (yea e) = rw e (carry-took t z x l (t .locks) refl (atStage a stage remembered chosen) q _ (eqb-true (getD (t .locks) q 0) none e) refl)
+    go (nay e) = rw e (carry-held t z x l (t .locks) refl a q (atStage a stage remembered chosen) f (eqb-false (getD (t .locks) q 0) none e))
+settles (Release p q stage remembered w) t z x l a n f = carry-release t z x l (t .locks) refl (atStage a stage remembered 0) p q w _ refl
+settles (Move m) t z x l a n f = carry-move t x a m (t .locks) l n
+
+module _ (t : Cell) (z : Sized t) (x wish : ℕ) where
+  -- the agent that the call sees, and the change of its stage
+  abbrev a : Agent
+  a = seenOf t x .agent
+
+  abbrev change : Change
+  change = changeAt (a .stage) (landOf (t .places) (t .used)) a wish
+
+  -- a refused call leaves the table
+  turned : (number : ℕ) → carriedOut t x (staying a (t .locks) (Refused number)) ≡ turnedAway t number
+  unfolding carriedOut turnedAway
+  turned number = ap (λ (u : Cell). record { cell = u; answer = Refused number }) (unsettled t x a (t .locks) refl refl)
+
+  -- a call of an agent that is given, on a sound table, makes the step
+  stepped : sound (cellOf t) ≡ true → member (t .given) x ≡ true → carriedOut t x (settling change x a (t .locks)) ≡ made (step (cellOf t) x wish)
+  unfolding step cellOf
+  stepped s g =
+      let low : x < 64 = is-given t z x g in
+      let read : a ≡ getD (t .agents) x noAgent = ap (λ (i : ℕ). getD (t .agents) i noAgent) (index x low) in
+      settles change t z x low a (subst (λ (b : Agent). b .next < 255) (sym read) (let n = next-small t z s x g in omega arith)) read
+      ∙ ap made (step-carried (cellOf t) x a (a .stage) wish ∙ ap (λ (b : Agent). stepAt (b .stage) (cellOf t) x b wish) read)
+
+  -- what is decided of what is seen of a table, carried out, is the step call
+  pub decided-step : carriedOut t x (decided (seenOf t x) t x wish) ≡ stepOf t x wish
+  unfolding decided stepOf cellOf
+  decided-step = go (told (sound (cellOf t))) (told (member (t .given) x))
+    where
+      go : Told (sound (cellOf t)) → Told (member (t .given) x) → carriedOut t x (decided (seenOf t x) t x wish) ≡ stepOf t x wish
+      go (nay s) _ = rw s (turned 10)
+      go (yea s) (nay g) = rw (s, g) (turned 11)
+      go (yea s) (yea g) = rw (s, g) (stepped s g)

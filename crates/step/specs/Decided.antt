@@ -1,24 +1,26 @@
--- What a decision makes of a table, and when it is the step's.
-use Prim.Native.Nat.{ℕ, _%_, _<_}
-use mathlib.Core.Path.{_≡_}
+-- What a call does to a cell: the decision, of what was seen of the cell, and what it makes of a table.
+use Prim.Native.Nat.{ℕ, _%_}
 use mathlib.Core.Bool.{true, false, cond}
 use mathlib.Core.List.{List}
+use lib.Dec.{eqb}
 use lib.ListN.{getD, set}
-use Rattle.table.specs.Cell.{noAgent, cellOf}
-use Rattle.table.specs.Bounds.{Sized}
+use Rattle.sets.specs.Set.{member}
+use Rattle.table.specs.Base.{tab, upd}
+use Rattle.table.specs.Cell.{none}
 use Rattle.table.specs.declared.Agent.{Agent}
 use Rattle.table.specs.declared.Cell.{Cell}
-use Rattle.soundness.specs.Seen.{seenOf}
 use Rattle.soundness.specs.declared.sound.Seen.{Seen}
+use Rattle.meaning.specs.declared.Word.the-variants.{Took, Held}
 use Rattle.meaning.specs.declared.Answer.{Answer}
-use Rattle.meaning.specs.declared.Answer.the-variants.{Refused}
+use Rattle.meaning.specs.declared.Answer.the-variants.{Did, Refused}
 use Rattle.meaning.specs.declared.Stepped.{Stepped}
-use Rattle.meaning.specs.Run.{made, stepOf}
+use Rattle.meaning.specs.Update.{atStage, released}
 use Rattle.moves.specs.Motions.{moved}
 use Rattle.moves.specs.declared.Motion.{Motion}
 use Rattle.moves.specs.declared.Motion.the-variants.{Dissolve}
-use Rattle.stages.specs.Says.{carried}
+use Rattle.stages.specs.Changes.{landOf, changeAt}
 use Rattle.stages.specs.declared.Change.{Change}
+use Rattle.stages.specs.declared.Change.the-variants.{Still, Turn, Take, Release, Move}
 use Rattle.step.specs.declared.Decision.{Decision}
 
 -- ---- decisions
@@ -31,6 +33,25 @@ staying a ls answer = record { moves = false; motion = Dissolve; agent = a; lock
 abbrev pub going : Motion → Agent → List ℕ → Decision
 going m a ls = record { moves = true; motion = m; agent = a; locks = ls; answer = Refused 11 }
 
+-- what a change of agent x makes of the agent, which is a, and of the locks
+abbrev pub settling : Change → ℕ → Agent → List ℕ → Decision
+settling (Still w) x a ls = staying a ls (Did w 0)
+settling (Turn stage remembered w) x a ls = staying (atStage a stage remembered 0) ls (Did w 0)
+settling (Take q stage remembered chosen) x a ls =
+    cond (eqb (getD ls q 0) none) (staying (atStage a stage remembered chosen) (tab (upd (λ j. getD ls j 0) q x) 64 0) (Did Took 0))
+    (staying a ls (Did Held 0))
+settling (Release p q stage remembered w) x a ls =
+    staying (atStage a stage remembered 0) (tab (released (λ j. getD ls j 0) p q) 64 0) (Did w 0)
+settling (Move m) x a ls = going m a ls
+
+-- what a call does to a table of which this was seen: refusal 10, then 11, then the change of the agent's stage
+unfoldable pub decided : Seen → Cell → ℕ → ℕ → Decision
+decided s t x wish =
+    cond (s .sound)
+    (cond (member (t .given) x) (settling (changeAt (s .agent .stage) (landOf (t .places) (t .used)) (s .agent) wish) x (s .agent) (t .locks))
+    (staying (s .agent) (t .locks) (Refused 11)))
+    (staying (s .agent) (t .locks) (Refused 10))
+
 -- ---- carried out
 
 -- agent x of the table is a, and its locks are ls; past 63 agents are numbered from 0 again
@@ -40,14 +61,3 @@ settled t x a ls = record { places = t .places; locks = ls; agents = set (t .age
 -- what a decision for agent x makes of a table
 unfoldable pub carriedOut : Cell → ℕ → Decision → Stepped
 carriedOut t x d = cond (d .moves) (moved t x (d .agent) (d .motion)) (record { cell = settled t x (d .agent) (d .locks); answer = d .answer })
-
--- ---- what is promised
-
--- of a table of which this was seen, the decision makes what the step call makes
-abbrev pub Decides : Seen → Cell → ℕ → ℕ → Decision → Type 0
-Decides s t x w d = s ≡ seenOf t x → carriedOut t x d ≡ stepOf t x w
-
--- in every table that has this agent x and these locks, the decision makes what the change makes
-abbrev pub Settles : Change → ℕ → Agent → List ℕ → Decision → Type 0
-Settles k x a ls d = (t : Cell) → Sized t → x < 64 → a .next < 255 → a ≡ getD (t .agents) x noAgent → ls ≡ t .locks
-    → carriedOut t x d ≡ made (carried (cellOf t) x a k)

@@ -9,8 +9,7 @@ use denote.Builtin.{bool}
 use denote.Struct.Laws as LL
 use denote.Enum.Laws as EL
 use Rattle.table.specs.declared.Cell.{Cell}
-use Rattle.table.specs.Cell.{cellOf}
-use Rattle.table.specs.Sound.{sound}
+use Rattle.keeper.specs.Known.{knownIdle, told-truly}
 use Rattle.soundness.specs.declared.sound.Seen.{Seen}
 use Rattle.soundness.proofs.sound.Seen as Seen′
 use Rattle.soundness.proofs.sound.Seen.Laws as seen-laws
@@ -61,14 +60,14 @@ module _ {M : Type 1} (𝓤 : URA M) (H : Heap 𝓤) (A : Atoms 𝓤) (W : Given
           -- [a share of the cell; the open borrow; the fractured borrow; res; _4 at 4; _3; _2; _1; _0 at 12]
           assigns ! (of-opd ! (load ! (from ! (hop ! (look ! 10 refl) (stop !))) (look-raw ! 0 refl))) (from ! (stop !)) (init ! 4 refl (is-typed 𝓤 H A W h was .0)) $
           shut ! tt q′ h was b o $ use0 W (raw (Idles .pre (to-idled (s .sound)))) (goes-idled (s .sound) was) $
-          called ! fm idles.ended (idles.clauses 𝓤 H A at-mem run) known-idled (to-idled (s .sound)) (λ r ws. s .sound ≡ sound (cellOf h) → r ≡ idleOf h) (λ r ws. id⊢ 𝓤 _)
+          called ! fm idles.ended (idles.clauses 𝓤 H A at-mem run) known-idled (to-idled (s .sound)) (λ r ws. r ≡ knownIdle (s .sound) h) (λ r ws. id⊢ 𝓤 _)
           (and-then ! (load ! (from ! (fld ! refl (stop !))) (look-in ! 8 (sub ! 0 refl (whole !)))) (and-then ! (load ! (from ! (stop !)) (look ! 4 refl)) (no-more !))) (λ u r ws e′ is′.
           -- [what r owns; …; …; the token; the fractured borrow; res; _4 at 6; _3; _2; _1; _0 at 14]
           land ! (from ! (stop !)) (init ! 8 refl (EL.lawful Idled′.the-type idled-laws.the-laws 𝓤 H A W tt .typed r _ is′ .0)) $
           applied ! fm Idled′.the-row u64 idleNumber known-number r u (and-then ! (load ! (from ! (stop !)) (look ! 8 refl)) (no-more !)) (λ v′ y e″ is″.
           land ! (from ! (stop !)) (init ! 14 refl (uint-lawful 𝓤 H A W w64 .typed y _ is″ .0)) $ returns ! (look ! 14 refl) $ forget ! 6 refl $ forget ! 8 refl $ forget ! 10 refl $ forget ! 12 refl $ forget ! 14 refl $
           move ! (14 ∷ 15 ∷ 12 ∷ 13 ∷ 10 ∷ 11 ∷ 8 ∷ 9 ∷ 6 ∷ 7 ∷ []) $ freed ! $ keep ! (3 ∷ 5 ∷ 4 ∷ 0 ∷ []) $
-          by ! (exits 𝓤 H A W ask κ q b o γ h y v′ (e″ ∙ ap idleNumber (e′ (ap (λ (z : Seen). z .sound) e)))))))))))))
+          by ! (exits 𝓤 H A W ask κ q b o γ h y v′ (e″ ∙ ap idleNumber (e′ ∙ told-truly h (s .sound) (ap (λ (z : Seen). z .sound) e)))))))))))))
 
 pub keeper-idle-spec : {M : Type 1} → statement M
 unfolding code.routine

@@ -19,12 +19,15 @@ use Rattle.meaning.proofs.Answer.Laws as answer
 use Rattle.soundness.specs.declared.sound.Seen.{Seen}
 use Rattle.step.specs.declared.Decision.{Decision}
 use Rattle.moves.specs.Motions.{moved}
-use Rattle.step.specs.Decided.{carriedOut, Decides}
+use Rattle.soundness.specs.Seen.{seenOf}
+use Rattle.step.specs.Decided.{decided, carriedOut}
+use Rattle.step.specs.CarryLaws.{decided-step}
+use Rattle.table.proofs.Facts.{sized}
 use Rattle.soundness.proofs.sound.Seen as Seen′
 use Rattle.soundness.proofs.sound.Seen.Laws as seen-laws
 use Rattle.step.proofs.Decision as Decision′
 use Rattle.step.proofs.Decision.Laws as decision-laws
-use Rattle.step.proofs.decide as decides
+use Rattle.step.proofs.decide as deciding
 use Rattle.step.proofs.decide.Symbol as decide-def
 use Rattle.step.proofs.decide.Met as decide-thm
 use Rattle.step.proofs.carry_out as carries
@@ -73,7 +76,7 @@ unmoved c x d e = ap (λ (y : Bool). cond y (moved c x (d .agent) (d .motion)) (
 
 module _ {M : Type 1} (𝓤 : URA M) (H : Heap 𝓤) (A : Atoms 𝓤) (W : Given 𝓤 H A) (at-mem : Memory → SProp 𝓤) (run : Routine → Fun 𝓤) where
   abbrev Decide : Contract 𝓤
-  Decide = tripleOf 𝓤 H A decides.signature (decides.spec 𝓤 H A at-mem run)
+  Decide = tripleOf 𝓤 H A deciding.signature (deciding.spec 𝓤 H A at-mem run)
 
   abbrev Carry : Contract 𝓤
   Carry = tripleOf 𝓤 H A carries.signature (carries.spec 𝓤 H A at-mem run)
@@ -113,6 +116,10 @@ module _ {M : Type 1} (𝓤 : URA M) (H : Heap 𝓤) (A : Atoms 𝓤) (W : Given
         nothing ! $ owned ! Decision′.the-row (Is Decision′.the-row) (LL.makes Decision′.the-type decision-laws.the-plain 𝓤 H A) d _ is $ fjoin ! $
         owned ! u8 (Is u8) (uint-makes 𝓤 H A W w8) m _ (refl, m-fits) $ fjoin ! $ had ! h was $ fjoin ! $ nothing ! $ join ! $ nothing ! $ move ! (1 ∷ 0 ∷ []) $ join ! $ done !
 
+    -- what was decided of what was seen is the step
+    decides : (s : Seen) (d : Decision) → Is R h (mach h) → s ≡ seenOf h m → d ≡ decided s h m n → carriedOut h m d ≡ stepOf h m n
+    decides s d was e e′ = ap (carriedOut h m) (e′ ∙ ap (λ (z : Seen). decided z h m n) e) ∙ decided-step h (sized h was) m n
+
     -- a step in which nothing moves
     abbrev settles : Decision → ℕ → Stepped
     settles d k = record { cell = placed h k (d .agent) (d .locks); answer = d .answer }
@@ -133,7 +140,7 @@ module _ {M : Type 1} (𝓤 : URA M) (H : Heap 𝓤) (A : Atoms 𝓤) (W : Given
           land ! (from ! (stop !)) (init ! 24 refl (LL.lawful Seen′.the-type seen-laws.the-laws 𝓤 H A W .typed s _ is .0)) $
           assigns ! (of-opd ! (load ! (from ! (hop ! (look ! 30 refl) (stop !))) (look-raw ! 0 refl))) (from ! (stop !)) (init ! 14 refl (is-typed 𝓤 H A W h was .0)) $
           use0 W (raw (Decide .pre (to-decide s u))) (goes-decide s u was is) $
-          called ! fm decides.ended (decides.clauses 𝓤 H A at-mem run) known-decide (to-decide s u) (λ d ws. Decides s h m n d) (λ d ws. id⊢ 𝓤 _)
+          called ! fm deciding.ended (deciding.clauses 𝓤 H A at-mem run) known-decide (to-decide s u) (λ d ws. d ≡ decided s h m n) (λ d ws. id⊢ 𝓤 _)
           (and-then ! (load ! (from ! (stop !)) (look ! 25 refl)) (and-then ! (load ! (from ! (stop !)) (look ! 15 refl)) (and-then ! (load ! (from ! (stop !)) (look ! 29 refl)) (and-then ! (load ! (from ! (stop !)) (look ! 27 refl)) (no-more !))))) (λ w d ws e′ is′. drop ! $ drop ! $ drop ! $
           land ! (from ! (stop !)) (init ! 22 refl (LL.lawful Decision′.the-type decision-laws.the-laws 𝓤 H A W .typed d _ is′ .0)) $
           rewrite ! 22 (λ (z : Val). ‵ (fat fullShare decision-laws.mir l₅ 0 z)) (ap only (LL.tells Decision′.the-type decision-laws.the-laws d _ is′)) refl $
@@ -149,7 +156,7 @@ module _ {M : Type 1} (𝓤 : URA M) (H : Heap 𝓤) (A : Atoms 𝓤) (W : Given
           -- [obs; the borrow; the token; what y owns; _6; _1; _0; _14 at 7 and its end; …; _7; the end of _6 at 23; _5 at 24; …; _2; the ends of _1 and _0]
           returns-within ! Post refl (look ! 6 refl) $ forget ! 4 refl $ forget ! 5 refl $ forget ! 6 refl $ forget ! 13 refl $ forget ! 15 refl $ forget ! 17 refl $ forget ! 19 refl $ forget ! 24 refl $ forget ! 26 refl $ forget ! 28 refl $ forget ! 30 refl $
           move ! (6 ∷ 33 ∷ 5 ∷ 32 ∷ 30 ∷ 31 ∷ 28 ∷ 29 ∷ 26 ∷ 27 ∷ 24 ∷ 25 ∷ 4 ∷ 23 ∷ 21 ∷ 22 ∷ 19 ∷ 20 ∷ 17 ∷ 18 ∷ 15 ∷ 16 ∷ 13 ∷ 14 ∷ 11 ∷ 12 ∷ 9 ∷ 10 ∷ 7 ∷ 8 ∷ []) $
-          freed ! $ by ! (exits r y v′ (e″ ∙ e′ e) e‴))))
+          freed ! $ by ! (exits r y v′ (e″ ∙ decides s d was e e′) e‴))))
           -- none does: the agent and the locks are stored in place
           (λ stays.
           owned ! u8 (Is u8) (uint-makes 𝓤 H A W w8) m _ (refl, m-fits) $ applied ! fm u8 usize (λ z. z % 64) known-at m (vint w8 m) (and-then ! (load ! (from ! (stop !)) (look ! 29 refl)) (no-more !)) (λ v k e″ is″. drop ! $
@@ -161,7 +168,7 @@ module _ {M : Type 1} (𝓤 : URA M) (H : Heap 𝓤) (A : Atoms 𝓤) (W : Given
           -- [obs; the borrow; the token; what y owns; _5; _14; _1; _0; the end of _14 at 8; _13 at 9; …; _6; the end of _5 at 25; _4 at 26; …; _2; the ends of _1 and _0]
           returns ! (look ! 7 refl) $ forget ! 4 refl $ forget ! 5 refl $ forget ! 6 refl $ forget ! 7 refl $ forget ! 9 refl $ forget ! 11 refl $ forget ! 15 refl $ forget ! 17 refl $ forget ! 19 refl $ forget ! 21 refl $ forget ! 26 refl $ forget ! 28 refl $ forget ! 30 refl $
           move ! (7 ∷ 33 ∷ 6 ∷ 32 ∷ 30 ∷ 31 ∷ 28 ∷ 29 ∷ 26 ∷ 27 ∷ 4 ∷ 25 ∷ 23 ∷ 24 ∷ 21 ∷ 22 ∷ 19 ∷ 20 ∷ 17 ∷ 18 ∷ 15 ∷ 16 ∷ 13 ∷ 14 ∷ 11 ∷ 12 ∷ 9 ∷ 10 ∷ 5 ∷ 8 ∷ []) $
-          freed ! $ by ! (exits (settles d k) y v′ (settles-is d k (e′ e) e″ stays) e‴))))))))))))))))))))))
+          freed ! $ by ! (exits (settles d k) y v′ (settles-is d k (decides s d was e e′) e″ stays) e‴))))))))))))))))))))))
 
 pub keeper-step-spec : {M : Type 1} → statement M
 unfolding code.routine

@@ -9,7 +9,7 @@ use borrow.Author.Needs.{needs}
 use Rattle.sets.specs.WalkLaws.{rest-lt, removed-less, rest-start}
 use Rattle.sets.specs.declared.Set.{Set}
 use Rattle.table.specs.Cell.{noPlace}
-use Rattle.stages.specs.Says.{landOf}
+use Rattle.stages.specs.Changes.{landOf}
 use Rattle.stages.specs.ChildLaws.{Unmet, unmet-start, unmet-end, unmet-more}
 use Rattle.updates.specs.UpdateLaws.{positive}
 use Rattle.stages.proofs.choose.unawaited.Statement.{statement}

@@ -6,8 +6,8 @@ use lib.Dec.{eqb}
 use borrow.Author.Needs.{needs}
 use borrow.Author.Tests.{eq-eqb, ne-eqb}
 use Rattle.table.specs.Cell.{nextAction}
-use Rattle.meaning.specs.Step.{act, fires}
-use Rattle.stages.specs.Says.{landOf}
+use Rattle.meaning.specs.Step.{fires}
+use Rattle.stages.specs.Changes.{landOf, acts}
 use Rattle.stages.specs.ChooseLaws.{fires-test}
 use Rattle.updates.specs.UpdateLaws.{kind-test}
 use Rattle.stages.proofs.rules.act.Statement.{statement}
@@ -27,13 +27,13 @@ kind : (m : tie.After-has) (k : ℕ) (b : Bool) → eqb (m .before .before .befo
 kind m k b = kind-test _ _ k b (m .before .before .before .next-action .ensures)
 
 pub act-spec : {M : Type 1} → statement M
-unfolding act
+unfolding acts
 act-spec =
     tie.close
     (tie.spec
     (λ c κs. search needs) (λ c κs. search needs) (λ c κs. search needs) (λ c κs. search needs)
-    (λ c d x. let m = c .before .before .before in rw (sym (fired m) ∙ c .before .before .if1 .taken, kind m 3 true (eq-eqb _ _ (c .if2 .taken))))
-    (λ c d x.
+    (λ c. let m = c .before .before .before in rw (sym (fired m) ∙ c .before .before .if1 .taken, kind m 3 true (eq-eqb _ _ (c .if2 .taken))))
+    (λ c.
     let m = c .before .before .before .before .before in
     rw (
       sym (fired m) ∙ c .before .before .before .before .if1 .taken,
@@ -41,7 +41,7 @@ act-spec =
       kind m 1 true (eq-eqb _ _ (c .if3 .taken)),
     ))
     (λ c κs. search needs)
-    (λ c d x.
+    (λ c.
     let m = c .before .before .before .before .before .before in
     rw (
       sym (fired m) ∙ c .before .before .before .before .before .if1 .taken,
@@ -49,5 +49,5 @@ act-spec =
       kind m 1 false (ne-eqb _ _ (c .before .if3 .left)),
       c .place-at .ensures,
     ))
-    (λ c d x. let m = c .before .before .before in rw (sym (fired m) ∙ c .before .before .if1 .left, kind m 3 true (eq-eqb _ _ (c .if4 .taken))))
-    (λ c d x. let m = c .before .before .before in rw (sym (fired m) ∙ c .before .before .if1 .left, kind m 3 false (ne-eqb _ _ (c .if4 .left)))))
+    (λ c. let m = c .before .before .before in rw (sym (fired m) ∙ c .before .before .if1 .left, kind m 3 true (eq-eqb _ _ (c .if4 .taken))))
+    (λ c. let m = c .before .before .before in rw (sym (fired m) ∙ c .before .before .if1 .left, kind m 3 false (ne-eqb _ _ (c .if4 .left)))))

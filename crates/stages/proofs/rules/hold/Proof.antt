@@ -1,9 +1,8 @@
 -- The test and the choice are those of the meaning, on what was read.
 use mathlib.Core.Path.{_≡_, sym, ap, _∙_}
 use borrow.Author.Needs.{needs}
-use Rattle.meaning.specs.Update.{withLand}
-use Rattle.meaning.specs.Step.{stays, lockSecond, hold}
-use Rattle.stages.specs.Says.{landOf}
+use Rattle.meaning.specs.Step.{stays}
+use Rattle.stages.specs.Changes.{landOf, locksSecond, holds}
 use Rattle.stages.specs.ChooseLaws.{stays-test, choice-test}
 use Rattle.stages.proofs.rules.hold.Statement.{statement}
 use Rattle.stages.proofs.rules.hold.Tie as tie
@@ -18,21 +17,20 @@ stayed m =
     (m .before .before .place-at .ensures)
 
 returns : tie.Need-returns
-unfolding hold
-returns c d x =
+unfolding holds
+returns c =
     let m = c .before .before .before .before in
     let a = m .before .before .before .before .args in
-    let e = withLand d (landOf (a .ps) (a .used)) in
     rw (sym (stayed m) ∙ c .before .before .before .if1 .taken)
-    (c .lock-second .ensures e x
-    ∙ ap (lockSecond e x (a .a)) (choice-test (a .ps) (a .used) (a .a) _ (m .before .before .before .next-action .ensures) _
+    (c .lock-second .ensures
+    ∙ ap (locksSecond (a .a)) (choice-test (a .ps) (a .used) (a .a) _ (m .before .before .before .next-action .ensures) _
     (c .before .before .qualifying .ensures) (a .wish) _ (c .before .choose .ensures)))
 
 pub hold-spec : {M : Type 1} → statement M
-unfolding hold
+unfolding holds
 hold-spec =
     tie.close
     (tie.spec
     (λ c κs. search needs) (λ c κs. search needs) (λ c κs. search needs) (λ c κs. search needs)
     (λ c κs. search needs) (λ c κs. search needs) (λ c κs. search needs)
-    returns (λ c d x. rw (sym (stayed (c .before)) ∙ c .if1 .left)))
+    returns (λ c. rw (sym (stayed (c .before)) ∙ c .if1 .left)))

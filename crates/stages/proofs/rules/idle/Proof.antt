@@ -7,4 +7,4 @@ pub idle-spec : {M : Type 1} → statement M
 idle-spec =
     tie.close
     (tie.spec
-    (λ c d x. rw (eq-eqb _ _ (c .if1 .taken))) (λ c d x. rw (ne-eqb _ _ (c .if1 .left))))
+    (λ c. rw (eq-eqb _ _ (c .if1 .taken))) (λ c. rw (ne-eqb _ _ (c .if1 .left))))

@@ -4,20 +4,20 @@ use mathlib.Core.Bool.{true, false}
 use borrow.Author.Needs.{needs}
 use borrow.Author.Tests.{eq-eqb, ne-eqb}
 use Rattle.table.specs.Cell.{linked}
-use Rattle.meaning.specs.Step.{look}
+use Rattle.stages.specs.Changes.{looks}
 use Rattle.updates.specs.UpdateLaws.{kind-test}
 use Rattle.stages.proofs.rules.look.Statement.{statement}
 use Rattle.stages.proofs.rules.look.Tie as tie
 
 pub look-spec : {M : Type 1} → statement M
-unfolding look linked
+unfolding looks linked
 look-spec =
     tie.close
     (tie.spec
     (λ c κs. search needs)
-    (λ c d x. rw (kind-test _ _ 3 true (c .before .before .next-action .ensures) (eq-eqb _ _ (c .if1 .taken))))
+    (λ c. rw (kind-test _ _ 3 true (c .before .before .next-action .ensures) (eq-eqb _ _ (c .if1 .taken))))
     (λ c κs. search needs) (λ c κs. search needs) (λ c κs. search needs)
-    (λ c d x.
+    (λ c.
     let t = c .before .before .before .before in
     rw (
       kind-test _ _ 3 false (t .before .before .next-action .ensures) (ne-eqb _ _ (t .if1 .left)),
@@ -25,7 +25,7 @@ look-spec =
       ← c .before .before .has .ensures,
       sym (c .before .linked .ensures) ∙ c .if2 .taken,
     ))
-    (λ c d x.
+    (λ c.
     let t = c .before .before .before .before in
     rw (
       kind-test _ _ 3 false (t .before .before .next-action .ensures) (ne-eqb _ _ (t .if1 .left)),

@@ -1,16 +1,16 @@
 -- The tests of the meaning, in order.
 use borrow.Author.Needs.{needs}
 use borrow.Author.Tests.{eq-eqb, ne-eqb}
-use Rattle.meaning.specs.Step.{travel}
+use Rattle.stages.specs.Changes.{travels}
 use Rattle.stages.proofs.rules.travel.Statement.{statement}
 use Rattle.stages.proofs.rules.travel.Tie as tie
 
 pub travel-spec : {M : Type 1} → statement M
-unfolding travel
+unfolding travels
 travel-spec =
     tie.close
     (tie.spec
-    (λ c d x. rw (eq-eqb _ _ (c .if1 .taken)))
+    (λ c. rw (eq-eqb _ _ (c .if1 .taken)))
     (λ c κs. search needs)
-    (λ c d x. rw (ne-eqb _ _ (c .before .before .before .if1 .left), eq-eqb _ _ (c .if2 .taken), c .before .before .place-at .ensures))
-    (λ c d x. rw (ne-eqb _ _ (c .before .before .before .if1 .left), ne-eqb _ _ (c .if2 .left), c .before .before .place-at .ensures)))
+    (λ c. rw (ne-eqb _ _ (c .before .before .before .if1 .left), eq-eqb _ _ (c .if2 .taken), c .before .before .place-at .ensures))
+    (λ c. rw (ne-eqb _ _ (c .before .before .before .if1 .left), ne-eqb _ _ (c .if2 .left), c .before .before .place-at .ensures)))

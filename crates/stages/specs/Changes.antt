@@ -1,0 +1,86 @@
+-- What each stage's step changes (document 01, "One step"), as a small change: the code answers these, and carried out on a cell they are
+-- the steps of the meaning (ChangeLaws).
+use Prim.Native.Nat.{ℕ}
+use mathlib.Core.Bool.{Bool, _&&_, cond}
+use mathlib.Core.List.{List}
+use lib.Dec.{ltb, leb, eqb}
+use lib.ListN.{getD}
+use Rattle.sets.specs.Set.{member}
+use Rattle.sets.specs.declared.Set.{Set}
+use Rattle.table.specs.Cell.{Land, State, noPlace, linked, linkedTo, kindOf}
+use Rattle.table.specs.Sound.{secondPlace}
+use Rattle.table.specs.declared.Place.{Place}
+use Rattle.table.specs.declared.Agent.{Agent}
+use Rattle.meaning.specs.declared.Word.the-variants.{Looked, Back, Slept, Asleep, Done}
+use Rattle.meaning.specs.Update.{atStage}
+use Rattle.meaning.specs.Step.{Outcome, named, choice, stays, fires, destinationOf, still, turn, take, release}
+use Rattle.moves.specs.Motions.{shifted}
+use Rattle.moves.specs.declared.Motion.the-variants.{Leave, Arrive, Dissolve}
+use Rattle.stages.specs.declared.Change.{Change}
+use Rattle.stages.specs.declared.Change.the-variants.{Still, Turn, Take, Release, Move}
+
+-- the land of a table's places and the set of those in use
+abbrev pub landOf : List Place → Set → Land
+landOf ps used = record { place = λ q. getD ps q noPlace; used = member used }
+
+-- q is a place linked to p and named n
+abbrev pub childNamed : Land → ℕ → ℕ → ℕ → Bool
+childNamed l p n q = linkedTo l q p && named l q n
+
+-- what a change of agent x, which is a, makes of a cell
+abbrev pub carried : State → ℕ → Agent → Change → Outcome
+carried c x a (Still w) = still c w
+carried c x a (Turn stage remembered w) = turn c x (atStage a stage remembered 0) w
+carried c x a (Take q stage remembered chosen) = take c x q (atStage a stage remembered chosen)
+carried c x a (Release p q stage remembered w) = release c x p q (atStage a stage remembered 0) w
+carried c x a (Move m) = shifted c x a m
+
+-- ---- the stages
+
+-- stage 0, looking
+unfoldable pub looks : Land → Agent → Change
+looks l a =
+    cond (eqb (kindOf a) 3) (Turn 1 (a .home) Looked)
+    (cond (linked l (a .home)) (Turn 1 (l .place (a .home) .parent) Looked)
+    (Turn 7 (a .home) Slept))
+
+-- stage 1, found
+abbrev pub locksFirst : Agent → Change
+locksFirst a = Take (a .remembered) 2 (a .remembered) 0
+
+-- stage 2, holding p, with the choice q
+unfoldable pub locksSecond : Agent → ℕ → Change
+locksSecond a q =
+    cond (ltb q 64) (Take (secondPlace (kindOf a) (a .home) q) 3 (a .remembered) (cond (eqb (kindOf a) 2) 0 q))
+    (Release (a .remembered) (a .remembered) 7 (a .remembered) Slept)
+
+-- stage 2, holding p
+unfoldable pub holds : Land → Agent → ℕ → Change
+holds l a wish = cond (stays l a) (locksSecond a (choice l a wish)) (Release (a .remembered) (a .remembered) 0 0 Back)
+
+-- stage 3, holding both
+unfoldable pub acts : Land → Agent → Change
+acts l a =
+    cond (fires l a) (cond (eqb (kindOf a) 3) (Move Dissolve) (Move (Leave (destinationOf l a))))
+    (Release (a .remembered) (secondPlace (kindOf a) (a .home) (a .chosen)) 0 0 Back)
+
+-- stages 4 to 6, on its way
+unfoldable pub travels : Land → Agent → Change
+travels l a =
+    cond (eqb (a .stage) 4) (Take (a .home) 5 0 0)
+    (cond (eqb (a .stage) 5) (Take (l .place (a .home) .parent) 6 0 0)
+    (Move (Arrive (l .place (a .home) .parent))))
+
+-- stages 7 and 8, asleep and done
+abbrev pub idles : ℕ → Change
+idles stage = cond (eqb stage 7) (Still Asleep) (Still Done)
+
+-- "The agent's stage, a number from 0 to 8, decides the step"
+unfoldable pub changeAt : ℕ → Land → Agent → ℕ → Change
+changeAt stage l a wish =
+    cond (eqb stage 0) (looks l a)
+    (cond (eqb stage 1) (locksFirst a)
+    (cond (eqb stage 2) (holds l a wish)
+    (cond (eqb stage 3) (acts l a)
+    (cond (leb stage 6) (travels l a)
+    (idles stage)))))
