@@ -6,15 +6,6 @@ use borrow.Author.Needs.{needs}
 use Rattle.table.proofs.bare.Statement.{statement}
 use Rattle.table.proofs.bare.Tie as tie
 
-no-place-requires : tie.Need-no-place-requires
-no-place-requires c κs = search needs
-
-array-set-from-ps : tie.Need-array-set-from-ps
-array-set-from-ps c = search needs
-
-fresh-agent-requires : tie.Need-fresh-agent-requires
-fresh-agent-requires c κs = search needs
-
 returns : tie.Need-returns
 unfolding bareTable
 returns c = λ i. record {
@@ -26,4 +17,4 @@ returns c = λ i. record {
 }
 
 pub bare-spec : {M : Type 1} → statement M
-bare-spec = tie.close (tie.spec no-place-requires array-set-from-ps fresh-agent-requires returns)
+bare-spec = tie.close (tie.spec (λ c κs. search needs) (λ c. search needs) (λ c κs. search needs) returns)

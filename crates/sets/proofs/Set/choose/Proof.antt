@@ -4,19 +4,11 @@ use borrow.Author.Needs.{needs}
 use Rattle.sets.proofs.Set.choose.Statement.{statement}
 use Rattle.sets.proofs.Set.choose.Tie as tie
 
-has-requires : tie.Need-has-requires
-has-requires c κs = search needs
-
-first-requires : tie.Need-first-requires
-first-requires c κs = search needs
-
-returns : tie.Need-returns
-unfolding chosenOf
-returns c = rw (← c .before .has .ensures, c .if1 .taken)
-
-returns-2 : tie.Need-returns-2
-unfolding chosenOf
-returns-2 c = rw (← c .before .before .has .ensures, c .before .if1 .left) (c .first .ensures)
-
 pub choose-spec : {M : Type 1} → statement M
-choose-spec = tie.close (tie.spec has-requires first-requires returns returns-2)
+unfolding chosenOf
+choose-spec =
+    tie.close
+    (tie.spec
+    (λ c κs. search needs) (λ c κs. search needs)
+    (λ c. rw (← c .before .has .ensures, c .if1 .taken))
+    (λ c. rw (← c .before .before .has .ensures, c .before .if1 .left) (c .first .ensures)))

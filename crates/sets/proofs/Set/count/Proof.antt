@@ -4,8 +4,5 @@ use Rattle.sets.specs.WordLaws.{ones-has}
 use Rattle.sets.proofs.Set.count.Statement.{statement}
 use Rattle.sets.proofs.Set.count.Tie as tie
 
-returns : tie.Need-returns
-returns c = ones-has 64 (c .before .args .self .bits) (search needs)
-
 pub count-spec : {M : Type 1} → statement M
-count-spec = tie.close (tie.spec returns)
+count-spec = tie.close (tie.spec (λ c. ones-has 64 (c .before .args .self .bits) (search needs)))

@@ -6,14 +6,10 @@ use borrow.Author.Needs.{needs}
 use Rattle.sets.proofs.Set.first.Statement.{statement}
 use Rattle.sets.proofs.Set.first.Tie as tie
 
-lowest-requires : tie.Need-lowest-requires
-lowest-requires c κs = search needs
-
-cast-result : tie.Need-cast-result
-cast-result c = omega (arith, c .lowest .ensures, lowest-le 64 (has (c .before .args .self .bits)))
-
-returns : tie.Need-returns
-returns c = c .lowest .ensures
-
 pub first-spec : {M : Type 1} → statement M
-first-spec = tie.close (tie.spec lowest-requires cast-result returns)
+first-spec =
+    tie.close
+    (tie.spec
+    (λ c κs. search needs)
+    (λ c. omega (arith, c .lowest .ensures, lowest-le 64 (has (c .before .args .self .bits))))
+    (λ c. c .lowest .ensures))

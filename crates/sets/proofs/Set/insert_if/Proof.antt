@@ -3,14 +3,8 @@ use borrow.Author.Needs.{needs}
 use Rattle.sets.proofs.Set.insert_if.Statement.{statement}
 use Rattle.sets.proofs.Set.insert_if.Tie as tie
 
-insert-requires : tie.Need-insert-requires
-insert-requires c κs = search needs
-
-returns : tie.Need-returns
-returns c = rw (c .before .if1 .taken) (c .insert .ensures)
-
-returns-2 : tie.Need-returns-2
-returns-2 c = search needs
-
 pub insert-if-spec : {M : Type 1} → statement M
-insert-if-spec = tie.close (tie.spec insert-requires returns returns-2)
+insert-if-spec =
+    tie.close
+    (tie.spec
+    (λ c κs. search needs) (λ c. rw (c .before .if1 .taken) (c .insert .ensures)) (λ c. search needs))

@@ -6,23 +6,14 @@ use borrow.Author.Needs.{needs}
 use Rattle.sets.proofs.Set.remove.Statement.{statement}
 use Rattle.sets.proofs.Set.remove.Tie as tie
 
-has-requires : tie.Need-has-requires
-has-requires c κs = search needs
-
-shl-t8 : tie.Need-shl-t8
-shl-t8 c = search needs
-
-returns : tie.Need-returns
-returns c = let a = c .before .before .before .before .args in
-    set-eq (xor-removed (a .self) (a .i) (search needs) (c .before .before .before .if1 .taken) (sym (c .before .before .has .ensures) ∙ c .before .if2 .taken))
-
-returns-2 : tie.Need-returns-2
-returns-2 c = let a = c .before .before .before .args in
-    removed-none (a .self) (a .i) (search needs) (sym (c .before .has .ensures) ∙ c .if2 .left)
-
-returns-3 : tie.Need-returns-3
-returns-3 c = let a = c .before .args in
-    removed-none (a .self) (a .i) (search needs) (has-past 64 (a .self .bits) (a .i) (search needs) (c .if1 .left))
-
 pub remove-spec : {M : Type 1} → statement M
-remove-spec = tie.close (tie.spec has-requires shl-t8 returns returns-2 returns-3)
+remove-spec =
+    tie.close
+    (tie.spec
+    (λ c κs. search needs) (λ c. search needs)
+    (λ c.
+    let a = c .before .before .before .before .args in
+    set-eq (xor-removed (a .self) (a .i) (search needs) (c .before .before .before .if1 .taken)
+    (sym (c .before .before .has .ensures) ∙ c .before .if2 .taken)))
+    (λ c. let a = c .before .before .before .args in removed-none (a .self) (a .i) (search needs) (sym (c .before .has .ensures) ∙ c .if2 .left))
+    (λ c. let a = c .before .args in removed-none (a .self) (a .i) (search needs) (has-past 64 (a .self .bits) (a .i) (search needs) (c .if1 .left))))

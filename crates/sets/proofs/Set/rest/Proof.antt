@@ -6,14 +6,10 @@ use borrow.Author.Needs.{needs}
 use Rattle.sets.proofs.Set.rest.Statement.{statement}
 use Rattle.sets.proofs.Set.rest.Tie as tie
 
-sub-t4 : tie.Need-sub-t4
-sub-t4 c = omega arith
-
-returns : tie.Need-returns
-returns c = removed-empty (c .before .before .args .self) (c .if1 .taken)
-
-returns-2 : tie.Need-returns-2
-returns-2 c = set-eq (and-removed (c .before .before .before .before .args .self) (search needs) (omega arith))
-
 pub rest-spec : {M : Type 1} → statement M
-rest-spec = tie.close (tie.spec sub-t4 returns returns-2)
+rest-spec =
+    tie.close
+    (tie.spec
+    (λ c. omega arith)
+    (λ c. removed-empty (c .before .before .args .self) (c .if1 .taken))
+    (λ c. set-eq (and-removed (c .before .before .before .before .args .self) (search needs) (omega arith))))

@@ -21,108 +21,81 @@ abbrev μ-loop : tie.MeasureT-loop
 below : {n m : ℕ} → n ≤ m → (n ≡ m → ⊥) → n < m
 below l h = omega arith
 
-returns : tie.Need-returns Inv-loop μ-loop
-returns c = (row-crossed (c .before .args .t1) (c .if1 .taken), (λ e. absurd (false≢true e)))
-
-returns-2 : tie.Need-returns-2 Inv-loop μ-loop
-returns-2 c = (row-long (c .before .before .args .t1) (c .before .if1 .left) (c .if2 .taken), (λ e. absurd (false≢true e)))
-
 returns-3 : tie.Need-returns-3 Inv-loop μ-loop
-returns-3 c = let a = c .before .before .before .args .t1 in
-    let e = c .if3 .taken in
-    (row-end a (c .before .before .if1 .left) (c .before .if2 .left) (a .next) (omega arith) (c .before .before .if1 .left) (row-start a (c .before .before .if1 .left) (c .before .if2 .left)), λ _. sym (kind-none a (omega arith)))
-
-cast-first : tie.Need-cast-first Inv-loop μ-loop
-cast-first c = omega arith
-
-mul-kind : tie.Need-mul-kind Inv-loop μ-loop
-mul-kind c = omega arith
-
-element-copy-out-kind : tie.Need-element-copy-out-kind Inv-loop μ-loop
-element-copy-out-kind c = omega arith
+returns-3 c =
+    let a = c .before .before .before .args .t1 in
+    let e = c .if3 .taken in (
+      row-end a (c .before .before .if1 .left) (c .before .if2 .left) (a .next) (omega arith) (c .before .before .if1 .left)
+          (row-start a (c .before .before .if1 .left) (c .before .if2 .left)),
+      λ _. sym (kind-none a (omega arith)),
+    )
 
 loop-holds : tie.Need-loop-holds Inv-loop μ-loop
-loop-holds c = let a = c .before .before .before .args .t1 in
+loop-holds c =
+    let a = c .before .before .before .args .t1 in
     (omega arith, (c .before .before .if1 .left, row-start a (c .before .before .if1 .left) (c .before .if2 .left)))
 
-cast-k : tie.Need-cast-k Inv-loop μ-loop
-cast-k c = omega arith
-
-mul-this : tie.Need-mul-this Inv-loop μ-loop
-mul-this c = omega arith
-
-element-copy-out-this : tie.Need-element-copy-out-this Inv-loop μ-loop
-element-copy-out-this c = omega arith
-
 returns-4 : tie.Need-returns-4 Inv-loop μ-loop
-returns-4 c = let l = c .before .before in
+returns-4 c =
+    let l = c .before .before in
     let a = l .before .before .before .before .args .t1 in
-    let x = getD (a .actions) (l .loop .j) noAction in
-    (row-stop a (l .before .before .before .if1 .left) (l .before .before .if2 .left) (l .loop .j) (l .loop .inv .0) (c .before .loop-test .taken) (rw (lt-leb 1 (x .kind) (c .if4 .taken))), (λ e. absurd (false≢true e)))
+    let x = getD (a .actions) (l .loop .j) noAction in (
+      row-stop a (l .before .before .before .if1 .left) (l .before .before .if2 .left) (l .loop .j) (l .loop .inv .0) (c .before .loop-test .taken)
+          (rw (lt-leb 1 (x .kind) (c .if4 .taken))),
+      (λ e. absurd (false≢true e)),
+    )
 
 returns-5 : tie.Need-returns-5 Inv-loop μ-loop
-returns-5 c = let l = c .before .before .before in
+returns-5 c =
+    let l = c .before .before .before in
     let a = l .before .before .before .before .args .t1 in
-    let x = getD (a .actions) (l .loop .j) noAction in
-    (row-stop a (l .before .before .before .if1 .left) (l .before .before .if2 .left) (l .loop .j) (l .loop .inv .0) (c .before .before .loop-test .taken) (rw (le-leb 1 (x .kind) (c .before .if4 .left), lt-leb (x .kind) 3 (c .if5 .taken))), (λ e. absurd (false≢true e)))
-
-mul-name : tie.Need-mul-name Inv-loop μ-loop
-mul-name c = omega arith
-
-element-copy-out-name : tie.Need-element-copy-out-name Inv-loop μ-loop
-element-copy-out-name c = omega arith
+    let x = getD (a .actions) (l .loop .j) noAction in (
+      row-stop a (l .before .before .before .if1 .left) (l .before .before .if2 .left) (l .loop .j) (l .loop .inv .0)
+          (c .before .before .loop-test .taken) (rw (le-leb 1 (x .kind) (c .before .if4 .left), lt-leb (x .kind) 3 (c .if5 .taken))),
+      (λ e. absurd (false≢true e)),
+    )
 
 returns-6 : tie.Need-returns-6 Inv-loop μ-loop
-returns-6 c = let l = c .before .before .before .before in
+returns-6 c =
+    let l = c .before .before .before .before in
     let a = l .before .before .before .before .args .t1 in
-    let x = getD (a .actions) (l .loop .j) noAction in
-    (row-stop a (l .before .before .before .if1 .left) (l .before .before .if2 .left) (l .loop .j) (l .loop .inv .0) (c .before .before .before .loop-test .taken) (rw (le-leb 1 (x .kind) (c .before .before .if4 .left), le-leb (x .kind) 3 (c .before .if5 .left), lt-leb 1 (x .name) (c .if6 .taken))), (λ e. absurd (false≢true e)))
-
-add-j : tie.Need-add-j Inv-loop μ-loop
-add-j c = omega arith
-
-loop-less : tie.Need-loop-less Inv-loop μ-loop
-loop-less c = omega arith
+    let x = getD (a .actions) (l .loop .j) noAction in (
+      row-stop a (l .before .before .before .if1 .left) (l .before .before .if2 .left) (l .loop .j) (l .loop .inv .0)
+          (c .before .before .before .loop-test .taken)
+          (rw (le-leb 1 (x .kind) (c .before .before .if4 .left), le-leb (x .kind) 3 (c .before .if5 .left), lt-leb 1 (x .name) (c .if6 .taken))),
+      (λ e. absurd (false≢true e)),
+    )
 
 loop-again : tie.Need-loop-again Inv-loop μ-loop
-loop-again c = let l = c .before .before .before .before in
+loop-again c =
+    let l = c .before .before .before .before in
     let a = l .before .before .before .before .args .t1 in
     let x = getD (a .actions) (l .loop .j) noAction in (
       omega arith,
       (
         omega arith,
-        row-more a (l .before .before .before .if1 .left) (l .before .before .if2 .left) (l .loop .j) (l .loop .inv .0) (c .before .before .before .loop-test .taken) (l .loop .inv .1 .1)
+        row-more a (l .before .before .before .if1 .left) (l .before .before .if2 .left) (l .loop .j) (l .loop .inv .0)
+            (c .before .before .before .loop-test .taken) (l .loop .inv .1 .1)
             (rw (le-leb 1 (x .kind) (c .before .before .if4 .left), le-leb (x .kind) 3 (c .before .if5 .left), le-leb 1 (x .name) (c .if6 .left))),
       ),
     )
 
 returns-7 : tie.Need-returns-7 Inv-loop μ-loop
-returns-7 c = let l = c .before in
-    let a = l .before .before .before .before .args .t1 in
-    (row-end a (l .before .before .before .if1 .left) (l .before .before .if2 .left) (l .loop .j) (c .loop-test .left) (l .loop .inv .1 .0) (l .loop .inv .1 .1), λ _. sym (kind-some a (below (l .before .before .before .if1 .left) (l .before .if3 .left)) (l .before .before .if2 .left)))
+returns-7 c =
+    let l = c .before in
+    let a = l .before .before .before .before .args .t1 in (
+      row-end a (l .before .before .before .if1 .left) (l .before .before .if2 .left) (l .loop .j) (c .loop-test .left) (l .loop .inv .1 .0)
+          (l .loop .inv .1 .1),
+      λ _. sym (kind-some a (below (l .before .before .before .if1 .left) (l .before .if3 .left)) (l .before .before .if2 .left)),
+    )
 
 pub row-of-spec : {M : Type 1} → statement M
 row-of-spec =
     tie.close
-    (tie.spec
-    Inv-loop
-    μ-loop
-    returns
-    returns-2
-    returns-3
-    cast-first
-    mul-kind
-    element-copy-out-kind
-    loop-holds
-    cast-k
-    mul-this
-    element-copy-out-this
-    returns-4
-    returns-5
-    mul-name
-    element-copy-out-name
-    returns-6
-    add-j
-    loop-less
-    loop-again
-    returns-7)
+    (tie.spec Inv-loop μ-loop
+    (λ c. (row-crossed (c .before .args .t1) (c .if1 .taken), (λ e. absurd (false≢true e))))
+    (λ c. (row-long (c .before .before .args .t1) (c .before .if1 .left) (c .if2 .taken), (λ e. absurd (false≢true e))))
+    returns-3 (λ c. omega arith) (λ c. omega arith) (λ c. omega arith) loop-holds
+    (λ c. omega arith) (λ c. omega arith) (λ c. omega arith) returns-4 returns-5
+    (λ c. omega arith) (λ c. omega arith) returns-6
+    (λ c. omega arith) (λ c. omega arith) loop-again returns-7)

@@ -17,52 +17,39 @@ Inv-loop high top now₀ most₀ n₀ now most n = (n ≤ 6) × ((now ≡ farUp 
 abbrev μ-loop : tie.MeasureT-loop
 μ-loop high top now₀ most₀ n₀ now most n = 6 - n
 
-loop-holds : tie.Need-loop-holds Inv-loop μ-loop
-unfolding farUp
-loop-holds c = (omega arith, (refl, (c .pre .0, c .pre .1 .1)))
-
 returns : tie.Need-returns Inv-loop μ-loop
-returns c = let l = c .before .before in
-    sym (zeros-far (l .before .args .up) (l .loop .n) 6 (l .loop .inv .0) (ap zerosOf (sym (l .loop .inv .1 .0)) ∙ sym (l .loop .inv .1 .1 .1) ∙ eq-eqb _ 0 (c .if1 .taken)))
-
-doubled-requires : tie.Need-doubled-requires Inv-loop μ-loop
-doubled-requires c κs = let l = c .before .before in (l .loop .inv .1 .1 .0, l .before .pre .1 .0)
-
-add-n : tie.Need-add-n Inv-loop μ-loop
-add-n c = omega arith
-
-loop-less : tie.Need-loop-less Inv-loop μ-loop
-loop-less c = omega arith
+returns c =
+    let l = c .before .before in
+    sym (zeros-far (l .before .args .up) (l .loop .n) 6 (l .loop .inv .0)
+    (ap zerosOf (sym (l .loop .inv .1 .0)) ∙ sym (l .loop .inv .1 .1 .1) ∙ eq-eqb _ 0 (c .if1 .taken)))
 
 loop-again : tie.Need-loop-again Inv-loop μ-loop
 unfolding farUp
-loop-again c = let l = c .before .before .before .before in
+loop-again c =
+    let l = c .before .before .before .before in
     let e = c .before .doubled .ensures .0 in (
       omega arith,
       (
         e ∙ ap doubledOf (l .loop .inv .1 .0) ∙ sym (ap (λ (k : ℕ). farUp k (l .before .args .up)) (add-one (l .loop .n))),
         (
-          subst (λ (z : List ℕ). Flat z (l .before .args .high)) (sym e) (flat-doubled (l .loop .now) (l .before .args .high) (l .loop .inv .1 .1 .0)),
+          subst (λ (z : List ℕ). Flat z (l .before .args .high)) (sym e)
+              (flat-doubled (l .loop .now) (l .before .args .high) (l .loop .inv .1 .1 .0)),
           c .before .doubled .ensures .1 ∙ ap zerosOf (sym e),
         ),
       ),
     )
 
 returns-2 : tie.Need-returns-2 Inv-loop μ-loop
-returns-2 c = let l = c .before in
+returns-2 c =
+    let l = c .before in
     let e : l .loop .n ≡ 6 = omega arith in
     l .loop .inv .1 .1 .1 ∙ ap zerosOf (l .loop .inv .1 .0) ∙ ap (λ (k : ℕ). zerosOf (farUp k (l .before .args .up))) e
 
 pub all-lead-spec : {M : Type 1} → statement M
+unfolding farUp
 all-lead-spec =
     tie.close
-    (tie.spec
-    Inv-loop
-    μ-loop
-    loop-holds
-    returns
-    doubled-requires
-    add-n
-    loop-less
-    loop-again
-    returns-2)
+    (tie.spec Inv-loop μ-loop
+    (λ c. (omega arith, (refl, (c .pre .0, c .pre .1 .1)))) returns
+    (λ c κs. let l = c .before .before in (l .loop .inv .1 .1 .0, l .before .pre .1 .0)) (λ c. omega arith)
+    (λ c. omega arith) loop-again returns-2)

@@ -25,112 +25,79 @@ positive h = omega arith
 
 -- the place of this turn is below 64
 small : (c : tie.After-rest Inv-loop μ-loop) → c .before .first .result < 64
-small c = let l = c .before .before .before .before in
+small c =
+    let l = c .before .before .before .before in
     subst (λ (n : ℕ). n < 64) (sym (c .before .first .ensures)) (rest-lt (l .loop .inv .tested .left) (positive (c .before .before .if1 .taken)))
 
-shown : (c : tie.After-child-fits Inv-loop μ-loop) → childTest (c .before .before .before .before .before .before .before .before .before .before .before .args .t1) (c .before .before .before .before .before .before .before .before .before .before .before .args .t2) (c .before .before .before .before .before .before .before .before .before .before .before .args .used) (c .before .before .before .before .before .before .before .before .before .before .before .args .claimed) (c .before .before .before .before .before .before .before .before .before .before .before .args .going) (c .before .before .before .before .before .before .first .result) ≡ c .child-fits .result
-shown c = rw (← c .before .before .before .has .ensures, ← c .before .before .has2 .ensures, ← c .before .has3 .ensures) (sym (c .child-fits .ensures))
-
-remove-requires : tie.Need-remove-requires Inv-loop μ-loop
-remove-requires c κs = tt
+shown : (c : tie.After-child-fits Inv-loop μ-loop) →
+    let a = c .before .before .before .before .before .before .before .before .before .before .before .args in
+    childTest (a .t1) (a .t2) (a .used) (a .claimed) (a .going) (c .before .before .before .before .before .before .first .result)
+    ≡ c .child-fits .result
+shown c = rw (← c .before .before .before .has .ensures, ← c .before .before .has2 .ensures, ← c .before .has3 .ensures)
+    (sym (c .child-fits .ensures))
 
 loop-holds : tie.Need-loop-holds Inv-loop μ-loop
-loop-holds c = let a = c .before .args in
-    subst (λ (z : Set). Climbed (a .t1) (a .t2) (a .used) (a .claimed) (a .going) _ 0 0 z) (sym (c .remove .ensures)) (climbed-start (a .t1) (a .t2) (a .used) (a .claimed) (a .going))
-
-first-requires : tie.Need-first-requires Inv-loop μ-loop
-first-requires c κs = tt
-
-rest-requires : tie.Need-rest-requires Inv-loop μ-loop
-rest-requires c κs = tt
-
-cast-k : tie.Need-cast-k Inv-loop μ-loop
-cast-k c = let h = small c in omega arith
-
-mul-x : tie.Need-mul-x Inv-loop μ-loop
-mul-x c = let h = small c in omega arith
-
-array-copy-out-x : tie.Need-array-copy-out-x Inv-loop μ-loop
-array-copy-out-x c = let h = small c in omega arith
-
-array-read-lock : tie.Need-array-read-lock Inv-loop μ-loop
-array-read-lock c = let h = small (c .before) in omega arith
-
-has-requires : tie.Need-has-requires Inv-loop μ-loop
-has-requires c κs = tt
-
-has-requires-2 : tie.Need-has-requires-2 Inv-loop μ-loop
-has-requires-2 c κs = tt
-
-has-requires-3 : tie.Need-has-requires-3 Inv-loop μ-loop
-has-requires-3 c κs = tt
-
-child-fits-requires : tie.Need-child-fits-requires Inv-loop μ-loop
-child-fits-requires c κs = tt
-
-array-write-up : tie.Need-array-write-up Inv-loop μ-loop
-array-write-up c = let h = small (c .before .before .before .before .before .before) in omega arith
-
-joined-requires : tie.Need-joined-requires Inv-loop μ-loop
-joined-requires c κs = tt
+loop-holds c =
+    let a = c .before .args in
+    subst (λ (z : Set). Climbed (a .t1) (a .t2) (a .used) (a .claimed) (a .going) _ 0 0 z) (sym (c .remove .ensures))
+    (climbed-start (a .t1) (a .t2) (a .used) (a .claimed) (a .going))
 
 loop-less : tie.Need-loop-less Inv-loop μ-loop
-loop-less c = let l = c .before .before .before .before .before .before .before .before .before .before .before in
-    subst (λ (z : Set). z .bits < l .loop .rest .bits) (sym (c .before .before .before .before .before .before .before .rest .ensures)) (removed-less (l .loop .rest) (l .loop .inv .tested .left .small) (positive (c .before .before .before .before .before .before .before .before .before .if1 .taken)))
+loop-less c =
+    let q = c .before .before .before .before .before .before .before in
+    let l = q .before .before .before .before in
+    subst (λ (z : Set). z .bits < l .loop .rest .bits) (sym (q .rest .ensures))
+    (removed-less (l .loop .rest) (l .loop .inv .tested .left .small) (positive (q .before .before .if1 .taken)))
 
 loop-again : tie.Need-loop-again Inv-loop μ-loop
-loop-again c = let l = c .before .before .before .before .before .before .before .before .before .before .before in
-    let a = c .before .before .before .before .before .before .before .before .before .before .before .before .before .args in
-    let k = positive (c .before .before .before .before .before .before .before .before .before .if1 .taken) in
-    let e = c .before .before .before .before .before .before .before .before .first .ensures in
+loop-again c =
+    let q = c .before .before .before .before .before .before .before in
+    let l = q .before .before .before .before in
+    let a = l .before .before .args in
+    let k = positive (q .before .before .if1 .taken) in
+    let e = q .before .first .ensures in
     let m = lowestIn (l .loop .rest) in
     let t = c .joined .result in
-    let more = climbed-more (a .t1) (a .t2) (a .used) (a .claimed) (a .going) (l .loop .inv) k t (ap (childTest (a .t1) (a .t2) (a .used) (a .claimed) (a .going)) (sym e) ∙ shown (c .before .before) ∙ c .before .if2 .taken)
+    let more = climbed-more (a .t1) (a .t2) (a .used) (a .claimed) (a .going) (l .loop .inv) k t
+    (ap (childTest (a .t1) (a .t2) (a .used) (a .claimed) (a .going)) (sym e) ∙ shown (c .before .before) ∙ c .before .if2 .taken)
     (c .joined .ensures ∙ ap (λ (n : ℕ). eqb (getD (a .t1) n noPlace .parent) 0 && eqb (l .loop .top) 0) e) in
-    subst (λ (n : ℕ). Climbed (a .t1) (a .t2) (a .used) (a .claimed) (a .going) (set (l .loop .up) n (getD (a .t1) n noPlace .parent)) t n (c .before .before .before .before .before .before .before .rest .result)) (sym e)
-    (subst (λ (z : Set). Climbed (a .t1) (a .t2) (a .used) (a .claimed) (a .going) (set (l .loop .up) m (getD (a .t1) m noPlace .parent)) t m z) (sym (c .before .before .before .before .before .before .before .rest .ensures)) more)
+    subst (λ (n : ℕ). Climbed (a .t1) (a .t2) (a .used) (a .claimed) (a .going) (set (l .loop .up) n (getD (a .t1) n noPlace .parent)) t n (q .rest .result)) (sym e)
+    (subst (λ (z : Set). Climbed (a .t1) (a .t2) (a .used) (a .claimed) (a .going) (set (l .loop .up) m (getD (a .t1) m noPlace .parent)) t m z)
+    (sym (q .rest .ensures)) more)
 
 returns : tie.Need-returns Inv-loop μ-loop
-returns c = let l = c .before .before .before .before .before .before .before .before .before .before in
-    let a = c .before .before .before .before .before .before .before .before .before .before .before .before .args in
-    climbed-stop (a .t1) (a .t2) (a .used) (a .claimed) (a .going) (l .loop .inv) (positive (c .before .before .before .before .before .before .before .before .if1 .taken)) (ap (childTest (a .t1) (a .t2) (a .used) (a .claimed) (a .going)) (sym (c .before .before .before .before .before .before .before .first .ensures)) ∙ shown (c .before) ∙ c .if2 .left)
+returns c =
+    let q = c .before .before .before .before .before .before .before in
+    let l = q .before .before .before in
+    let a = l .before .before .args in
+    climbed-stop (a .t1) (a .t2) (a .used) (a .claimed) (a .going) (l .loop .inv) (positive (q .before .if1 .taken))
+    (ap (childTest (a .t1) (a .t2) (a .used) (a .claimed) (a .going)) (sym (q .first .ensures)) ∙ shown (c .before) ∙ c .if2 .left)
 
 all-lead-requires : tie.Need-all-lead-requires Inv-loop μ-loop
-all-lead-requires c κs = let l = c .before .before in
+all-lead-requires c κs =
+    let l = c .before .before in
     let a = l .before .before .args in
-    let e = c .if1 .left in
-    (climbed-flat (a .t1) (a .t2) (a .used) (a .claimed) (a .going) (l .loop .inv) e, (l .loop .inv .small, climbed-top (a .t1) (a .t2) (a .used) (a .claimed) (a .going) (l .loop .inv) e))
+    let e = c .if1 .left in (
+      climbed-flat (a .t1) (a .t2) (a .used) (a .claimed) (a .going) (l .loop .inv) e,
+      (l .loop .inv .small, climbed-top (a .t1) (a .t2) (a .used) (a .claimed) (a .going) (l .loop .inv) e),
+    )
 
 returns-2 : tie.Need-returns-2 Inv-loop μ-loop
 unfolding childrenFit
-returns-2 c = let l = c .before .before .before in
+returns-2 c =
+    let l = c .before .before .before in
     let a = l .before .before .args in
     let e = c .before .if1 .left in
     c .all-lead .ensures ∙ ap (λ (z : List ℕ). zerosOf (farUp 6 z)) (climbed-up (a .t1) (a .t2) (a .used) (a .claimed) (a .going) (l .loop .inv) e)
-    ∙ sym (ap (λ (b : Bool). b && zerosOf (farUp 6 (parentsOf (a .t1) (a .used)))) (climbed-fit (a .t1) (a .t2) (a .used) (a .claimed) (a .going) (l .loop .inv) e))
+    ∙ sym (ap (λ (b : Bool). b && zerosOf (farUp 6 (parentsOf (a .t1) (a .used))))
+    (climbed-fit (a .t1) (a .t2) (a .used) (a .claimed) (a .going) (l .loop .inv) e))
 
 pub children-fit-spec : {M : Type 1} → statement M
 children-fit-spec =
     tie.close
-    (tie.spec
-    Inv-loop
-    μ-loop
-    remove-requires
-    loop-holds
-    first-requires
-    rest-requires
-    cast-k
-    mul-x
-    array-copy-out-x
-    array-read-lock
-    has-requires
-    has-requires-2
-    has-requires-3
-    child-fits-requires
-    array-write-up
-    joined-requires
-    loop-less
-    loop-again
-    returns
-    all-lead-requires
-    returns-2)
+    (tie.spec Inv-loop μ-loop
+    (λ c κs. tt) loop-holds (λ c κs. tt) (λ c κs. tt)
+    (λ c. let h = small c in omega arith) (λ c. let h = small c in omega arith) (λ c. let h = small c in omega arith)
+    (λ c. let h = small (c .before) in omega arith) (λ c κs. tt) (λ c κs. tt) (λ c κs. tt) (λ c κs. tt)
+    (λ c. let h = small (c .before .before .before .before .before .before) in omega arith) (λ c κs. tt)
+    loop-less loop-again returns all-lead-requires returns-2)

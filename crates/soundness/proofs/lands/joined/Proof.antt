@@ -24,8 +24,5 @@ or-zero a b = same-test _ _ there back
     back : (eqb b 0 && eqb a 0) ≡ true → eqb (bitOr a b) 0 ≡ true
     back e = eq-eqb (bitOr a b) 0 (ap₂ bitOr (eqb-true a 0 (and-right (eqb b 0) (eqb a 0) e)) (eqb-true b 0 (and-left (eqb b 0) (eqb a 0) e)))
 
-returns : tie.Need-returns
-returns c = or-zero (c .args .a) (c .args .b)
-
 pub joined-spec : {M : Type 1} → statement M
-joined-spec = tie.close (tie.spec returns)
+joined-spec = tie.close (tie.spec (λ c. or-zero (c .args .a) (c .args .b)))

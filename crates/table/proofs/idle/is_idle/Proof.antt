@@ -34,69 +34,57 @@ positive h = omega arith
 
 -- the agent of this turn is below 64, and is given
 small : (c : tie.After-rest2 Inv-loop μ-loop) → c .before .first .result < 64
-small c = let l = c .before .before .before .before .loop in
+small c =
+    let l = c .before .before .before .before .loop in
     subst (λ (n : ℕ). n < 64) (sym (c .before .first .ensures)) (rest-lt (l .inv .left) (positive (c .before .before .if1 .taken)))
 
-at-rest : (c : tie.After-rest2 Inv-loop μ-loop) → rests (c .before .before .before .before .before .before .args .t1) (c .before .first .result) ≡ restsAt (getD (c .before .before .before .before .before .before .args .t1 .agents) (c .before .first .result) noAgent .stage)
-at-rest c = let l = c .before .before .before .before .loop in
-    let x = c .before .before .before .before .before .before .args .t1 in
-    let e : has (x .given .bits) (c .before .first .result) ≡ true = ap (has (x .given .bits)) (c .before .first .ensures) ∙ rest-member (l .inv .left) (positive (c .before .before .if1 .taken)) in
+at-rest : (c : tie.After-rest2 Inv-loop μ-loop) → let a = c .before .before .before .before .before .before .args .t1 in
+    rests a (c .before .first .result) ≡ restsAt (getD (a .agents) (c .before .first .result) noAgent .stage)
+at-rest c =
+    let l = c .before .before .before .before in
+    let x = l .before .before .args .t1 in
+    let e : has (x .given .bits) (c .before .first .result) ≡ true =
+    ap (has (x .given .bits)) (c .before .first .ensures) ∙ rest-member (l .loop .inv .left) (positive (c .before .before .if1 .taken)) in
     rw e
 
 loop-holds : tie.Need-loop-holds Inv-loop μ-loop
-loop-holds c = let x = c .before .args .t1 in
+loop-holds c =
+    let x = c .before .args .t1 in
     tested-start (has (x .given .bits)) (rests x) (x .given) (rest-start (x .given) (sized x (c .before .good .0) .given))
-
-first-requires : tie.Need-first-requires Inv-loop μ-loop
-first-requires c κs = tt
-
-rest-requires : tie.Need-rest-requires Inv-loop μ-loop
-rest-requires c κs = tt
-
-cast-k : tie.Need-cast-k Inv-loop μ-loop
-cast-k c = let h = small c in omega arith
-
-mul-stage : tie.Need-mul-stage Inv-loop μ-loop
-mul-stage c = let h = small c in omega arith
-
-element-copy-out-stage : tie.Need-element-copy-out-stage Inv-loop μ-loop
-element-copy-out-stage c = let h = small c in omega arith
 
 returns : tie.Need-returns Inv-loop μ-loop
 unfolding idle cellOf
-returns c = let l = c .before .before .before .before .before .loop in
-    let x = c .before .before .before .before .before .before .before .args .t1 in
-    sym (tested-stop (has (x .given .bits)) (rests x) (not-given x) (l .inv) (positive (c .before .before .before .if1 .taken)) (ap (rests x) (sym (c .before .before .first .ensures)) ∙ at-rest (c .before) ∙ lt-leb 7 _ (c .if2 .taken)))
+returns c =
+    let l = c .before .before .before .before .before in
+    let x = l .before .before .args .t1 in
+    sym (tested-stop (has (x .given .bits)) (rests x) (not-given x) (l .loop .inv) (positive (c .before .before .before .if1 .taken))
+    (ap (rests x) (sym (c .before .before .first .ensures)) ∙ at-rest (c .before) ∙ lt-leb 7 _ (c .if2 .taken)))
 
 loop-less : tie.Need-loop-less Inv-loop μ-loop
-loop-less c = let l = c .before .before .before .before .before .loop in
-    subst (λ (z : Set). z .bits < l .rest .bits) (sym (c .before .rest2 .ensures)) (removed-less (l .rest) (l .inv .left .small) (positive (c .before .before .before .if1 .taken)))
+loop-less c =
+    let l = c .before .before .before .before .before .loop in
+    subst (λ (z : Set). z .bits < l .rest .bits) (sym (c .before .rest2 .ensures))
+    (removed-less (l .rest) (l .inv .left .small) (positive (c .before .before .before .if1 .taken)))
 
 loop-again : tie.Need-loop-again Inv-loop μ-loop
-loop-again c = let l = c .before .before .before .before .before .loop in
-    let x = c .before .before .before .before .before .before .before .args .t1 in
+loop-again c =
+    let l = c .before .before .before .before .before in
+    let x = l .before .before .args .t1 in
     subst (Tested (has (x .given .bits)) (rests x)) (sym (c .before .rest2 .ensures))
-    (tested-more (has (x .given .bits)) (rests x) (not-given x) (l .inv) (positive (c .before .before .before .if1 .taken)) (ap (rests x) (sym (c .before .before .first .ensures)) ∙ at-rest (c .before) ∙ le-leb 7 _ (c .if2 .left)))
+    (tested-more (has (x .given .bits)) (rests x) (not-given x) (l .loop .inv) (positive (c .before .before .before .if1 .taken))
+    (ap (rests x) (sym (c .before .before .first .ensures)) ∙ at-rest (c .before) ∙ le-leb 7 _ (c .if2 .left)))
 
 returns-2 : tie.Need-returns-2 Inv-loop μ-loop
 unfolding idle cellOf
-returns-2 c = let l = c .before .before .loop in
-    let x = c .before .before .before .before .args .t1 in
-    sym (tested-end (has (x .given .bits)) (rests x) (not-given x) (l .inv) (c .if1 .left))
+returns-2 c =
+    let l = c .before .before in
+    let x = l .before .before .args .t1 in
+    sym (tested-end (has (x .given .bits)) (rests x) (not-given x) (l .loop .inv) (c .if1 .left))
 
 pub is-idle-spec : {M : Type 1} → statement M
 is-idle-spec =
     tie.close
-    (tie.spec
-    Inv-loop
-    μ-loop
-    loop-holds
-    first-requires
-    rest-requires
-    cast-k
-    mul-stage
-    element-copy-out-stage
-    returns
-    loop-less
-    loop-again
-    returns-2)
+    (tie.spec Inv-loop μ-loop
+    loop-holds (λ c κs. tt) (λ c κs. tt)
+    (λ c. let h = small c in omega arith) (λ c. let h = small c in omega arith) (λ c. let h = small c in omega arith)
+    returns loop-less loop-again returns-2)
