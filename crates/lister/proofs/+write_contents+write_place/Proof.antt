@@ -93,10 +93,10 @@ pub +write-contents+write-place-spec : {M : Type 1} → statement M
     (λ c. c .before .before .before .before .before .before .before .before .pre .1 .0)
     (λ c κs. tt)
     -- before the first turn the agents are written
-    (λ c. let sheet = (sheetOf (c .before .before .before .before .before .before .before .before .before .before .args .places .now) (c .before .before .before .before .before .before .before .before .before .before .args .agents .now) (c .before .before .before .before .before .before .before .before .before .before .args .names .now) (c .before .before .before .before .before .before .before .before .before .before .args .texts .now) (c .before .before .before .before .before .before .before .before .before .before .args .lengths .now)) in
-    let p = c .before .before .before .before .before .before .before .before .before .before .args .p in
-    let depth = c .before .before .before .before .before .before .before .before .before .before .args .depth in
-    (0, (c .members .ensures, λ b r w. joined-start bar (sheet .stands p) (placeOn (depth - 1) sheet) (agentsOn sheet p) w)))
+    (λ c.
+    let a = c .before .before .before .before .before .before .before .before .before .before .args in
+    let sheet = sheetOf (a .places .now) (a .agents .now) (a .names .now) (a .texts .now) (a .lengths .now) in
+    (0, (c .members .ensures, λ b r w. joined-start bar (sheet .stands (a .p)) (placeOn (a .depth - 1) sheet) (agentsOn sheet (a .p)) w)))
     (λ c κs. tt)
     (λ c. omega (arith, taken-lt (c .before .before .before .loop .inv .1 .0) (c .before .if2 .taken) (c .first .ensures)))
     (λ c κs. tt)
@@ -106,22 +106,48 @@ pub +write-contents+write-place-spec : {M : Type 1} → statement M
     (λ c. let h = least-le _ _ _ (c .least .ensures) in omega (arith, h .1))
     (λ c. search needs)
     -- the depth falls
-    (λ c κs. (omega (arith, c .before .before .before .before .before .before .before .before .before .before .before .before .before .before .before .before .before .before .before .before .pre .0, c .before .before .before .before .before .before .before .before .before .before .before .before .before .before .before .before .before .if1 .left), (taken-lt (c .before .before .before .before .before .before .before .before .before .loop .inv .1 .0) (c .before .before .before .before .before .before .before .if2 .taken) (c .before .before .before .before .before .before .first .ensures), c .before .before .before .before .before .before .before .before .before .before .before .before .before .before .before .before .before .before .before .before .pre .1 .1)))
+    (λ c κs.
+    let m = c .before .before .before .before .before .before in
+    let t = m .before .before .before .before .before .before .before .before .before .before .before in
+    let f = t .before .before .before in (
+      omega (arith, f .pre .0, t .if1 .left),
+      (taken-lt (m .before .before .before .loop .inv .1 .0) (m .before .if2 .taken) (m .first .ensures), f .pre .1 .1),
+    ))
     (λ c κs. tt)
     (λ c κs. tt)
-    (λ c. left-less (c .before .before .before .before .before .before .before .before .before .before .before .before .before .before .loop .inv .1 .0) (c .before .before .before .before .before .before .before .before .before .before .before .before .if2 .taken) (c .rest .ensures))
+    (λ c. let k = c .before .before .before .before .before .before .before .before .before .before .before .before in
+    left-less (k .before .before .loop .inv .1 .0) (k .if2 .taken) (c .rest .ensures))
     -- one place more
-    (λ c. let sheet = (sheetOf (c .before .before .before .before .before .before .before .before .before .before .before .before .before .before .before .before .before .before .before .before .before .before .before .before .before .args .places .now) (c .before .before .before .before .before .before .before .before .before .before .before .before .before .before .before .before .before .before .before .before .before .before .before .before .before .args .agents .now) (c .before .before .before .before .before .before .before .before .before .before .before .before .before .before .before .before .before .before .before .before .before .before .before .before .before .args .names .now) (c .before .before .before .before .before .before .before .before .before .before .before .before .before .before .before .before .before .before .before .before .before .before .before .before .before .args .texts .now) (c .before .before .before .before .before .before .before .before .before .before .before .before .before .before .before .before .before .before .before .before .before .before .before .before .before .args .lengths .now)) in
-    let p = c .before .before .before .before .before .before .before .before .before .before .before .before .before .before .before .before .before .before .before .before .before .before .before .before .before .args .p in
-    let depth = c .before .before .before .before .before .before .before .before .before .before .before .before .before .before .before .before .before .before .before .before .before .before .before .before .before .args .depth in
-    (lowestIn (c .before .before .before .before .before .before .before .before .before .before .before .before .before .before .loop .left) + 1, (left-over (c .before .before .before .before .before .before .before .before .before .before .before .before .before .before .loop .inv .1 .0) (c .before .before .before .before .before .before .before .before .before .before .before .before .if2 .taken) refl (c .rest .ensures), λ b r w. walk-more bar (sheet .stands p) (placeOn (depth - 1) sheet) (agentsOn sheet p) (c .before .before .before .before .before .before .before .before .before .before .before .before .before .before .loop .inv .1 .0) (c .before .before .before .before .before .before .before .before .before .before .before .before .if2 .taken)
-      (placed r (c .before .before .before .before .before .before .before .before .before .before .before .before .before .before .loop .inv .1 .1 b r w) (c .before .before .before .before .before .before .before .before .before .add-bar .ensures) (c .before .before .before .before .before .before .least .ensures) (wrote-as (ap (placeOn (depth - 1) sheet) (c .before .before .before .before .before .before .before .before .before .before .before .first .ensures)) (c .before .before .before .before .write-place .ensures)) (c .before .plus .ensures)))))
-    (λ c. wrote-length (c .before .before .loop .inv .1 .1 _ (omega (arith, c .before .before .before .before .before .before .before .before .before .before .before .before .before .good)) (c .before .before .before .before .before .before .before .write-agents .ensures)))
+    (λ c.
+    let from = c .before .before .before .before .before .before in
+    let m = from .before .before .before .before .before in
+    let k = m .before .if2 .taken in
+    let l = m .before .before .before in
+    let v = l .loop .inv .1 in
+    let a = l .before .before .before .before .before .before .before .before .before .before .before .args in
+    let sheet = sheetOf (a .places .now) (a .agents .now) (a .names .now) (a .texts .now) (a .lengths .now) in
+    let F = placeOn (a .depth - 1) sheet in (
+      lowestIn (l .loop .left) + 1,
+      (
+        left-over (v .0) k refl (c .rest .ensures),
+        λ b r w. walk-more bar (sheet .stands (a .p)) F (agentsOn sheet (a .p)) (v .0) k
+            (placed r (v .1 b r w) (from .before .before .before .add-bar .ensures) (from .least .ensures)
+            (wrote-as (ap F (m .first .ensures)) (c .before .before .before .before .write-place .ensures)) (c .before .plus .ensures)),
+      ),
+    ))
+    (λ c. wrote-length (c .before .before .loop .inv .1 .1 _
+    (omega (arith, c .before .before .before .before .before .before .before .before .before .before .before .before .before .good))
+    (c .before .before .before .before .before .before .before .write-agents .ensures)))
     -- no place is left
-    (λ c. let sheet = (sheetOf (c .before .before .before .before .before .before .before .before .before .before .before .before .before .args .places .now) (c .before .before .before .before .before .before .before .before .before .before .before .before .before .args .agents .now) (c .before .before .before .before .before .before .before .before .before .before .before .before .before .args .names .now) (c .before .before .before .before .before .before .before .before .before .before .before .before .before .args .texts .now) (c .before .before .before .before .before .before .before .before .before .before .before .before .before .args .lengths .now)) in
-    let p = c .before .before .before .before .before .before .before .before .before .before .before .before .before .args .p in
-    let depth = c .before .before .before .before .before .before .before .before .before .before .before .before .before .args .depth in
-    wrote-as (sym (contents-some depth sheet p (c .before .before .before .before .before .before .before .before .before .before .if1 .left))) (walk-done bar (sheet .stands p) (placeOn (depth - 1) sheet) (agentsOn sheet p) (c .before .before .loop .inv .1 .0) (omega (arith, c .if2 .left)) (c .before .before .loop .inv .1 .1 _ (omega (arith, c .before .before .before .before .before .before .before .before .before .before .before .before .before .good)) (c .before .before .before .before .before .before .before .write-agents .ensures)))))
+    (λ c.
+    let v = c .before .before .loop .inv .1 in
+    let f = c .before .before .before .before .before .before .before .before .before .before .before .before .before in
+    let a = f .args in
+    let sheet = sheetOf (a .places .now) (a .agents .now) (a .names .now) (a .texts .now) (a .lengths .now) in
+    wrote-as (sym (contents-some (a .depth) sheet (a .p)
+    (c .before .before .before .before .before .before .before .before .before .before .if1 .left)))
+    (walk-done bar (sheet .stands (a .p)) (placeOn (a .depth - 1) sheet) (agentsOn sheet (a .p)) (v .0) (omega (arith, c .if2 .left))
+    (v .1 _ (omega (arith, f .good)) (c .before .before .before .before .before .before .before .write-agents .ensures)))))
     λ t. write-place-lts.spec (
       write-head-reads.Asked,
       write-head-reads.Learnt,
@@ -145,9 +171,28 @@ pub +write-contents+write-place-spec : {M : Type 1} → statement M
     (λ c. let h = least-le _ _ _ (c .least .ensures) in omega (arith, h .1))
     (λ c. search needs)
     -- so does the measure
-    (λ c κs. (omega (arith, c .before .before .before .before .before .before .before .before .before .pre .0), c .before .before .before .before .before .before .before .before .before .pre .1))
+    (λ c κs. (
+      omega (arith, c .before .before .before .before .before .before .before .before .before .pre .0),
+      c .before .before .before .before .before .before .before .before .before .pre .1,
+    ))
     (λ c κs. tt)
     (λ c κs. tt)
-    (λ c. wrote-length (place-written (c .before .before .before .before .before .before .before .before .before .before .before .before .before .before .before .before .before .args .depth) (sheetOf (c .before .before .before .before .before .before .before .before .before .before .before .before .before .before .before .before .before .args .places .now) (c .before .before .before .before .before .before .before .before .before .before .before .before .before .before .before .before .before .args .agents .now) (c .before .before .before .before .before .before .before .before .before .before .before .before .before .before .before .before .before .args .names .now) (c .before .before .before .before .before .before .before .before .before .before .before .before .before .before .before .before .before .args .texts .now) (c .before .before .before .before .before .before .before .before .before .before .before .before .before .before .before .before .before .args .lengths .now)) (c .before .before .before .before .before .before .before .before .before .before .before .before .before .before .before .before .before .args .q) (omega (arith, c .before .before .before .before .before .before .before .before .before .before .before .before .before .before .before .before .before .good)) (c .before .before .before .before .before .before .before .before .before .before .before .before .write-head .ensures) (c .before .before .before .before .before .before .before .before .before .least .ensures) (c .before .before .before .before .before .before .before .write-contents .ensures) (c .before .before .before .before .plus .ensures) (c .before .before .add-byte .ensures)))
+    (λ c.
+    let h = c .before .before .before .before .before .before .before .before .before .before .before .before in
+    let f = h .before .before .before .before .before in
+    let a = f .args in
+    let w = c .before .before .before .before .before .before .before in
+    wrote-length (place-written (a .depth) (sheetOf (a .places .now) (a .agents .now) (a .names .now) (a .texts .now) (a .lengths .now)) (a .q)
+    (omega (arith, f .good))
+    (h .write-head .ensures) (w .before .before .least .ensures) (w .write-contents .ensures) (c .before .before .before .before .plus .ensures)
+    (c .before .before .add-byte .ensures)))
     -- name, contents, bracket
-    (λ c. place-written (c .before .before .before .before .before .before .before .before .before .before .before .before .before .before .before .before .before .args .depth) (sheetOf (c .before .before .before .before .before .before .before .before .before .before .before .before .before .before .before .before .before .args .places .now) (c .before .before .before .before .before .before .before .before .before .before .before .before .before .before .before .before .before .args .agents .now) (c .before .before .before .before .before .before .before .before .before .before .before .before .before .before .before .before .before .args .names .now) (c .before .before .before .before .before .before .before .before .before .before .before .before .before .before .before .before .before .args .texts .now) (c .before .before .before .before .before .before .before .before .before .before .before .before .before .before .before .before .before .args .lengths .now)) (c .before .before .before .before .before .before .before .before .before .before .before .before .before .before .before .before .before .args .q) (omega (arith, c .before .before .before .before .before .before .before .before .before .before .before .before .before .before .before .before .before .good)) (c .before .before .before .before .before .before .before .before .before .before .before .before .write-head .ensures) (c .before .before .before .before .before .before .before .before .before .least .ensures) (c .before .before .before .before .before .before .before .write-contents .ensures) (c .before .before .before .before .plus .ensures) (c .before .before .add-byte .ensures))
+    (λ c.
+    let h = c .before .before .before .before .before .before .before .before .before .before .before .before in
+    let f = h .before .before .before .before .before in
+    let a = f .args in
+    let w = c .before .before .before .before .before .before .before in
+    place-written (a .depth) (sheetOf (a .places .now) (a .agents .now) (a .names .now) (a .texts .now) (a .lengths .now)) (a .q)
+    (omega (arith, f .good))
+    (h .write-head .ensures) (w .before .before .least .ensures) (w .write-contents .ensures) (c .before .before .before .before .plus .ensures)
+    (c .before .before .add-byte .ensures))

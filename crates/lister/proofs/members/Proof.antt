@@ -4,8 +4,5 @@ use Rattle.sets.specs.WalkLaws.{rest-start}
 use Rattle.lister.proofs.members.Statement.{statement}
 use Rattle.lister.proofs.members.Tie as tie
 
-returns : tie.Need-returns
-returns c = rest-start _ (search needs)
-
 pub members-spec : {M : Type 1} → statement M
-members-spec = tie.close (tie.spec returns)
+members-spec = tie.close (tie.spec (λ c. rest-start _ (search needs)))

@@ -1,7 +1,7 @@
 -- Before each turn the texts of the members that were taken are written.
 use mathlib.Core.Path.{refl}
 use mathlib.Core.List.{[]}
-use Prim.Native.Nat.{ℕ, _+_}
+use Prim.Native.Nat.{ℕ, _+_, _<_}
 use native.Mathlib.Omega.{arith}
 use Rattle.sets.specs.Word.{has}
 use Rattle.sets.specs.WalkLaws.{lowestIn, Rest}
@@ -20,84 +20,55 @@ Inv-loop agents texts lengths buf₀ left₀ at₀ buf left at =
 abbrev μ-loop : tie.MeasureT-loop
 μ-loop agents texts lengths buf₀ left₀ at₀ buf left at = left .bits
 
-members-requires : tie.Need-members-requires Inv-loop μ-loop
-members-requires c κs = tt
+-- the member of this turn is below 64
+low : (m : tie.After-first Inv-loop μ-loop) → m .first .result < 64
+low m = taken-lt (m .before .before .before .loop .inv .1 .0) (m .before .if1 .taken) (m .first .ensures)
 
 loop-holds : tie.Need-loop-holds Inv-loop μ-loop
-loop-holds c = (0, (c .members .ensures, joined-start bar (has (c .before .before .before .args .agents)) (rowAt (c .before .before .before .args .texts .now) (c .before .before .before .args .lengths .now)) [] (begun _)))
-
-first-requires : tie.Need-first-requires Inv-loop μ-loop
-first-requires c κs = tt
-
-cast-x : tie.Need-cast-x Inv-loop μ-loop
-cast-x c = omega (arith, taken-lt (c .before .before .before .loop .inv .1 .0) (c .before .if1 .taken) (c .first .ensures))
-
-mul-start : tie.Need-mul-start Inv-loop μ-loop
-mul-start c = omega (arith, taken-lt (c .before .before .before .loop .inv .1 .0) (c .before .if1 .taken) (c .first .ensures))
-
-element-copy-out-wide : tie.Need-element-copy-out-wide Inv-loop μ-loop
-element-copy-out-wide c = omega (arith, taken-lt (c .before .before .before .loop .inv .1 .0) (c .before .if1 .taken) (c .first .ensures))
-
-wide-requires : tie.Need-wide-requires Inv-loop μ-loop
-wide-requires c κs = tt
-
-add-end : tie.Need-add-end Inv-loop μ-loop
-add-end c = omega (arith, taken-lt (c .before .before .before .before .before .loop .inv .1 .0) (c .before .before .before .if1 .taken) (c .before .before .first .ensures), c .wide .ensures .1)
-
-add-bar-requires : tie.Need-add-bar-requires Inv-loop μ-loop
-add-bar-requires c κs = tt
-
-sub-add-bytes : tie.Need-sub-add-bytes Inv-loop μ-loop
-sub-add-bytes c = omega arith
-
-part-add-bytes-start : tie.Need-part-add-bytes-start Inv-loop μ-loop
-part-add-bytes-start c = omega arith
-
-part-add-bytes-end : tie.Need-part-add-bytes-end Inv-loop μ-loop
-part-add-bytes-end c = omega (arith, taken-lt (c .before .before .before .before .before .before .before .before .before .loop .inv .1 .0) (c .before .before .before .before .before .before .before .if1 .taken) (c .before .before .before .before .before .before .first .ensures), c .before .before .before .before .wide .ensures .1, c .before .before .before .before .before .before .before .before .before .before .before .before .before .pre)
-
-add-bytes-requires : tie.Need-add-bytes-requires Inv-loop μ-loop
-add-bytes-requires c κs = tt
-
-rest-requires : tie.Need-rest-requires Inv-loop μ-loop
-rest-requires c κs = tt
-
-loop-less : tie.Need-loop-less Inv-loop μ-loop
-loop-less c = left-less (c .before .before .before .before .before .before .before .before .before .before .before .before .before .before .before .loop .inv .1 .0) (c .before .before .before .before .before .before .before .before .before .before .before .before .before .if1 .taken) (c .rest .ensures)
+loop-holds c =
+    let a = c .before .before .before .args in
+    (0, (c .members .ensures, joined-start bar (has (a .agents)) (rowAt (a .texts .now) (a .lengths .now)) [] (begun _)))
 
 loop-again : tie.Need-loop-again Inv-loop μ-loop
 loop-again c =
-    (lowestIn (c .before .before .before .before .before .before .before .before .before .before .before .before .before .before .before .loop .left) + 1, (left-over (c .before .before .before .before .before .before .before .before .before .before .before .before .before .before .before .loop .inv .1 .0) (c .before .before .before .before .before .before .before .before .before .before .before .before .before .if1 .taken) refl (c .rest .ensures), walk-more bar (has (c .before .before .before .before .before .before .before .before .before .before .before .before .before .before .before .before .before .before .before .args .agents)) (rowAt (c .before .before .before .before .before .before .before .before .before .before .before .before .before .before .before .before .before .before .before .args .texts .now) (c .before .before .before .before .before .before .before .before .before .before .before .before .before .before .before .before .before .before .before .args .lengths .now)) [] (c .before .before .before .before .before .before .before .before .before .before .before .before .before .before .before .loop .inv .1 .0) (c .before .before .before .before .before .before .before .before .before .before .before .before .before .if1 .taken)
-    (turned (omega (arith, c .before .before .before .before .before .before .before .before .before .before .before .before .before .before .before .before .before .before .before .good)) (c .before .before .before .before .before .before .before .before .before .before .before .before .before .before .before .loop .inv .1 .1) (c .before .before .before .before .before .before .before .before .add-bar .ensures) (added-as (row-cut _ _ _ _ _ (c .before .before .before .before .before .before .before .before .before .before .wide .ensures .0) (c .before .before .before .before .before .before .before .before .before .before .before .before .first .ensures)) (c .before .before .before .add-bytes .ensures)))))
-
-same-length : tie.Need-same-length Inv-loop μ-loop
-same-length c = wrote-length (c .before .before .loop .inv .1 .1)
+    let b = c .before .before .before .before .before .before .before .before in
+    let m = b .before .before .before .before in
+    let k = m .before .if1 .taken in
+    let l = m .before .before .before in
+    let v = l .loop .inv .1 in
+    let f = l .before .before .before .before in
+    let a = f .args in (
+      lowestIn (l .loop .left) + 1,
+      (
+        left-over (v .0) k refl (c .rest .ensures),
+        walk-more bar (has (a .agents)) (rowAt (a .texts .now) (a .lengths .now)) [] (v .0) k
+            (turned (omega (arith, f .good)) (v .1) (b .add-bar .ensures)
+            (added-as (row-cut _ _ _ _ _ (b .before .before .wide .ensures .0) (m .first .ensures)) (c .before .before .before .add-bytes .ensures))),
+      ),
+    )
 
 returns : tie.Need-returns Inv-loop μ-loop
 unfolding parts
-returns c = walk-done bar (has (c .before .before .before .before .before .before .args .agents)) (rowAt (c .before .before .before .before .before .before .args .texts .now) (c .before .before .before .before .before .before .args .lengths .now)) [] (c .before .before .loop .inv .1 .0) (omega (arith, c .if1 .left)) (c .before .before .loop .inv .1 .1)
+returns c =
+    let v = c .before .before .loop .inv .1 in
+    let a = c .before .before .before .before .before .before .args in
+    walk-done bar (has (a .agents)) (rowAt (a .texts .now) (a .lengths .now)) [] (v .0) (omega (arith, c .if1 .left)) (v .1)
 
 pub write-agents-spec : {M : Type 1} → statement M
 write-agents-spec =
     tie.close
-    (tie.spec
-    Inv-loop
-    μ-loop
-    members-requires
-    loop-holds
-    first-requires
-    cast-x
-    mul-start
-    element-copy-out-wide
-    wide-requires
-    add-end
-    add-bar-requires
-    sub-add-bytes
-    part-add-bytes-start
-    part-add-bytes-end
-    add-bytes-requires
-    rest-requires
-    loop-less
-    loop-again
-    same-length
-    returns)
+    (tie.spec Inv-loop μ-loop
+    (λ c κs. tt) loop-holds (λ c κs. tt) (λ c. let h = low c in omega arith) (λ c. let h = low c in omega arith)
+    (λ c. let h = low c in omega arith) (λ c κs. tt)
+    (λ c. let h = low (c .before .before) in omega (arith, c .wide .ensures .1))
+    (λ c κs. tt) (λ c. omega arith) (λ c. omega arith)
+    (λ c. let h = low (c .before .before .before .before .before .before) in
+    omega (
+      arith,
+      c .before .before .before .before .wide .ensures .1,
+      c .before .before .before .before .before .before .before .before .before .before .before .before .before .pre,
+    ))
+    (λ c κs. tt) (λ c κs. tt)
+    (λ c. let t = c .before .before .before .before .before .before .before .before .before .before .before .before .before in
+    left-less (t .before .before .loop .inv .1 .0) (t .if1 .taken) (c .rest .ensures)) loop-again
+    (λ c. wrote-length (c .before .before .loop .inv .1 .1)) returns)

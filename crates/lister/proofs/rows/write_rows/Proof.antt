@@ -1,6 +1,6 @@
 -- Before each turn the agents that were taken have their place and their row.
 use mathlib.Core.Path.{sym, _∙_}
-use Prim.Native.Nat.{ℕ, _+_}
+use Prim.Native.Nat.{ℕ, _+_, _<_}
 use native.Mathlib.Omega.{arith}
 use lib.ListN.{length-take, length-drop}
 use borrow.Author.Tests.{lt-ltb, le-ltb}
@@ -20,92 +20,56 @@ Inv-loop texts₀ c homes₀ lengths₀ left₀ texts homes lengths left =
 abbrev μ-loop : tie.MeasureT-loop
 μ-loop texts₀ c homes₀ lengths₀ left₀ texts homes lengths left = left .bits
 
+-- the member of this turn is below 64
+low : (m : tie.After-first Inv-loop μ-loop) → m .first .result < 64
+low m = taken-lt (m .before .before .before .loop .inv .1 .0) (m .before .if1 .taken) (m .first .ensures)
+
 loop-holds : tie.Need-loop-holds Inv-loop μ-loop
-loop-holds c = (0, (rest-start _ (sized (c .before .before .args .t1) (c .before .before .good .0) .given), held-none _ _ (c .before .before .pre)))
-
-first-requires : tie.Need-first-requires Inv-loop μ-loop
-first-requires c κs = tt
-
-cast-x : tie.Need-cast-x Inv-loop μ-loop
-cast-x c = omega (arith, taken-lt (c .before .before .before .loop .inv .1 .0) (c .before .if1 .taken) (c .first .ensures))
-
-mul-a : tie.Need-mul-a Inv-loop μ-loop
-mul-a c = omega (arith, taken-lt (c .before .before .before .loop .inv .1 .0) (c .before .if1 .taken) (c .first .ensures))
-
-element-copy-out-a : tie.Need-element-copy-out-a Inv-loop μ-loop
-element-copy-out-a c = omega (arith, taken-lt (c .before .before .before .loop .inv .1 .0) (c .before .if1 .taken) (c .first .ensures))
-
-rest-requires : tie.Need-rest-requires Inv-loop μ-loop
-rest-requires c κs = tt
-
-mul-from : tie.Need-mul-from Inv-loop μ-loop
-mul-from c = omega (arith, taken-lt (c .before .before .before .before .before .before .before .loop .inv .1 .0) (c .before .before .before .before .before .if1 .taken) (c .before .before .before .before .first .ensures))
-
-sub-put-agent : tie.Need-sub-put-agent Inv-loop μ-loop
-sub-put-agent c = omega (arith, taken-lt (c .before .before .before .before .before .before .before .loop .inv .1 .0) (c .before .before .before .before .before .if1 .taken) (c .before .before .before .before .first .ensures), (c .before .before .before .before .before .before .before .loop .inv .1 .1) .long)
-
-part-put-agent-start : tie.Need-part-put-agent-start Inv-loop μ-loop
-part-put-agent-start c = omega (arith, taken-lt (c .before .before .before .before .before .before .before .loop .inv .1 .0) (c .before .before .before .before .before .if1 .taken) (c .before .before .before .before .first .ensures), (c .before .before .before .before .before .before .before .loop .inv .1 .1) .long)
-
-part-put-agent-end : tie.Need-part-put-agent-end Inv-loop μ-loop
-part-put-agent-end c = omega arith
+loop-holds c = let f = c .before .before in (0, (rest-start _ (sized (f .args .t1) (f .good .0) .given), held-none _ _ (f .pre)))
 
 put-agent-requires : tie.Need-put-agent-requires Inv-loop μ-loop
-put-agent-requires c κs = simp (length-take, length-drop) (omega (arith, taken-lt (c .before .before .before .before .before .before .before .before .loop .inv .1 .0) (c .before .before .before .before .before .before .if1 .taken) (c .before .before .before .before .before .first .ensures), (c .before .before .before .before .before .before .before .before .loop .inv .1 .1) .long))
-
-cast-lengths : tie.Need-cast-lengths Inv-loop μ-loop
-cast-lengths c = omega (arith, c .before .before .put-agent .ensures .1)
-
-array-write-lengths : tie.Need-array-write-lengths Inv-loop μ-loop
-array-write-lengths c = omega (arith, taken-lt (c .before .before .before .before .before .before .before .before .before .before .before .loop .inv .1 .0) (c .before .before .before .before .before .before .before .before .before .if1 .taken) (c .before .before .before .before .before .before .before .before .first .ensures))
-
-array-write-homes : tie.Need-array-write-homes Inv-loop μ-loop
-array-write-homes c = omega (arith, taken-lt (c .before .before .before .before .before .before .before .before .before .before .before .loop .inv .1 .0) (c .before .before .before .before .before .before .before .before .before .if1 .taken) (c .before .before .before .before .before .before .before .before .first .ensures))
-
-loop-less : tie.Need-loop-less Inv-loop μ-loop
-loop-less c = left-less (c .before .before .before .before .before .before .before .before .before .before .before .loop .inv .1 .0) (c .before .before .before .before .before .before .before .before .before .if1 .taken) (c .before .before .before .before .before .before .rest .ensures)
+put-agent-requires c κs =
+    let h = low (c .before .before .before .before .before) in
+    let g = (c .before .before .before .before .before .before .before .before .loop .inv .1 .1) .long in
+    simp (length-take, length-drop) (omega arith)
 
 loop-again : tie.Need-loop-again Inv-loop μ-loop
 unfolding cellOf
-loop-again c = (c .before .before .before .before .before .before .before .before .first .result + 1, (left-over (c .before .before .before .before .before .before .before .before .before .before .before .loop .inv .1 .0) (c .before .before .before .before .before .before .before .before .before .if1 .taken) (c .before .before .before .before .before .before .before .before .first .ensures) (c .before .before .before .before .before .before .rest .ensures), held-more (c .before .before .before .before .before .before .before .before .before .before .before .loop .inv .1 .1) (c .before .before .before .before .before .before .before .before .before .before .before .loop .inv .1 .0) (c .before .before .before .before .before .before .before .before .before .if1 .taken) (c .before .before .before .before .before .before .before .before .first .ensures) (lt-ltb _ _ (c .before .before .before .before .if2 .taken)) (c .before .before .put-agent .ensures .0) (c .before .before .put-agent .ensures .1)))
-
-loop-less-2 : tie.Need-loop-less-2 Inv-loop μ-loop
-loop-less-2 c = left-less (c .before .before .before .before .before .before .before .loop .inv .1 .0) (c .before .before .before .before .before .if1 .taken) (c .before .before .rest .ensures)
+loop-again c =
+    let p = c .before .before .put-agent .ensures in
+    let t = c .before .before .before .before .if2 .taken in
+    let r = c .before .before .before .before .before .before in
+    let e = r .before .before .first .ensures in
+    let k = r .before .before .before .if1 .taken in
+    let v = r .before .before .before .before .before .loop .inv .1 in
+    (r .before .before .first .result + 1, (left-over (v .0) k e (r .rest .ensures), held-more (v .1) (v .0) k e (lt-ltb _ _ t) (p .0) (p .1)))
 
 loop-again-2 : tie.Need-loop-again-2 Inv-loop μ-loop
 unfolding cellOf
-loop-again-2 c = (c .before .before .before .before .first .result + 1, (left-over (c .before .before .before .before .before .before .before .loop .inv .1 .0) (c .before .before .before .before .before .if1 .taken) (c .before .before .before .before .first .ensures) (c .before .before .rest .ensures), held-same (c .before .before .before .before .before .before .before .loop .inv .1 .1) (c .before .before .before .before .before .before .before .loop .inv .1 .0) (c .before .before .before .before .before .if1 .taken) (c .before .before .before .before .first .ensures) (le-ltb _ _ (c .if2 .left))))
-
-same-length : tie.Need-same-length Inv-loop μ-loop
-same-length c = (c .before .before .loop .inv .1 .1) .long ∙ sym (c .before .before .before .before .before .pre)
-
-returns : tie.Need-returns Inv-loop μ-loop
-unfolding cellOf
-returns c = held-all (c .before .before .loop .inv .1 .1) (c .before .before .loop .inv .1 .0) (omega (arith, c .if1 .left))
+loop-again-2 c =
+    let r = c .before .before in
+    let e = r .before .before .first .ensures in
+    let k = r .before .before .before .if1 .taken in
+    let v = r .before .before .before .before .before .loop .inv .1 in
+    (r .before .before .first .result + 1, (left-over (v .0) k e (r .rest .ensures), held-same (v .1) (v .0) k e (le-ltb _ _ (c .if2 .left))))
 
 pub write-rows-spec : {M : Type 1} → statement M
+unfolding cellOf
 write-rows-spec =
     tie.close
-    (tie.spec
-    Inv-loop
-    μ-loop
-    loop-holds
-    first-requires
-    cast-x
-    mul-a
-    element-copy-out-a
-    rest-requires
-    mul-from
-    sub-put-agent
-    part-put-agent-start
-    part-put-agent-end
-    put-agent-requires
-    cast-lengths
-    array-write-lengths
-    array-write-homes
-    loop-less
-    loop-again
-    loop-less-2
-    loop-again-2
-    same-length
-    returns)
+    (tie.spec Inv-loop μ-loop
+    loop-holds (λ c κs. tt) (λ c. let h = low c in omega arith) (λ c. let h = low c in omega arith) (λ c. let h = low c in omega arith) (λ c κs. tt)
+    (λ c. let h = low (c .before .before .before .before) in omega arith)
+    (λ c. let h = low (c .before .before .before .before) in
+    omega (arith, (c .before .before .before .before .before .before .before .loop .inv .1 .1) .long))
+    (λ c. let h = low (c .before .before .before .before) in
+    omega (arith, (c .before .before .before .before .before .before .before .loop .inv .1 .1) .long))
+    (λ c. omega arith) put-agent-requires (λ c. omega (arith, c .before .before .put-agent .ensures .1))
+    (λ c. let h = low (c .before .before .before .before .before .before .before .before) in omega arith)
+    (λ c. let h = low (c .before .before .before .before .before .before .before .before) in omega arith)
+    (λ c. let r = c .before .before .before .before .before .before in
+    left-less (r .before .before .before .before .before .loop .inv .1 .0) (r .before .before .before .if1 .taken) (r .rest .ensures)) loop-again
+    (λ c. let r = c .before .before in
+    left-less (r .before .before .before .before .before .loop .inv .1 .0) (r .before .before .before .if1 .taken) (r .rest .ensures)) loop-again-2
+    (λ c. (c .before .before .loop .inv .1 .1) .long ∙ sym (c .before .before .before .before .before .pre))
+    (λ c. let l = c .before .before .loop in held-all (l .inv .1 .1) (l .inv .1 .0) (omega (arith, c .if1 .left))))

@@ -1,6 +1,6 @@
 -- Before each turn the members that were taken stand in the words of their keys.
 use mathlib.Core.Path.{_≡_, refl}
-use Prim.Native.Nat.{ℕ, _+_}
+use Prim.Native.Nat.{ℕ, _+_, _<_}
 use native.Mathlib.Omega.{arith}
 use borrow.Author.Needs.{needs}
 use Rattle.sets.specs.Set.{member}
@@ -17,73 +17,53 @@ Inv-loop keys words₀ left₀ words left =
 abbrev μ-loop : tie.MeasureT-loop
 μ-loop keys words₀ left₀ words left = left .bits
 
-loop-holds : tie.Need-loop-holds Inv-loop μ-loop
-loop-holds c = (0, (rest-start _ (search needs), words-none (c .args .members) (c .args .keys .now)))
+-- the member of this turn is below 64
+low : (m : tie.After-first Inv-loop μ-loop) → m .first .result < 64
+low m = taken-lt (m .before .before .before .loop .inv .1 .0) (m .before .if1 .taken) (m .first .ensures)
 
-first-requires : tie.Need-first-requires Inv-loop μ-loop
-first-requires c κs = tt
-
-cast-i : tie.Need-cast-i Inv-loop μ-loop
-cast-i c = omega (arith, taken-lt (c .before .before .before .loop .inv .1 .0) (c .before .if1 .taken) (c .first .ensures))
-
-element-copy-out-wide : tie.Need-element-copy-out-wide Inv-loop μ-loop
-element-copy-out-wide c = omega (arith, taken-lt (c .before .before .before .loop .inv .1 .0) (c .before .if1 .taken) (c .first .ensures))
-
-wide-requires : tie.Need-wide-requires Inv-loop μ-loop
-wide-requires c κs = tt
-
-rest-requires : tie.Need-rest-requires Inv-loop μ-loop
-rest-requires c κs = tt
-
-mul-t14 : tie.Need-mul-t14 Inv-loop μ-loop
-mul-t14 c = omega arith
-
-array-read-t17 : tie.Need-array-read-t17 Inv-loop μ-loop
-array-read-t17 c = omega arith
-
-insert-requires : tie.Need-insert-requires Inv-loop μ-loop
-insert-requires c κs = tt
-
-mul-words : tie.Need-mul-words Inv-loop μ-loop
-mul-words c = omega arith
-
-array-write-words : tie.Need-array-write-words Inv-loop μ-loop
-array-write-words c = omega arith
-
-loop-less : tie.Need-loop-less Inv-loop μ-loop
-loop-less c = left-less (c .before .before .before .before .before .before .before .before .loop .inv .1 .0) (c .before .before .before .before .before .before .if1 .taken) (c .before .before .rest .ensures)
+fewer : (m : tie.After-rest Inv-loop μ-loop) → m .rest .result .bits < m .before .before .before .before .before .before .loop .left .bits
+fewer m = left-less (m .before .before .before .before .before .before .loop .inv .1 .0) (m .before .before .before .before .if1 .taken)
+    (m .rest .ensures)
 
 loop-again : tie.Need-loop-again Inv-loop μ-loop
-loop-again c = (lowestIn (c .before .before .before .before .before .before .before .before .loop .left) + 1, (left-over (c .before .before .before .before .before .before .before .before .loop .inv .1 .0) (c .before .before .before .before .before .before .if1 .taken) refl (c .before .before .rest .ensures), words-more (c .before .before .before .before .before .before .before .before .before .args .members) (c .before .before .before .before .before .before .before .before .before .args .keys .now) (c .before .before .before .before .before .before .before .before .loop .inv .1 .0) (c .before .before .before .before .before .before .if1 .taken) _ _ _ _ (c .before .before .before .before .before .first .ensures) (c .before .before .before .wide .ensures .0) (c .before .if2 .taken) (c .insert .ensures) (c .before .before .before .before .before .before .before .before .loop .inv .1 .1)))
-
-loop-less-2 : tie.Need-loop-less-2 Inv-loop μ-loop
-loop-less-2 c = left-less (c .before .before .before .before .before .before .before .loop .inv .1 .0) (c .before .before .before .before .before .if1 .taken) (c .before .rest .ensures)
+loop-again c =
+    let r = c .before .before in
+    let k = r .before .before .before .before .if1 .taken in
+    let l = r .before .before .before .before .before .before .loop in
+    let a = r .before .before .before .before .before .before .before .args in (
+      lowestIn (l .left) + 1,
+      (
+        left-over (l .inv .1 .0) k refl (r .rest .ensures),
+        words-more (a .members) (a .keys .now) (l .inv .1 .0) k _ _ _ _ (r .before .before .before .first .ensures) (r .before .wide .ensures .0)
+            (c .before .if2 .taken) (c .insert .ensures) (l .inv .1 .1),
+      ),
+    )
 
 loop-again-2 : tie.Need-loop-again-2 Inv-loop μ-loop
-loop-again-2 c = (lowestIn (c .before .before .before .before .before .before .before .loop .left) + 1, (left-over (c .before .before .before .before .before .before .before .loop .inv .1 .0) (c .before .before .before .before .before .if1 .taken) refl (c .before .rest .ensures), words-same (c .before .before .before .before .before .before .before .before .args .members) (c .before .before .before .before .before .before .before .before .args .keys .now) (c .before .before .before .before .before .before .before .loop .inv .1 .0) (c .before .before .before .before .before .if1 .taken) _ _ _ (c .before .before .before .before .first .ensures) (c .before .before .wide .ensures .0) (c .if2 .left) (c .before .before .before .before .before .before .before .loop .inv .1 .1)))
+loop-again-2 c =
+    let r = c .before in
+    let k = r .before .before .before .before .if1 .taken in
+    let l = r .before .before .before .before .before .before .loop in
+    let a = r .before .before .before .before .before .before .before .args in (
+      lowestIn (l .left) + 1,
+      (
+        left-over (l .inv .1 .0) k refl (r .rest .ensures),
+        words-same (a .members) (a .keys .now) (l .inv .1 .0) k _ _ _ (r .before .before .before .first .ensures) (r .before .wide .ensures .0)
+            (c .if2 .left) (l .inv .1 .1),
+      ),
+    )
 
 returns : tie.Need-returns Inv-loop μ-loop
-returns c = words-all (c .before .before .before .args .members) (c .before .before .before .args .keys .now) (c .before .before .loop .inv .1 .0) (omega (arith, c .if1 .left)) _ (c .before .before .loop .inv .1 .1)
+returns c =
+    let l = c .before .before .loop in
+    let a = c .before .before .before .args in
+    words-all (a .members) (a .keys .now) (l .inv .1 .0) (omega (arith, c .if1 .left)) _ (l .inv .1 .1)
 
 pub grouped-spec : {M : Type 1} → statement M
 grouped-spec =
     tie.close
-    (tie.spec
-    Inv-loop
-    μ-loop
-    loop-holds
-    first-requires
-    cast-i
-    element-copy-out-wide
-    wide-requires
-    rest-requires
-    mul-t14
-    array-read-t17
-    insert-requires
-    mul-words
-    array-write-words
-    loop-less
-    loop-again
-    loop-less-2
-    loop-again-2
-    returns)
+    (tie.spec Inv-loop μ-loop
+    (λ c. (0, (rest-start _ (search needs), words-none (c .args .members) (c .args .keys .now))))
+    (λ c κs. tt) (λ c. let h = low c in omega arith) (λ c. let h = low c in omega arith) (λ c κs. tt) (λ c κs. tt)
+    (λ c. omega arith) (λ c. omega arith) (λ c κs. tt) (λ c. omega arith) (λ c. omega arith)
+    (λ c. fewer (c .before .before)) loop-again (λ c. fewer (c .before)) loop-again-2 returns)
