@@ -29,8 +29,7 @@ returns-2 c =
     let laid = floor-is (drawn (f .args .c) (up .before .names .ensures) (up .parents .ensures) (rows .before .before .grouped .ensures)
     (rows .write-rows .ensures) (t .before .grouped2 .ensures)) in
     rw (t .if1 .taken) (wholly (f .args .buf .now) (omega (arith, f .good)) (wrote-as laid (m .before .before .before .write-floor .ensures))
-    (m .if2 .left)
-    (wrote-as laid (c .before .before .write-floor2 .ensures)))
+    (m .if2 .left) (wrote-as laid (c .before .before .write-floor2 .ensures)))
 
 returns-3 : tie.Need-returns-3
 returns-3 c =

@@ -13,4 +13,5 @@ add-listing-spec =
     (λ c. least-le _ _ _ (c .least .ensures) .1)
     (λ c. let h = least-le _ _ _ (c .least .ensures) in omega (arith, h .1))
     (λ c. search needs) (λ c κs. search needs) (λ c κs. search needs) (λ c. search needs)
-    (λ c. let w = c .before .before .before in adds _ _ _ _ _ _ _ (w .before .before .least .ensures) (w .write-listing-line .ensures) (c .plus .ensures)))
+    (λ c. let w = c .before .before .before in
+    adds _ _ _ _ _ _ _ (w .before .before .least .ensures) (w .write-listing-line .ensures) (c .plus .ensures)))

@@ -8,12 +8,14 @@ use Rattle.report.proofs.write_report.Tie as tie
 returns : tie.Need-returns
 returns c =
     let told = c .before .before .before .before in
-    wrote-as (report-accepted _ _ _ _ (told .before .before .before .load .ensures) (told .enum-told .given .1)) (c .before .before .write-run .ensures)
+    wrote-as (report-accepted _ _ _ _ (told .before .before .before .load .ensures) (told .enum-told .given .1))
+    (c .before .before .write-run .ensures)
 
 returns-2 : tie.Need-returns-2
 returns-2 c =
     let told = c .before .before .before .before .before in
-    wrote-as (report-refused _ _ _ _ (told .before .before .before .load .ensures) _ _ (told .v .given .1)) (c .before .before .write-refused .ensures)
+    wrote-as (report-refused _ _ _ _ (told .before .before .before .load .ensures) _ _ (told .v .given .1))
+    (c .before .before .write-refused .ensures)
 
 pub write-report-spec : {M : Type 1} → statement M
 write-report-spec =

@@ -40,7 +40,8 @@ returns c =
     let f = start .before .before .before .before .before .before in
     let short : length (f .args .buf .now) ≤ 18446744073709551615 = omega (arith, f .good) in
     let left = end .before .loop .inv .1 _ _ short (start .write-listing-line .ensures) in
-    left-none left (pairs-none _ _ _ (start .before .before .before .pairs .ensures) (end .loop-test .left)) (added short (left .wrote) (c .before .before .add-listing .ensures))
+    left-none left (pairs-none _ _ _ (start .before .before .before .pairs .ensures) (end .loop-test .left))
+    (added short (left .wrote) (c .before .before .add-listing .ensures))
 
 pub write-run-spec : {M : Type 1} → statement M
 write-run-spec =
@@ -48,12 +49,19 @@ write-run-spec =
     (tie.spec Inv-loop μ-loop
     (λ c κs. search needs) (λ c. search needs) (λ c κs. search needs)
     (λ c. (omega arith, λ s b r w. record { text = s; wrote = w; rest = refl }))
-    (λ c. let h = pairs-more _ _ _ (c .before .before .before .before .before .before .before .pairs .ensures) (c .loop-test .taken) in omega (arith, h .0))
-    (λ c. let h = pairs-more _ _ _ (c .before .before .before .before .before .before .before .before .pairs .ensures) (c .before .loop-test .taken) in omega (arith, h .1))
-    (λ c. let h = pairs-more _ _ _ (c .before .before .before .before .before .before .before .before .pairs .ensures) (c .before .loop-test .taken) in omega (arith, h .0))
-    (λ c. let h = pairs-more _ _ _ (c .before .before .before .before .before .before .before .before .pairs .ensures) (c .before .loop-test .taken) in omega (arith, h .0))
-    (λ c. let turn = c .before .before in pairs-more _ _ _ (turn .before .before .before .before .before .before .before .pairs .ensures) (turn .loop-test .taken) .1)
+    (λ c. let h = pairs-more _ _ _ (c .before .before .before .before .before .before .before .pairs .ensures) (c .loop-test .taken) in
+    omega (arith, h .0))
+    (λ c. let h = pairs-more _ _ _ (c .before .before .before .before .before .before .before .before .pairs .ensures)
+    (c .before .loop-test .taken) in omega (arith, h .1))
+    (λ c. let h = pairs-more _ _ _ (c .before .before .before .before .before .before .before .before .pairs .ensures)
+    (c .before .loop-test .taken) in omega (arith, h .0))
+    (λ c. let h = pairs-more _ _ _ (c .before .before .before .before .before .before .before .before .pairs .ensures)
+    (c .before .loop-test .taken) in omega (arith, h .0))
+    (λ c. let turn = c .before .before in
+    pairs-more _ _ _ (turn .before .before .before .before .before .before .before .pairs .ensures) (turn .loop-test .taken) .1)
     (λ c κs. search needs) (λ c κs. search needs)
-    (λ c. let turn = c .before .before .before .before .before .before .before .before in let h = pairs-more _ _ _ (turn .before .before .before .before .before .before .before .pairs .ensures) (turn .loop-test .taken) in omega (arith, h .0))
+    (λ c. let turn = c .before .before .before .before .before .before .before .before in
+    let h = pairs-more _ _ _ (turn .before .before .before .before .before .before .before .pairs .ensures) (turn .loop-test .taken) in
+    omega (arith, h .0))
     (λ c. omega (arith, c .before .before .before .before .before .before .before .before .loop-test .taken)) loop-again
     (λ c. search needs) (λ c κs. search needs) (λ c. wrote-length (returns c)) returns)

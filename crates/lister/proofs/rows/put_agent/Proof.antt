@@ -105,14 +105,6 @@ put-agent-spec =
     (λ c. let s = near c in omega arith) (λ c. let s = near c in omega arith) (λ c. omega arith) (λ c κs. tt)
     (λ c. omega (arith, (least-le _ _ _ (c .before .before .before .before .before .before .before .least .ensures)) .1))
     sub-put-action part-put-action-start (λ c. omega arith) put-action-requires
-    (λ c. omega (
-      arith,
-      (least-le _ _ _
-          (c .before .before .before .before .before .before .before .before .before .before .before .least .ensures)) .1,
-    ))
-    (λ c. omega (
-      arith,
-      (least-le _ _ _
-          (c .before .before .before .before .before .before .before .before .before .before .before .least .ensures)) .1,
-    ))
+    (λ c. let e = c .before .before .before .before .before .before .before .before .before .before .before .least .ensures in omega (arith, (least-le _ _ _ e) .1))
+    (λ c. let e = c .before .before .before .before .before .before .before .before .before .before .before .least .ensures in omega (arith, (least-le _ _ _ e) .1))
     (λ c. omega arith) loop-again (λ c. wrote-length (c .before .loop .inv .1 .1 .1 .1)) returns)

@@ -11,53 +11,13 @@ unfolding digitAt
 width-spec =
     tie.close
     (tie.spec
-    (λ c.
-    let f = c .before in
-    let n = f .args .n in
-    rw (
-      digits-count n (omega (arith, f .fits .n)),
-      lt-ltb n 10000 (omega arith),
-      lt-ltb n 1000 (omega arith),
-      lt-ltb n 100 (omega arith),
-      lt-ltb n 10 (omega arith),
-    ))
-    (λ c.
-    let f = c .before .before in
-    let n = f .args .n in
-    rw (
-      digits-count n (omega (arith, f .fits .n)),
-      lt-ltb n 10000 (omega arith),
-      lt-ltb n 1000 (omega arith),
-      lt-ltb n 100 (omega arith),
-      le-ltb n 10 (omega arith),
-    ))
-    (λ c.
-    let f = c .before .before .before in
-    let n = f .args .n in
-    rw (
-      digits-count n (omega (arith, f .fits .n)),
-      lt-ltb n 10000 (omega arith),
-      lt-ltb n 1000 (omega arith),
-      le-ltb n 100 (omega arith),
-      le-ltb n 10 (omega arith),
-    ))
-    (λ c.
-    let f = c .before .before .before .before in
-    let n = f .args .n in
-    rw (
-      digits-count n (omega (arith, f .fits .n)),
-      lt-ltb n 10000 (omega arith),
-      le-ltb n 1000 (omega arith),
-      le-ltb n 100 (omega arith),
-      le-ltb n 10 (omega arith),
-    ))
-    (λ c.
-    let f = c .before .before .before .before in
-    let n = f .args .n in
-    rw (
-      digits-count n (omega (arith, f .fits .n)),
-      le-ltb n 10000 (omega arith),
-      le-ltb n 1000 (omega arith),
-      le-ltb n 100 (omega arith),
-      le-ltb n 10 (omega arith),
-    )))
+    (λ c. let f = c .before in let n = f .args .n in
+    rw (digits-count n (omega (arith, f .fits .n)), lt-ltb n 10000 (omega arith), lt-ltb n 1000 (omega arith), lt-ltb n 100 (omega arith), lt-ltb n 10 (omega arith)))
+    (λ c. let f = c .before .before in let n = f .args .n in
+    rw (digits-count n (omega (arith, f .fits .n)), lt-ltb n 10000 (omega arith), lt-ltb n 1000 (omega arith), lt-ltb n 100 (omega arith), le-ltb n 10 (omega arith)))
+    (λ c. let f = c .before .before .before in let n = f .args .n in
+    rw (digits-count n (omega (arith, f .fits .n)), lt-ltb n 10000 (omega arith), lt-ltb n 1000 (omega arith), le-ltb n 100 (omega arith), le-ltb n 10 (omega arith)))
+    (λ c. let f = c .before .before .before .before in let n = f .args .n in
+    rw (digits-count n (omega (arith, f .fits .n)), lt-ltb n 10000 (omega arith), le-ltb n 1000 (omega arith), le-ltb n 100 (omega arith), le-ltb n 10 (omega arith)))
+    (λ c. let f = c .before .before .before .before in let n = f .args .n in
+    rw (digits-count n (omega (arith, f .fits .n)), le-ltb n 10000 (omega arith), le-ltb n 1000 (omega arith), le-ltb n 100 (omega arith), le-ltb n 10 (omega arith))))

@@ -58,7 +58,8 @@ unfolding cellOf
 write-rows-spec =
     tie.close
     (tie.spec Inv-loop μ-loop
-    loop-holds (λ c κs. tt) (λ c. let h = low c in omega arith) (λ c. let h = low c in omega arith) (λ c. let h = low c in omega arith) (λ c κs. tt)
+    loop-holds (λ c κs. tt)
+    (λ c. let h = low c in omega arith) (λ c. let h = low c in omega arith) (λ c. let h = low c in omega arith) (λ c κs. tt)
     (λ c. let h = low (c .before .before .before .before) in omega arith)
     (λ c. let h = low (c .before .before .before .before) in
     omega (arith, (c .before .before .before .before .before .before .before .loop .inv .1 .1) .long))

@@ -92,7 +92,8 @@ see-spec =
     -- asleep, done or about to look
     (λ c κs. tt) (λ c κs. tt) (λ c κs. tt)
     (λ c.
-    unfit (c .before .before .before .before .before .before .before .before .before .before .before) (fits-still (c .before) ∙ turned _ (c .if5 .taken)))
+    unfit (c .before .before .before .before .before .before .before .before .before .before .before)
+    (fits-still (c .before) ∙ turned _ (c .if5 .taken)))
     (λ c. fewer (c .before .before .before .before .before .before .before .before .before .before .before)) loop-again
     -- with locks or on its way
     (λ c κs. tt) (λ c. omega arith) (λ c. omega arith) (λ c κs. tt) (λ c. omega arith) (λ c. omega arith) (λ c κs. tt) (λ c κs. tt) (λ c κs. tt)
