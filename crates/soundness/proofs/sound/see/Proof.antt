@@ -26,14 +26,16 @@ loop-holds c =
 
 returns : tie.Need-returns Inv-loop μ-loop
 returns c =
-    let h = c .before in
-    unfit h (home-out (table h) (sized (table h) (good h)) (number h) (this h) (sym (h .has .ensures) ∙ turned _ (c .if2 .taken)))
+    let h = c .before .before in
+    c .unsound .ensures
+    ∙ unfit h (home-out (table h) (sized (table h) (good h)) (number h) (this h) (sym (h .has .ensures) ∙ turned _ (c .before .if2 .taken)))
 
 returns-2 : tie.Need-returns-2 Inv-loop μ-loop
 returns-2 c =
-    let h = c .before .before .before .before in
-    unfit h (row-out (table h) (sized (table h) (good h)) (number h) (this h)
-    (sym (c .before .before .row-of .ensures .0) ∙ turned _ (c .if3 .taken)))
+    let h = c .before .before .before .before .before in
+    c .unsound2 .ensures
+    ∙ unfit h (row-out (table h) (sized (table h) (good h)) (number h) (this h)
+    (sym (c .before .before .before .row-of .ensures .0) ∙ turned _ (c .before .if3 .taken)))
 
 loop-again : tie.Need-loop-again Inv-loop μ-loop
 loop-again c =
@@ -46,11 +48,12 @@ loop-again c =
 
 returns-4 : tie.Need-returns-4 Inv-loop μ-loop
 returns-4 c =
-    let second = c .before .before .before .before .before .before .before in
+    let second = c .before .before .before .before .before .before .before .before in
     let h = second .before .before .before .before .before .before .before .before .before .before .before .before .before in
     let l = h .before .before .before .before .before .before .loop in
-    refused h (passed-twice (table h) (sized (table h) (good h)) (l .claimed) (l .going) (l .rest) (l .inv) (some-left h)
-    (moves (c .before) ∙ c .if6 .taken))
+    c .unsound4 .ensures
+    ∙ refused h (passed-twice (table h) (sized (table h) (good h)) (l .claimed) (l .going) (l .rest) (l .inv) (some-left h)
+    (moves (c .before .before) ∙ c .before .if6 .taken))
 
 loop-again-2 : tie.Need-loop-again-2 Inv-loop μ-loop
 loop-again-2 c =
@@ -88,21 +91,25 @@ see-spec =
     -- the agent of the turn: its home and its row
     (λ c κs. tt) (λ c κs. tt)
     (λ c. let h = small c in omega arith) (λ c. let h = small c in omega arith) (λ c. let h = small c in omega arith)
-    (λ c κs. tt) returns (λ c κs. tt) returns-2
+    (λ c κs. tt) (λ c κs. tt) returns (λ c κs. tt) (λ c κs. tt) returns-2
     -- asleep, done or about to look
     (λ c κs. tt) (λ c κs. tt) (λ c κs. tt)
+    (λ c κs. tt)
     (λ c.
-    unfit (c .before .before .before .before .before .before .before .before .before .before .before)
-    (fits-still (c .before) ∙ turned _ (c .if5 .taken)))
+    c .unsound3 .ensures
+    ∙ unfit (c .before .before .before .before .before .before .before .before .before .before .before .before)
+    (fits-still (c .before .before) ∙ turned _ (c .before .if5 .taken)))
     (λ c. fewer (c .before .before .before .before .before .before .before .before .before .before .before)) loop-again
     -- with locks or on its way
     (λ c κs. tt) (λ c. omega arith) (λ c. omega arith) (λ c κs. tt) (λ c. omega arith) (λ c. omega arith) (λ c κs. tt) (λ c κs. tt) (λ c κs. tt)
-    (λ c κs. tt) (λ c. omega arith) (λ c. omega arith) (λ c κs. tt) (λ c κs. tt) returns-4
+    (λ c κs. tt) (λ c. omega arith) (λ c. omega arith) (λ c κs. tt) (λ c κs. tt) (λ c κs. tt) returns-4
+    (λ c κs. tt)
     (λ c κs. tt)
     (λ c.
-    let second = c .before .before .before .before .before .before .before .before .before in
-    unfit (second .before .before .before .before .before .before .before .before .before .before .before .before .before)
-    (fits-busy (c .before) ∙ turned _ (c .if7 .taken)))
+    let second = c .before .before .before .before .before .before .before .before .before .before in
+    c .unsound5 .ensures
+    ∙ unfit (second .before .before .before .before .before .before .before .before .before .before .before .before .before)
+    (fits-busy (c .before .before) ∙ turned _ (c .before .if7 .taken)))
     (λ c κs. tt) (λ c κs. tt) (λ c κs. tt)
     (λ c.
     let second = c .before .before .before .before .before .before .before .before .before .before .before .before in
