@@ -2,16 +2,17 @@
 use mathlib.Core.Path.{_≡_}
 use mathlib.Core.Bool.{Bool, true, false, cond}
 use mathlib.Core.List.{List, [], _++_}
-use Prim.Native.Nat.{ℕ, zero, suc, _+_, _*_, _≤_, _<_}
+use Prim.Native.Nat.{ℕ, zero, suc, _+_, _*_, _≤_}
 use native.Mathlib.Nat.{le-refl}
 use native.Mathlib.Omega.{arith}
 use lib.Dec.{eqb}
 use lib.ListN.{length, length-append, getD}
 use borrow.Author.Tests.{le-leb}
 use Rattle.table.specs.Base.{tab}
-use Rattle.table.specs.Cell.{State, noPlace, noAction, noAgent, cellOf}
+use Rattle.table.specs.Cell.{State, noAction, cellOf}
 use Rattle.table.specs.BaseLaws.{Told, yea, nay, told}
 use Rattle.table.specs.Sound.{sound}
+use Rattle.table.specs.Bounds.{Names16}
 use Rattle.table.specs.declared.Cell.{Cell}
 use Rattle.meaning.specs.Text.{ascii, decimal}
 use Rattle.meaning.specs.Listing.{kindText, actionText, isUnused, actionTurn, agentText, listsIn, agentTurn, agentsText, standsUnder, bracketed, placeTurn, contentsText, listing, listAnswer}
@@ -101,11 +102,6 @@ module _ (w : ℕ) (c : State) (n : Named w c) where
 -- a number of 64 bits has at most 20 digits, and no more are written
 pub listing-any : (c : State) → length (listing c) ≤ 29348
 listing-any c = listing-length 20 c (record { place = λ q. digits-most 20 _; action = λ x j. digits-most 20 _ })
-
--- names of 16 bits: so it is of every value of the struct
-pub record Names16 (t : Cell) : Type 0 where
-  pub place : (q : ℕ) → getD (t .places) q noPlace .name < 65536
-  pub action : (x j : ℕ) → getD (getD (t .agents) x noAgent .actions) j noAction .name < 65536
 
 -- the longest listing of a table has 13,043 bytes
 pub listing-longest : (t : Cell) → Names16 t → length (listing (cellOf t)) ≤ 13043

@@ -1,9 +1,9 @@
--- What lies at and past 64: the sizes of a table's arrays, and what a cell reads there.
+-- What the types of a table say: the sizes of its arrays, the range of its names, and what a cell reads at and past 64.
 use mathlib.Core.Path.{_≡_}
 use mathlib.Core.Bool.{false}
 use Prim.Native.Nat.{ℕ, _^_, _≤_, _<_}
-use lib.ListN.{length}
-use Rattle.table.specs.Cell.{noPlace, noAgent, State}
+use lib.ListN.{length, getD}
+use Rattle.table.specs.Cell.{noPlace, noAction, noAgent, State}
 use Rattle.table.specs.declared.Cell.{Cell}
 
 -- a table's arrays have 64 elements and its sets are words: so it is of every value of the struct
@@ -13,6 +13,11 @@ pub record Sized (t : Cell) : Type 0 where
   pub agents : length (t .agents) ≡ 64
   pub used : t .used .bits < 2 ^ 64
   pub given : t .given .bits < 2 ^ 64
+
+-- its names have 16 bits: so it is of every value of the struct too
+pub record Names16 (t : Cell) : Type 0 where
+  pub place : (q : ℕ) → getD (t .places) q noPlace .name < 65536
+  pub action : (x j : ℕ) → getD (getD (t .agents) x noAgent .actions) j noAction .name < 65536
 
 -- at and past 64 a cell reads as a table does there
 pub record Bounded (c : State) : Type 0 where
