@@ -32,7 +32,8 @@ seen b a = record { sound = b; agent = a }
 
 -- the agent that was read first is the one that the call is for
 module _ (c : tie.After-at Inv-loop μ-loop) where
-  pub seen-as : (b : Bool) → b ≡ sound (cellOf (c .before .args .t1)) → seen b (getD (c .before .args .t1 .agents) (c .at .result) noAgent) ≡ seenOf (c .before .args .t1) (c .before .args .agent)
+  pub seen-as : (b : Bool) → b ≡ sound (cellOf (c .before .args .t1))
+      → seen b (getD (c .before .args .t1 .agents) (c .at .result) noAgent) ≡ seenOf (c .before .args .t1) (c .before .args .agent)
   seen-as b e = ap₂ seen e (ap (λ (n : ℕ). getD (c .before .args .t1 .agents) n noAgent) (c .at .ensures))
 
 positive : {n : ℕ} → (n ≡ 0 → ⊥) → 0 < n
@@ -80,7 +81,8 @@ module _ (c : tie.After-has Inv-loop μ-loop) where
   lowest = c .before .before .before .first .ensures
 
   pub fewer : c .before .before .rest2 .result .bits < left .bits
-  fewer = subst (λ (z : Set). z .bits < left .bits) (sym (c .before .before .rest2 .ensures)) (removed-less left (c .before .before .before .before .before .before .loop .inv .tested .left .small) some-left)
+  fewer = subst (λ (z : Set). z .bits < left .bits) (sym (c .before .before .rest2 .ensures))
+      (removed-less left (c .before .before .before .before .before .before .loop .inv .tested .left .small) some-left)
 
   -- what is known of it is known of the lowest that is left
   pub moved-to : (P : ℕ → Agent → Bool) (b : Bool) → P number this ≡ b → P (lowestIn left) (agent (lowestIn left)) ≡ b
@@ -122,29 +124,69 @@ module _ (c : tie.Else3 Inv-loop μ-loop) where
 pub is-still : (c : tie.Then4 Inv-loop μ-loop) → quiet (this (c .before .before .before .before .before .before .before) .stage) ≡ true
 is-still c = sym (c .before .is-quiet .ensures) ∙ c .if4 .taken
 
-pub fits-still : (c : tie.After-quiet-fits Inv-loop μ-loop) → agentFits (cellOf (table (c .before .before .before .before .before .before .before .before .before .before))) (number (c .before .before .before .before .before .before .before .before .before .before)) (this (c .before .before .before .before .before .before .before .before .before .before)) ≡ c .quiet-fits .result
-fits-still c =
-    let h = c .before .before .before .before .before .before .before .before .before .before in
-    let t = c .before .before .before .before .before .before in
-    sym (quiet-same (table h) (sized (table h) (good h)) (number h) (this h) (home-in t) (row-fits t) _ (kind-is t) (is-still (c .before .before .before)))
-    ∙ rw (← c .before .before .before .before .before .has2 .ensures) (sym (c .quiet-fits .ensures))
+module _ (c : tie.After-quiet-fits Inv-loop μ-loop) where
+  -- its row and its home, as they were tested
+  abbrev still-row : tie.Else3 Inv-loop μ-loop
+  still-row = c .before .before .before .before .before .before
+
+  abbrev still-home : tie.After-has Inv-loop μ-loop
+  still-home = still-row .before .before .before .before
+
+  pub fits-still : agentFits (cellOf (table still-home)) (number still-home) (this still-home) ≡ c .quiet-fits .result
+  fits-still =
+      let h = still-home in
+      sym (quiet-same (table h) (sized (table h) (good h)) (number h) (this h) (home-in still-row) (row-fits still-row) _ (kind-is still-row)
+      (is-still (c .before .before .before)))
+      ∙ rw (← c .before .before .before .before .before .has2 .ensures) (sym (c .quiet-fits .ensures))
 
 -- at any other stage: what it holds
-pub second-is : (c : tie.After-second-held Inv-loop μ-loop) → c .second-held .result ≡ secondHeldIn (cellOf (table (c .before .before .before .before .before .before .before .before .before .before .before .before .before))) (this (c .before .before .before .before .before .before .before .before .before .before .before .before .before))
-second-is c =
-    let h = c .before .before .before .before .before .before .before .before .before .before .before .before .before in
-    let t = c .before .before .before .before .before .before .before .before .before in
-    c .second-held .ensures ∙ ap (λ (k : ℕ). secondHeld (this h) (c .before .before .before .before .before .before .before .before .before .before .before .row-of .result .kind) (getD (table h .places) k noPlace .parent)) (c .before .before .before .before .before .at2 .ensures)
-    ∙ second-same (table h) (sized (table h) (good h)) (number h) (this h) (home-in t) (row-fits t) _ (kind-is t)
+module _ (c : tie.After-second-held Inv-loop μ-loop) where
+  abbrev held-row : tie.Else3 Inv-loop μ-loop
+  held-row = c .before .before .before .before .before .before .before .before .before
 
-pub fits-busy : (c : tie.After-busy-fits Inv-loop μ-loop) → agentFits (cellOf (table (c .before .before .before .before .before .before .before .before .before .before .before .before .before .before .before .before .before .before .before .before .before))) (number (c .before .before .before .before .before .before .before .before .before .before .before .before .before .before .before .before .before .before .before .before .before)) (this (c .before .before .before .before .before .before .before .before .before .before .before .before .before .before .before .before .before .before .before .before .before)) ≡ c .busy-fits .result
-fits-busy c =
-    let h = c .before .before .before .before .before .before .before .before .before .before .before .before .before .before .before .before .before .before .before .before .before in
-    let t = c .before .before .before .before .before .before .before .before .before .before .before .before .before .before .before .before .before in
-    sym (busy-same (table h) (sized (table h) (good h)) (number h) (this h) (home-in t) (row-fits t) _ (c .before .before .before .before .before .before .before .before .before .first-held .result) (c .before .before .before .before .before .before .before .before .second-held .result) (kind-is t) (c .before .before .before .before .before .before .before .before .before .first-held .ensures) (second-is (c .before .before .before .before .before .before .before .before)))
-    ∙ rw (← c .before .before .before .before .before .before .before .before .before .before .before .before .before .before .before .before .has2 .ensures, ← c .before .before .before .before .before .before .before .before .before .before .before .before .before .at2 .ensures, ← c .before .before .before .before .before .before .before .before .before .before .before .at3 .ensures, ← c .before .before .before .before .before .before .before .at4 .ensures, ← c .before .before .before .before .before .before .at5 .ensures) (sym (c .busy-fits .ensures))
+  abbrev held-home : tie.After-has Inv-loop μ-loop
+  held-home = held-row .before .before .before .before
 
-pub moves : (c : tie.After-has3 Inv-loop μ-loop) → member (c .before .before .before .before .before .before .before .before .before .before .before .before .before .before .before .before .before .before .before .before .before .before .before .before .before .loop .going) (goingFrom (agent (c .before .before .before .before .before .before .before .before .before .before .before .before .before .before .before .before .before .before .before) (lowestIn (left (c .before .before .before .before .before .before .before .before .before .before .before .before .before .before .before .before .before .before .before))))) ≡ c .has3 .result
-moves c =
-    let h = c .before .before .before .before .before .before .before .before .before .before .before .before .before .before .before .before .before .before .before in
-    ap (member (c .before .before .before .before .before .before .before .before .before .before .before .before .before .before .before .before .before .before .before .before .before .before .before .before .before .loop .going)) (ap (λ (n : ℕ). goingFrom (agent h n)) (sym (lowest h)) ∙ sym (c .before .going-from .ensures)) ∙ sym (c .has3 .ensures)
+  pub second-is : c .second-held .result ≡ secondHeldIn (cellOf (table held-home)) (this held-home)
+  second-is =
+      let h = held-home in
+      c .second-held .ensures
+      ∙ ap (λ (k : ℕ). secondHeld (this h) (held-row .before .before .row-of .result .kind) (getD (table h .places) k noPlace .parent))
+      (c .before .before .before .before .before .at2 .ensures)
+      ∙ second-same (table h) (sized (table h) (good h)) (number h) (this h) (home-in held-row) (row-fits held-row) _ (kind-is held-row)
+
+module _ (c : tie.After-busy-fits Inv-loop μ-loop) where
+  -- what it holds, and its home, as they were read
+  abbrev busy-held : tie.After-second-held Inv-loop μ-loop
+  busy-held = c .before .before .before .before .before .before .before .before
+
+  abbrev busy-home : tie.After-has Inv-loop μ-loop
+  busy-home = held-home busy-held
+
+  pub fits-busy : agentFits (cellOf (table busy-home)) (number busy-home) (this busy-home) ≡ c .busy-fits .result
+  fits-busy =
+      let h = busy-home in
+      let t = held-row busy-held in
+      let f = busy-held .before in
+      sym (busy-same (table h) (sized (table h) (good h)) (number h) (this h) (home-in t) (row-fits t) _ (f .first-held .result)
+      (busy-held .second-held .result) (kind-is t) (f .first-held .ensures) (second-is busy-held))
+      ∙ rw (
+        ← busy-held .before .before .before .before .before .before .before .before .has2 .ensures,
+        ← busy-held .before .before .before .before .before .at2 .ensures,
+        ← busy-held .before .before .before .at3 .ensures,
+        ← c .before .before .before .before .before .before .before .at4 .ensures,
+        ← c .before .before .before .before .before .before .at5 .ensures,
+      ) (sym (c .busy-fits .ensures))
+
+module _ (c : tie.After-has3 Inv-loop μ-loop) where
+  abbrev moved-home : tie.After-has Inv-loop μ-loop
+  moved-home = held-home (c .before .before .before .before .before .before)
+
+  -- the places that agents before it moved
+  abbrev moved-places : Set
+  moved-places = moved-home .before .before .before .before .before .before .loop .going
+
+  pub moves : member moved-places (goingFrom (agent moved-home (lowestIn (left moved-home)))) ≡ c .has3 .result
+  moves =
+      ap (member moved-places) (ap (λ (n : ℕ). goingFrom (agent moved-home n)) (sym (lowest moved-home)) ∙ sym (c .before .going-from .ensures))
+      ∙ sym (c .has3 .ensures)
