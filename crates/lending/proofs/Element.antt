@@ -9,6 +9,7 @@ use Prim.Native.Nat.{zero, suc, _+_, _*_}
 use native.Mathlib.Nat.{add-zero, zero-mul, suc-mul, le-of-suc-le-suc, not-suc-le-zero}
 use native.Mathlib.Omega.{arith}
 use lib.ListN.{length, getD, set, length-set}
+use lib.Seq.{set-getD}
 use mir.Syntax.{Ty, tyArray}
 use mir.Raw.{raw as rawTy}
 use mir.Val.{vstruct, vunit, ofList}
@@ -29,12 +30,6 @@ pub map-set : {X Y : Type 0} (f : X → Y) (l : List X) (k : ℕ) (x : X) → ma
 map-set f [] k x = refl
 map-set f (y ∷ l) zero x = refl
 map-set {Y = Y} f (y ∷ l) (suc k) x = ap (λ (z : List Y). f y ∷ z) (map-set f l k x)
-
--- an element set to what it is
-set-same : {X : Type 0} (l : List X) (k : ℕ) (d : X) → set l k (getD l k d) ≡ l
-set-same [] k d = refl
-set-same (x ∷ l) zero d = refl
-set-same {X = X} (x ∷ l) (suc k) d = ap (λ (z : List X). x ∷ z) (set-same l k d)
 
 module _ (F : Field) (L : FLaws F) where
   abbrev D : Type 0
@@ -109,7 +104,7 @@ module _ {M : Type 1} {𝓤 : URA M} {H : Heap 𝓤} {A : Atoms 𝓤} {K : Type 
         use1 W (‵ (fat q (tyArray τ n) b o (vstruct (ofList (set us k u))))) (subst (λ (z : ℕ). ent 𝓤 (elems 𝓤 H q τ b o (set us k u)) (H .at q (tyArray τ z) b o (vstruct (ofList (set us k u))))) (length-set us k u ∙ l) (W .laws .elems-at q τ b o (set us k u))) $
         move ! (1 ∷ []) $ use1 W (raw (Entry (vstruct (ofList (set us k u))))) (allE 𝓤 Entry (vstruct (ofList (set us k u)))) $ move ! (1 ∷ 0 ∷ []) $
         use2 W (back (vstruct (ofList (set us k u)))) (apply∗ 𝓤 (H .at q (tyArray τ n) b o (vstruct (ofList (set us k u)))) (mean 𝓤 H A (back (vstruct (ofList (set us k u)))))) $ done !);
-    same = ap (λ (vs : List Val). back (vstruct (ofList vs))) (set-same us k vunit) ∙ p .same;
+    same = ap (λ (vs : List Val). back (vstruct (ofList vs))) (set-getD us k vunit) ∙ p .same;
   }
     where
       One : Val → SProp 𝓤

@@ -12,6 +12,7 @@ use lib.ListN.{length, take}
 use lib.Seq.{getD-take, take-all, length-take-le}
 use borrow.Author.Tests.{eq-eqb, ne-eqb, lt-ltb, le-ltb, leb-true, leb-false, ltb-false}
 use Rattle.sets.specs.Word.{bit, has}
+use Rattle.sets.specs.WordLaws.{bit-lt}
 use Rattle.table.specs.BaseLaws.{Told, yea, nay, told, eq?, upd-at, upd-other, upd-all}
 use Rattle.table.specs.Cell.{State, cellOf, bareTable}
 use Rattle.table.specs.declared.Agent.{Agent}
@@ -27,10 +28,6 @@ use Rattle.lengths.specs.Sums.{sumBelow, sum-ext, sum-most, sum-more}
 -- a set counted: 1 for each member
 abbrev one : (ℕ → Bool) → ℕ → ℕ
 one f j = bit (f j)
-
-bit-most : (b : Bool) → bit b ≤ 1
-bit-most true = omega arith
-bit-most false = omega arith
 
 -- a new member adds one
 one-more : (f : ℕ → Bool) (n : ℕ) → n < 64 → f n ≡ false → sumBelow (one (λ j. eqb j n || f j)) 64 ≡ sumBelow (one f) 64 + 1
@@ -63,8 +60,8 @@ took-bare = record {
 -- so the offset is small
 at-most : (c : State) (at : ℕ) → Took c at → at ≤ 5627
 at-most c at t =
-    let p : places c ≤ 64 = sum-most (one (c .land .used)) 64 1 (λ j l. bit-most (c .land .used j)) in
-    let a : agents c ≤ 64 = sum-most (one (c .given)) 64 1 (λ j l. bit-most (c .given j)) in
+    let p : places c ≤ 64 = sum-most (one (c .land .used)) 64 1 (λ j l. omega (arith, bit-lt (c .land .used j))) in
+    let a : agents c ≤ 64 = sum-most (one (c .given)) 64 1 (λ j l. omega (arith, bit-lt (c .given j))) in
     let n : sumBelow (counts c) 64 ≤ 1024 = sum-most (counts c) 64 16 (t .most) in
     omega (arith, t .size)
 

@@ -1,22 +1,18 @@
 -- What is gathered going down from the floor, level by level, is each agent and each place once at most. Assumes nothing.
 -- Idea: a place other than the floor stands in one place, so the places of a level are none of those of the levels above it.
-use mathlib.Core.Path.{_≡_, refl, sym}
+use mathlib.Core.Path.{_≡_, refl}
 use mathlib.Core.Bool.{Bool, true, false, not, _&&_, _||_}
 use Prim.Native.Nat.{ℕ, zero, suc, _+_, _*_, _≤_, zero-le}
 use native.Mathlib.Nat.{le-refl, suc-mul}
 use native.Mathlib.Omega.{arith}
 use lib.Dec.{eqb, ltb}
 use borrow.Author.Tests.{eqb-true}
-use Rattle.table.specs.BaseLaws.{Told, yea, nay, told, clash, and-left, and-right}
+use Rattle.table.specs.BaseLaws.{Told, yea, nay, told, clash, not-true, and-left, and-right}
 use Rattle.table.specs.Cell.{State}
 use Rattle.meaning.specs.Listing.{listsIn, standsUnder}
 use Rattle.lengths.specs.Sums.{sumBelow, pick, sum-le, sum-both, sum-none, sum-at, sum-most, pick-le, picks-add, gathered}
 
 -- ---- tests
-
-no : (b : Bool) → not b ≡ true → b ≡ false
-no true e = sym e
-no false e = refl
 
 or-right : (a b : Bool) → b ≡ true → (a || b) ≡ true
 or-right true b e = refl
@@ -57,7 +53,7 @@ module _ (c : State) (A B : ℕ) where
 
   stands-above : (q p : ℕ) → standsIn p q ≡ true → eqb q 0 ≡ false
   unfolding standsUnder
-  stands-above q p e = no (eqb q 0) (and-left (not (eqb q 0)) _ (and-right (c .land .used q) _ e))
+  stands-above q p e = not-true (eqb q 0) (and-left (not (eqb q 0)) _ (and-right (c .land .used q) _ e))
 
   -- the places that stand in one of the level; the floor is none of them
   abbrev below : (ℕ → Bool) → ℕ → Bool
@@ -75,7 +71,7 @@ module _ (c : State) (A B : ℕ) where
       where
         go : Told (level q || upper q) → (level q || upper q) ≡ false
         go (nay f) = f
-        go (yea f) = clash (above q f (no (eqb q 0) (and-left _ _ e))) (apart (c .land .place q .parent) (and-right (not (eqb q 0)) _ e))
+        go (yea f) = clash (above q f (not-true (eqb q 0) (and-left _ _ e))) (apart (c .land .place q .parent) (and-right (not (eqb q 0)) _ e))
 
     below-above : (q : ℕ) → (below level q || (level q || upper q)) ≡ true → eqb q 0 ≡ false → (level (c .land .place q .parent) || upper (c .land .place q .parent)) ≡ true
     below-above q e z = go (told (below level q))

@@ -3,11 +3,10 @@ use mathlib.Core.Path.{_≡_, ap₂, _∙_}
 use mathlib.Core.Bool.{Bool, true, false, cond}
 use mathlib.Core.List.{List, [], _∷_, _++_}
 use Prim.Native.Nat.{ℕ, zero, suc, _+_, _*_, _≤_, _<_, zero-le}
-use native.Mathlib.Nat.{le-refl}
 use native.Mathlib.Omega.{arith}
 use lib.Dec.{eqb, ltb, leb}
 use lib.ListN.{length, length-append, getD, take}
-use Rattle.sets.specs.Word.{bit, countOf}
+use Rattle.sets.specs.WordLaws.{count-most}
 use Rattle.table.specs.Base.{tab}
 use Rattle.table.specs.Cell.{State, none, linked, kindOf, cellOf, tableOf}
 use Rattle.table.specs.Sound.{sound}
@@ -29,15 +28,6 @@ use Rattle.lengths.specs.Parts.{digits-short, digits-most}
 use Rattle.lengths.specs.ListingLength.{listing-any}
 
 -- ---- a step wakes at most 64 agents
-
-count-most : (n : ℕ) (f : ℕ → Bool) → countOf n f ≤ n
-unfolding countOf
-count-most zero f = zero-le
-count-most (suc n) f = omega (arith, one (f 0), count-most n (λ i. f (suc i)))
-  where
-    one : (b : Bool) → bit b ≤ 1
-    one true = le-refl 1
-    one false = zero-le
 
 record Few (o : Outcome) : Type 0 where
   most : o .woken ≤ 64

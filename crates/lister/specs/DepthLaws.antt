@@ -2,24 +2,20 @@
 -- Idea: 64 steps lead each place to the floor, so a place that is more than 64 levels down does not exist.
 use mathlib.Core.Path.{_≡_, refl, sym, ap, _∙_}
 use mathlib.Core.Logic.{_≢_}
-use mathlib.Core.Bool.{Bool, true, false, not, _&&_}
+use mathlib.Core.Bool.{Bool, true, not, _&&_}
 use mathlib.Core.List.{List}
 use Prim.Native.Nat.{ℕ, zero, suc, _+_, _<_, _≤_}
 use native.Mathlib.Omega.{arith}
 use lib.Dec.{eqb}
 use borrow.Author.Tests.{eqb-true, eqb-false}
 use Rattle.table.specs.Base.{allBelow, iter}
-use Rattle.table.specs.BaseLaws.{and-left, and-right, cond-cong, all-at}
+use Rattle.table.specs.BaseLaws.{not-true, and-left, and-right, cond-cong, all-at}
 use Rattle.table.specs.Cell.{State}
 use Rattle.table.specs.Sound.{sound, leads, agentSound, placeSound}
 use Rattle.meaning.specs.Text.{joined}
 use Rattle.meaning.specs.Listing.{standsUnder, bracketed, agentsText, contentsText}
 use Rattle.lister.specs.Sheet.{bar}
 use Rattle.lister.specs.PartLaws.{fold-ext}
-
-not-so : (b : Bool) → not b ≡ true → b ≡ false
-not-so true e = sym e
-not-so false e = refl
 
 module _ (c : State) (s : sound c ≡ true) where
   -- where a place stands
@@ -51,7 +47,7 @@ module _ (c : State) (s : sound c ≡ true) where
   -- what stands in a place is one step further
   farther : (n p q : ℕ) → Far n p → under p q ≡ true → Far (suc n) q
   unfolding Far iter standsUnder
-  farther n p q h e zero l z = eqb-false q 0 (not-so (eqb q 0) (and-left (not (eqb q 0)) (eqb (up q) p) (and-right (c .land .used q) (not (eqb q 0) && eqb (up q) p) e))) z
+  farther n p q h e zero l z = eqb-false q 0 (not-true (eqb q 0) (and-left (not (eqb q 0)) (eqb (up q) p) (and-right (c .land .used q) (not (eqb q 0) && eqb (up q) p) e))) z
   farther n p q h e (suc j) l z =
       let t : up q ≡ p = eqb-true (up q) p (and-right (not (eqb q 0)) (eqb (up q) p) (and-right (c .land .used q) (not (eqb q 0) && eqb (up q) p) e)) in
       h j (omega arith) (ap (iter up j) (sym t) ∙ z)

@@ -3,7 +3,7 @@
 use mathlib.Core.Path.{_≡_, refl, sym, ap, ap₂, _∙_, subst}
 use mathlib.Core.Logic.{_⊎_, inl, inr, ⊎-elim}
 use mathlib.Core.Bool.{Bool, true, false, xor, _||_, cond, true≢false}
-use Prim.Native.Nat.{ℕ, zero, suc, _+_, _*_, _/_, _%_, _^_, _≤_, _<_, suc-le-suc}
+use Prim.Native.Nat.{ℕ, zero, suc, _+_, _*_, _/_, _%_, _^_, _≤_, _<_, zero-le, suc-le-suc}
 use native.Mathlib.Nat.{le-of-suc-le-suc, not-suc-le-zero, zero-lt-suc, mod-lt, div-add-mod', pow-suc, pow-succ', div-div-eq-div-mul, div-one, zero-div, lt-of-lt-of-le, div-eq-of-lt}
 use native.Mathlib.Omega.{arith}
 use lib.Dec.{eqb, ltb, lit<, eqb·zero-suc, eqb·suc-zero, eqb·suc-suc}
@@ -25,7 +25,7 @@ two-cases n = go (n % 2) (mod-lt n (zero-lt-suc 1))
     go (suc zero) h = inr refl
     go (suc (suc m)) h = absurd (not-suc-le-zero (le-of-suc-le-suc (le-of-suc-le-suc h)))
 
-bit-lt : (b : Bool) → bit b < 2
+pub bit-lt : (b : Bool) → bit b < 2
 bit-lt true = lit< tt
 bit-lt false = lit< tt
 
@@ -52,6 +52,12 @@ pub word-ext : (n : ℕ) (f g : ℕ → Bool) → ((i : ℕ) → i < n → f i �
 unfolding wordOf
 word-ext zero f g h = refl
 word-ext (suc n) f g h = ap₂ (λ (x : ℕ) (b : Bool). x * 2 + bit b) (word-ext n _ _ (λ i l. h (suc i) (suc-le-suc l))) (h 0 (zero-lt-suc n))
+
+-- no more than there are
+pub count-most : (n : ℕ) (f : ℕ → Bool) → countOf n f ≤ n
+unfolding countOf
+count-most zero f = zero-le
+count-most (suc n) f = omega (arith, bit-lt (f 0), count-most n (λ i. f (suc i)))
 
 pub count-ext : (n : ℕ) (f g : ℕ → Bool) → ((i : ℕ) → i < n → f i ≡ g i) → countOf n f ≡ countOf n g
 unfolding countOf

@@ -2,11 +2,12 @@
 -- Idea: a field that is not changed is the table of its own elements, and a changed one has one value stored.
 use mathlib.Core.Path.{_≡_, refl, sym, ap, ap₂, _∙_, subst}
 use mathlib.Core.Bool.{true}
-use mathlib.Core.List.{List, [], _∷_}
-use Prim.Native.Nat.{ℕ, zero, suc, _%_, _<_}
+use mathlib.Core.List.{List}
+use Prim.Native.Nat.{ℕ, _%_, _<_}
 use native.Mathlib.Omega.{arith}
 use lib.Dec.{eqb}
 use lib.ListN.{getD, set}
+use lib.Seq.{set-getD}
 use borrow.Author.Tests.{eq-eqb, ne-eqb, eqb-true, eqb-false, lt-ltb}
 use Rattle.sets.specs.Set.{member}
 use Rattle.table.specs.Base.{tab, upd}
@@ -37,12 +38,6 @@ use Rattle.step.specs.Decided.{staying, going, settling, decided, settle
 
 -- ---- the agent's row
 
--- an element stored where it was read
-same : {A : Type 0} (l : List A) (i : ℕ) (d : A) → set l i (getD l i d) ≡ l
-same [] i d = refl
-same (x ∷ l) zero d = refl
-same (x ∷ l) (suc i) d = ap (x ∷_) (same l i d)
-
 -- a number below 64 is its own index
 pub index : (x : ℕ) → x < 64 → x % 64 ≡ x
 index x l = omega arith
@@ -50,7 +45,7 @@ index x l = omega arith
 -- the agent and the locks as they were
 pub unsettled : (t : Cell) (x : ℕ) (a : Agent) (ls : List ℕ) → a ≡ getD (t .agents) (x % 64) noAgent → ls ≡ t .locks → settled t x a ls ≡ t
 unsettled t x a ls f e = ap₂ (λ (b : Agent) (ms : List ℕ). settled t x b ms) f e
-    ∙ ap (λ (row : List Agent). record { places = t .places; locks = t .locks; agents = row; used = t .used; given = t .given }) (same (t .agents) (x % 64) noAgent)
+    ∙ ap (λ (row : List Agent). record { places = t .places; locks = t .locks; agents = row; used = t .used; given = t .given }) (set-getD (t .agents) (x % 64) noAgent)
 
 -- ---- the changes
 

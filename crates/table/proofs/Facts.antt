@@ -1,9 +1,9 @@
 -- What owning a cell tells of its arrays, words and names: a table that a function is handed has the sizes and the ranges of the struct.
-use mathlib.Core.Path.{_≡_, refl, sym, ap, _∙_}
+use mathlib.Core.Path.{sym, _∙_}
 use mathlib.Core.List.{List, [], _∷_, map}
 use Prim.Native.Nat.{ℕ, zero, suc, _<_}
 use lib.Dec.{lit<}
-use lib.ListN.{length, getD}
+use lib.ListN.{getD, length-map}
 use mir.Val.{Val}
 use base.Fml.{Fml}
 use denote.Shadow.{shadow}
@@ -27,15 +27,11 @@ use Rattle.table.proofs.Cell.Laws as cell-laws
 abbrev pub Good : Cell → Type 0
 Good t = Is (row cell.the-type) t (val cell.the-type cell-laws.the-laws t ∷ [])
 
-length-map : {X Y : Type 0} (f : X → Y) (l : List X) → length (map f l) ≡ length l
-length-map f [] = refl
-length-map f (x ∷ l) = ap suc (length-map f l)
-
 pub sized : (t : Cell) → Good t → Sized t
 sized t g = record {
-  places = sym (length-map _ (t .places)) ∙ g .1 .1 .0 .1 .0 .1;
-  locks = sym (length-map _ (t .locks)) ∙ g .1 .1 .1 .0 .1 .0 .1;
-  agents = sym (length-map _ (t .agents)) ∙ g .1 .1 .1 .1 .0 .1 .0 .1;
+  places = sym (length-map (t .places) _) ∙ g .1 .1 .0 .1 .0 .1;
+  locks = sym (length-map (t .locks) _) ∙ g .1 .1 .1 .0 .1 .0 .1;
+  agents = sym (length-map (t .agents) _) ∙ g .1 .1 .1 .1 .0 .1 .0 .1;
   used = g .1 .1 .1 .1 .1 .0 .1 .1 .0 .1;
   given = g .1 .1 .1 .1 .1 .1 .0 .1 .1 .0 .1;
 }

@@ -1,13 +1,11 @@
 -- Arrays that are read and stored at any number, the next action, and a step's answer. Assumes nothing.
 -- Idea: at and past 64 an array reads its default and a store changes nothing, as for the total functions of a cell.
 use mathlib.Core.Path.{_≡_, sym, ap, _∙_}
-use mathlib.Core.Bool.{Bool, true, false, cond}
+use mathlib.Core.Bool.{Bool, cond}
 use mathlib.Core.List.{List}
-use Prim.Native.Nat.{ℕ, zero, suc, _+_, _≤_, _<_, zero-le}
-use native.Mathlib.Omega.{arith}
+use Prim.Native.Nat.{ℕ}
 use lib.Dec.{eqb}
 use lib.ListN.{getD}
-use Rattle.sets.specs.Word.{bit, countOf}
 use Rattle.table.specs.Base.{tab, upd}
 use Rattle.table.specs.BaseLaws.{getD-tab, tab-ext}
 use Rattle.table.specs.Cell.{nextAction, tableOf}
@@ -38,18 +36,3 @@ kind-test a x k b e t = sym (ap (λ (y : Action). eqb (y .kind) k) e) ∙ t
 pub did : (d : Cell) (w : Word) (n : ℕ) (o : Outcome) → d ≡ tableOf (o .cell) → w ≡ o .word → n ≡ o .woken → record { cell = d; answer = Did w n } ≡ made o
 unfolding made
 did d w n o e f g = λ i. record { cell = e i; answer = Did (f i) (g i) }
-
--- ---- numbers
-
--- no more than 64 are counted
-pub count-small : (n : ℕ) (f : ℕ → Bool) → countOf n f ≤ n
-unfolding countOf
-count-small zero f = zero-le
-count-small (suc n) f = go (f 0) (count-small n (λ i. f (suc i)))
-  where
-    go : (b : Bool) → countOf n (λ i. f (suc i)) ≤ n → bit b + countOf n (λ i. f (suc i)) ≤ suc n
-    go true h = omega arith
-    go false h = omega arith
-
-pub positive : {n : ℕ} → (n ≡ 0 → ⊥) → 0 < n
-positive h = omega arith

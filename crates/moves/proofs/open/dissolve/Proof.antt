@@ -12,7 +12,7 @@ use Rattle.table.proofs.Facts.{sized}
 use Rattle.meaning.specs.Update.{atStage}
 use Rattle.meaning.specs.Step.{wokenBy, dissolveAgent}
 use Rattle.moves.specs.OpenLaws.{Opening, opening-start, opening-more, opening-end}
-use Rattle.updates.specs.UpdateLaws.{count-small}
+use Rattle.sets.specs.WordLaws.{count-most}
 use Rattle.moves.proofs.open.dissolve.Statement.{statement}
 use Rattle.moves.proofs.open.dissolve.Tie as tie
 
@@ -70,6 +70,6 @@ dissolve-spec =
     (λ c. let x = c .before .before .before .before .before .before .before .before .before .before .before .before .before .pre .0 in omega arith)
     (λ c. let x = c .before .before .before .before .before .before .before .before .before .before .before .before .before .pre .0 in omega arith)
     (λ c κs. tt)
-    (λ c. let n = count-small 64 (member (c .before .before .before .before .before .before .before .before .before .loop .sleepers)) in
+    (λ c. let n = count-most 64 (member (c .before .before .before .before .before .before .before .before .before .loop .sleepers)) in
     omega (arith, n, c .count .ensures))
     returns)

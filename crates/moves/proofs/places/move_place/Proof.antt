@@ -1,4 +1,5 @@
 -- Each turn takes the lowest agent that is left; what holds before it is `Waking`.
+use native.Mathlib.Nat.{pos-of-ne-zero}
 use mathlib.Core.Path.{sym, ap, _∙_, subst}
 use Prim.Native.Nat.{ℕ, _<_}
 use native.Mathlib.Omega.{arith}
@@ -10,7 +11,7 @@ use Rattle.table.specs.Cell.{noAgent}
 use Rattle.table.proofs.Facts.{sized}
 use Rattle.meaning.specs.Step.{asleepOn}
 use Rattle.moves.specs.WakeLaws.{Waking, waking-start, waking-hit, waking-miss, waking-end}
-use Rattle.updates.specs.UpdateLaws.{count-small, positive}
+use Rattle.sets.specs.WordLaws.{count-most}
 use Rattle.moves.proofs.places.move_place.Statement.{statement}
 use Rattle.moves.proofs.places.move_place.Tie as tie
 
@@ -24,14 +25,14 @@ abbrev μ-loop : tie.MeasureT-loop
 small : (c : tie.After-rest2 Inv-loop μ-loop) → c .before .first .result < 64
 small c =
     let l = c .before .before .before .before in
-    subst (λ (n : ℕ). n < 64) (sym (c .before .first .ensures)) (rest-lt (l .loop .inv .walk .left) (positive (c .before .before .if1 .taken)))
+    subst (λ (n : ℕ). n < 64) (sym (c .before .first .ensures)) (rest-lt (l .loop .inv .walk .left) (pos-of-ne-zero (c .before .before .if1 .taken)))
 
 -- fewer are left
 fewer : (c : tie.After-rest2 Inv-loop μ-loop) → c .rest2 .result .bits < c .before .before .before .before .loop .rest .bits
 fewer c =
     let l = c .before .before .before .before in
     subst (λ (z : Set). z .bits < l .loop .rest .bits) (sym (c .rest2 .ensures))
-    (removed-less (l .loop .rest) (l .loop .inv .walk .left .small) (positive (c .before .before .if1 .taken)))
+    (removed-less (l .loop .rest) (l .loop .inv .walk .left .small) (pos-of-ne-zero (c .before .before .if1 .taken)))
 
 loop-holds : tie.Need-loop-holds Inv-loop μ-loop
 loop-holds c = let s = c .before in waking-start (s .args .c) (s .args .p) (s .args .q) (s .args .r) (sized (s .args .c) (s .good .0))
@@ -42,7 +43,7 @@ loop-again c =
     let l = j .before .before .before in
     let a = l .before .before .args in
     rw (c .insert .ensures, c .before .before .before .before .before .rest2 .ensures, c .before .at-stage .ensures, j .first .ensures)
-    (waking-hit (a .c) (a .p) (a .q) (a .r) (l .loop .inv) (positive (j .before .if1 .taken))
+    (waking-hit (a .c) (a .p) (a .q) (a .r) (l .loop .inv) (pos-of-ne-zero (j .before .if1 .taken))
     (sym (c .before .before .before .asleep-on .ensures
     ∙ ap (λ (n : ℕ). asleepOn (a .p) (a .q) (a .r) (getD (l .loop .d .agents) n noAgent)) (j .first .ensures)) ∙ c .before .before .if2 .taken))
 
@@ -52,7 +53,7 @@ loop-again-2 c =
     let l = j .before .before .before in
     let a = l .before .before .args in
     rw (c .before .before .before .rest2 .ensures)
-    (waking-miss (a .c) (a .p) (a .q) (a .r) (l .loop .inv) (positive (j .before .if1 .taken))
+    (waking-miss (a .c) (a .p) (a .q) (a .r) (l .loop .inv) (pos-of-ne-zero (j .before .if1 .taken))
     (sym (c .before .asleep-on .ensures ∙ ap (λ (n : ℕ). asleepOn (a .p) (a .q) (a .r) (getD (l .loop .d .agents) n noAgent)) (j .first .ensures))
     ∙ c .if2 .left))
 
@@ -80,5 +81,5 @@ move-place-spec =
     (λ c. let x = c .before .before .before .before .before .before .before .before .pre in omega arith)
     (λ c. let x = c .before .before .before .before .before .before .before .before .pre in omega arith)
     (λ c κs. tt)
-    (λ c. let n = count-small 64 (member (c .before .before .before .before .before .before .before .loop .sleepers)) in omega (arith, n, c .count .ensures))
+    (λ c. let n = count-most 64 (member (c .before .before .before .before .before .before .before .loop .sleepers)) in omega (arith, n, c .count .ensures))
     returns)

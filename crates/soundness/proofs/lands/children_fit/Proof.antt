@@ -1,4 +1,5 @@
 -- Each turn takes the lowest place that is left; what holds before it is `Climbed`.
+use native.Mathlib.Nat.{pos-of-ne-zero}
 use Prim.Native.Nat.{ℕ, _<_}
 use mathlib.Core.Path.{_≡_, sym, ap, _∙_, subst}
 use mathlib.Core.Bool.{Bool, _&&_}
@@ -20,14 +21,11 @@ Inv-loop used claimed going ps ls up₀ top₀ high₀ rest₀ up top high rest 
 abbrev μ-loop : tie.MeasureT-loop
 μ-loop used claimed going ps ls up₀ top₀ high₀ rest₀ up top high rest = rest .bits
 
-positive : {n : ℕ} → (n ≡ 0 → ⊥) → 0 < n
-positive h = omega arith
-
 -- the place of this turn is below 64
 small : (c : tie.After-rest Inv-loop μ-loop) → c .before .first .result < 64
 small c =
     let l = c .before .before .before .before in
-    subst (λ (n : ℕ). n < 64) (sym (c .before .first .ensures)) (rest-lt (l .loop .inv .tested .left) (positive (c .before .before .if1 .taken)))
+    subst (λ (n : ℕ). n < 64) (sym (c .before .first .ensures)) (rest-lt (l .loop .inv .tested .left) (pos-of-ne-zero (c .before .before .if1 .taken)))
 
 shown : (c : tie.After-child-fits Inv-loop μ-loop) →
     let a = c .before .before .before .before .before .before .before .before .before .before .before .args in
@@ -47,14 +45,14 @@ loop-less c =
     let q = c .before .before .before .before .before .before .before in
     let l = q .before .before .before .before in
     subst (λ (z : Set). z .bits < l .loop .rest .bits) (sym (q .rest .ensures))
-    (removed-less (l .loop .rest) (l .loop .inv .tested .left .small) (positive (q .before .before .if1 .taken)))
+    (removed-less (l .loop .rest) (l .loop .inv .tested .left .small) (pos-of-ne-zero (q .before .before .if1 .taken)))
 
 loop-again : tie.Need-loop-again Inv-loop μ-loop
 loop-again c =
     let q = c .before .before .before .before .before .before .before in
     let l = q .before .before .before .before in
     let a = l .before .before .args in
-    let k = positive (q .before .before .if1 .taken) in
+    let k = pos-of-ne-zero (q .before .before .if1 .taken) in
     let e = q .before .first .ensures in
     let m = lowestIn (l .loop .rest) in
     let t = c .joined .result in
@@ -70,7 +68,7 @@ returns c =
     let q = c .before .before .before .before .before .before .before in
     let l = q .before .before .before in
     let a = l .before .before .args in
-    climbed-stop (a .t1) (a .t2) (a .used) (a .claimed) (a .going) (l .loop .inv) (positive (q .before .if1 .taken))
+    climbed-stop (a .t1) (a .t2) (a .used) (a .claimed) (a .going) (l .loop .inv) (pos-of-ne-zero (q .before .if1 .taken))
     (ap (childTest (a .t1) (a .t2) (a .used) (a .claimed) (a .going)) (sym (q .first .ensures)) ∙ shown (c .before) ∙ c .if2 .left)
 
 all-lead-requires : tie.Need-all-lead-requires Inv-loop μ-loop

@@ -7,6 +7,7 @@ use mathlib.Core.Bool.{true}
 use native.Mathlib.Omega.{arith}
 use Rattle.sets.specs.Set.{inserted}
 use Rattle.sets.specs.declared.Set.{Set}
+use Rattle.table.specs.BaseLaws.{not-true}
 use Rattle.table.specs.Cell.{cellOf}
 use Rattle.table.specs.Sound.{firstHeld, secondHeldIn, goingFrom, agentFits}
 use Rattle.soundness.specs.Pass.{quiet}
@@ -16,7 +17,7 @@ use Rattle.soundness.specs.SoundLaws.{lands-same}
 use Rattle.table.proofs.Facts.{sized}
 use Rattle.soundness.proofs.sound.see.Statement.{statement}
 use Rattle.soundness.proofs.sound.see.Tie as tie
-use Rattle.soundness.proofs.sound.see.Proof.Turn.{Inv-loop, μ-loop, seen-as, small, table, good, number, agent, this, some-left, lowest, fewer, moved-to, refused, unfit, turned, kept, is-still, fits-still, second-is, fits-busy, moves}
+use Rattle.soundness.proofs.sound.see.Proof.Turn.{Inv-loop, μ-loop, seen-as, small, table, good, number, agent, this, some-left, lowest, fewer, moved-to, refused, unfit, kept, is-still, fits-still, second-is, fits-busy, moves}
 mod Turn
 
 loop-holds : tie.Need-loop-holds Inv-loop μ-loop
@@ -28,14 +29,14 @@ returns : tie.Need-returns Inv-loop μ-loop
 returns c =
     let h = c .before .before in
     c .unsound .ensures
-    ∙ unfit h (home-out (table h) (sized (table h) (good h)) (number h) (this h) (sym (h .has .ensures) ∙ turned _ (c .before .if2 .taken)))
+    ∙ unfit h (home-out (table h) (sized (table h) (good h)) (number h) (this h) (sym (h .has .ensures) ∙ not-true _ (c .before .if2 .taken)))
 
 returns-2 : tie.Need-returns-2 Inv-loop μ-loop
 returns-2 c =
     let h = c .before .before .before .before .before in
     c .unsound2 .ensures
     ∙ unfit h (row-out (table h) (sized (table h) (good h)) (number h) (this h)
-    (sym (c .before .before .before .row-of .ensures .0) ∙ turned _ (c .before .if3 .taken)))
+    (sym (c .before .before .before .row-of .ensures .0) ∙ not-true _ (c .before .if3 .taken)))
 
 loop-again : tie.Need-loop-again Inv-loop μ-loop
 loop-again c =
@@ -98,7 +99,7 @@ see-spec =
     (λ c.
     c .unsound3 .ensures
     ∙ unfit (c .before .before .before .before .before .before .before .before .before .before .before .before)
-    (fits-still (c .before .before) ∙ turned _ (c .before .if5 .taken)))
+    (fits-still (c .before .before) ∙ not-true _ (c .before .if5 .taken)))
     (λ c. fewer (c .before .before .before .before .before .before .before .before .before .before .before)) loop-again
     -- with locks or on its way
     (λ c κs. tt) (λ c. omega arith) (λ c. omega arith) (λ c κs. tt) (λ c. omega arith) (λ c. omega arith) (λ c κs. tt) (λ c κs. tt) (λ c κs. tt)
@@ -109,7 +110,7 @@ see-spec =
     let second = c .before .before .before .before .before .before .before .before .before .before in
     c .unsound5 .ensures
     ∙ unfit (second .before .before .before .before .before .before .before .before .before .before .before .before .before)
-    (fits-busy (c .before .before) ∙ turned _ (c .before .if7 .taken)))
+    (fits-busy (c .before .before) ∙ not-true _ (c .before .if7 .taken)))
     (λ c κs. tt) (λ c κs. tt) (λ c κs. tt)
     (λ c.
     let second = c .before .before .before .before .before .before .before .before .before .before .before .before in

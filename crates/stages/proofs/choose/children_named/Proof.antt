@@ -1,4 +1,5 @@
 -- Each turn takes the lowest place that is left; what holds before it is `Gathered`.
+use native.Mathlib.Nat.{pos-of-ne-zero}
 use mathlib.Core.Path.{sym, ap, _∙_, subst}
 use mathlib.Core.Bool.{_&&_}
 use Prim.Native.Nat.{ℕ, _<_}
@@ -13,7 +14,6 @@ use Rattle.table.specs.Cell.{noPlace}
 use Rattle.stages.specs.Changes.{landOf}
 use Rattle.updates.specs.GatherLaws.{Gathered, gathered-start, gathered-end, gathered-more}
 use Rattle.stages.specs.ChildLaws.{child-split}
-use Rattle.updates.specs.UpdateLaws.{positive}
 use Rattle.stages.proofs.choose.children_named.Statement.{statement}
 use Rattle.stages.proofs.choose.children_named.Tie as tie
 
@@ -27,12 +27,12 @@ abbrev μ-loop : tie.MeasureT-loop
 -- the place of this turn is below 64
 small : (c : tie.After-rest Inv-loop μ-loop) → c .before .first .result < 64
 small c = let l = c .before .before .before .before in
-    subst (λ (n : ℕ). n < 64) (sym (c .before .first .ensures)) (rest-lt (l .loop .inv .left) (positive (c .before .before .if1 .taken)))
+    subst (λ (n : ℕ). n < 64) (sym (c .before .first .ensures)) (rest-lt (l .loop .inv .left) (pos-of-ne-zero (c .before .before .if1 .taken)))
 
 loop-less : tie.Need-loop-less Inv-loop μ-loop
 loop-less c = let l = c .before .before .before .before .before .before .before in
     subst (λ (z : Set). z .bits < l .loop .rest .bits) (sym (c .before .before .before .rest .ensures))
-    (removed-less (l .loop .rest) (l .loop .inv .left .small) (positive (c .before .before .before .before .before .if1 .taken)))
+    (removed-less (l .loop .rest) (l .loop .inv .left .small) (pos-of-ne-zero (c .before .before .before .before .before .if1 .taken)))
 
 loop-again : tie.Need-loop-again Inv-loop μ-loop
 loop-again c =
@@ -40,7 +40,7 @@ loop-again c =
     let l = q .before .before .before in
     let a = l .before .args in
     rw (c .insert-if .ensures, c .before .before .before .rest .ensures, q .first .ensures)
-    (gathered-more (l .loop .inv) (positive (q .before .if1 .taken)) (c .before .child-named .result)
+    (gathered-more (l .loop .inv) (pos-of-ne-zero (q .before .if1 .taken)) (c .before .child-named .result)
     (c .before .child-named .ensures
     ∙ ap (λ (i : ℕ). eqb (getD (a .t1) i noPlace .way) 0 && eqb (getD (a .t1) i noPlace .parent) (a .p) && eqb (getD (a .t1) i noPlace .name) (a .n))
     (q .first .ensures)))

@@ -1,4 +1,5 @@
 -- Each turn takes the lowest place that is left; what holds before it is `Unmet`.
+use native.Mathlib.Nat.{pos-of-ne-zero}
 use mathlib.Core.Path.{sym, ap, _∙_, subst}
 use mathlib.Core.Bool.{not, _&&_, cond}
 use Prim.Native.Nat.{ℕ, _<_}
@@ -11,7 +12,6 @@ use Rattle.sets.specs.declared.Set.{Set}
 use Rattle.table.specs.Cell.{noPlace}
 use Rattle.stages.specs.Changes.{landOf}
 use Rattle.stages.specs.ChildLaws.{Unmet, unmet-start, unmet-end, unmet-more}
-use Rattle.updates.specs.UpdateLaws.{positive}
 use Rattle.stages.proofs.choose.unawaited.Statement.{statement}
 use Rattle.stages.proofs.choose.unawaited.Tie as tie
 
@@ -24,7 +24,7 @@ abbrev μ-loop : tie.MeasureT-loop
 -- the place of this turn is below 64
 small : (c : tie.After-rest Inv-loop μ-loop) → c .before .first .result < 64
 small c = let l = c .before .before .before .before in
-    subst (λ (n : ℕ). n < 64) (sym (c .before .first .ensures)) (rest-lt (l .loop .inv .left) (positive (c .before .before .if1 .taken)))
+    subst (λ (n : ℕ). n < 64) (sym (c .before .first .ensures)) (rest-lt (l .loop .inv .left) (pos-of-ne-zero (c .before .before .if1 .taken)))
 
 loop-holds : tie.Need-loop-holds Inv-loop μ-loop
 loop-holds c = unmet-start (landOf (c .args .t1) (c .args .used)) (c .args .among) (c .args .used) (search needs)
@@ -33,7 +33,7 @@ loop-holds c = unmet-start (landOf (c .args .t1) (c .args .used)) (c .args .amon
 loop-less : tie.Need-loop-less Inv-loop μ-loop
 loop-less c = let l = c .before .before .before .before .before .before .before in
     subst (λ (z : Set). z .bits < l .loop .rest .bits) (sym (c .before .before .before .rest .ensures))
-    (removed-less (l .loop .rest) (l .loop .inv .left .small) (positive (c .before .before .before .before .before .if1 .taken)))
+    (removed-less (l .loop .rest) (l .loop .inv .left .small) (pos-of-ne-zero (c .before .before .before .before .before .if1 .taken)))
 
 loop-again : tie.Need-loop-again Inv-loop μ-loop
 loop-again c =
@@ -41,7 +41,7 @@ loop-again c =
     let l = q .before .before .before in
     let a = l .before .args in
     rw (c .remove .ensures, c .before .before .before .rest .ensures)
-    (unmet-more (landOf (a .t1) (a .used)) (a .among) (l .loop .inv) (positive (q .before .if1 .taken)) (c .before .way-out .result)
+    (unmet-more (landOf (a .t1) (a .used)) (a .among) (l .loop .inv) (pos-of-ne-zero (q .before .if1 .taken)) (c .before .way-out .result)
     (c .before .way-out .ensures
     ∙ ap (λ (i : ℕ). cond (not (eqb i 0) && not (eqb (getD (a .t1) i noPlace .way) 0)) (getD (a .t1) i noPlace .parent) 64) (q .first .ensures)))
 

@@ -1,4 +1,5 @@
 -- Each turn takes the lowest agent that is left; the first that is neither asleep nor done decides.
+use native.Mathlib.Nat.{pos-of-ne-zero}
 use Prim.Native.Nat.{ℕ, _<_}
 use mathlib.Core.Path.{_≡_, sym, ap, _∙_, subst}
 use mathlib.Core.Bool.{Bool, true, false, cond}
@@ -29,14 +30,11 @@ Inv-loop c rest₀ rest = Tested (has (c .given .bits)) (rests c) rest
 abbrev μ-loop : tie.MeasureT-loop
 μ-loop c rest₀ rest = rest .bits
 
-positive : {n : ℕ} → (n ≡ 0 → ⊥) → 0 < n
-positive h = omega arith
-
 -- the agent of this turn is below 64, and is given
 small : (c : tie.After-rest2 Inv-loop μ-loop) → c .before .first .result < 64
 small c =
     let l = c .before .before .before .before .loop in
-    subst (λ (n : ℕ). n < 64) (sym (c .before .first .ensures)) (rest-lt (l .inv .left) (positive (c .before .before .if1 .taken)))
+    subst (λ (n : ℕ). n < 64) (sym (c .before .first .ensures)) (rest-lt (l .inv .left) (pos-of-ne-zero (c .before .before .if1 .taken)))
 
 at-rest : (c : tie.After-rest2 Inv-loop μ-loop) → let a = c .before .before .before .before .before .before .args .t1 in
     rests a (c .before .first .result) ≡ restsAt (getD (a .agents) (c .before .first .result) noAgent .stage)
@@ -44,7 +42,7 @@ at-rest c =
     let l = c .before .before .before .before in
     let x = l .before .before .args .t1 in
     let e : has (x .given .bits) (c .before .first .result) ≡ true =
-    ap (has (x .given .bits)) (c .before .first .ensures) ∙ rest-member (l .loop .inv .left) (positive (c .before .before .if1 .taken)) in
+    ap (has (x .given .bits)) (c .before .first .ensures) ∙ rest-member (l .loop .inv .left) (pos-of-ne-zero (c .before .before .if1 .taken)) in
     rw e
 
 loop-holds : tie.Need-loop-holds Inv-loop μ-loop
@@ -57,21 +55,21 @@ unfolding idle cellOf
 returns c =
     let l = c .before .before .before .before .before in
     let x = l .before .before .args .t1 in
-    sym (tested-stop (has (x .given .bits)) (rests x) (not-given x) (l .loop .inv) (positive (c .before .before .before .if1 .taken))
+    sym (tested-stop (has (x .given .bits)) (rests x) (not-given x) (l .loop .inv) (pos-of-ne-zero (c .before .before .before .if1 .taken))
     (ap (rests x) (sym (c .before .before .first .ensures)) ∙ at-rest (c .before) ∙ lt-leb 7 _ (c .if2 .taken)))
 
 loop-less : tie.Need-loop-less Inv-loop μ-loop
 loop-less c =
     let l = c .before .before .before .before .before .loop in
     subst (λ (z : Set). z .bits < l .rest .bits) (sym (c .before .rest2 .ensures))
-    (removed-less (l .rest) (l .inv .left .small) (positive (c .before .before .before .if1 .taken)))
+    (removed-less (l .rest) (l .inv .left .small) (pos-of-ne-zero (c .before .before .before .if1 .taken)))
 
 loop-again : tie.Need-loop-again Inv-loop μ-loop
 loop-again c =
     let l = c .before .before .before .before .before in
     let x = l .before .before .args .t1 in
     subst (Tested (has (x .given .bits)) (rests x)) (sym (c .before .rest2 .ensures))
-    (tested-more (has (x .given .bits)) (rests x) (not-given x) (l .loop .inv) (positive (c .before .before .before .if1 .taken))
+    (tested-more (has (x .given .bits)) (rests x) (not-given x) (l .loop .inv) (pos-of-ne-zero (c .before .before .before .if1 .taken))
     (ap (rests x) (sym (c .before .before .first .ensures)) ∙ at-rest (c .before) ∙ le-leb 7 _ (c .if2 .left)))
 
 returns-2 : tie.Need-returns-2 Inv-loop μ-loop

@@ -1,8 +1,8 @@
 -- What each turn of the walk over the agents learns of its agent, in the words of the definition.
+use native.Mathlib.Nat.{pos-of-ne-zero}
 use Prim.Native.Nat.{ℕ, _<_}
 use mathlib.Core.Path.{_≡_, refl, sym, ap, ap₂, _∙_, subst}
 use mathlib.Core.Bool.{Bool, true, false, not}
-use native.Mathlib.Omega.{arith}
 use lib.ListN.{getD}
 use Rattle.sets.specs.Word.{has}
 use Rattle.sets.specs.Set.{member}
@@ -36,13 +36,10 @@ module _ (c : tie.After-at Inv-loop μ-loop) where
       → seen b (getD (c .before .args .t1 .agents) (c .at .result) noAgent) ≡ seenOf (c .before .args .t1) (c .before .args .agent)
   seen-as b e = ap₂ seen e (ap (λ (n : ℕ). getD (c .before .args .t1 .agents) n noAgent) (c .at .ensures))
 
-positive : {n : ℕ} → (n ≡ 0 → ⊥) → 0 < n
-positive h = omega arith
-
 -- the turn's agent is below 64
 pub small : (c : tie.After-rest2 Inv-loop μ-loop) → c .before .first .result < 64
 small c = let l = c .before .before .before .before .loop in
-    subst (λ (n : ℕ). n < 64) (sym (c .before .first .ensures)) (rest-lt (l .inv .tested .left) (positive (c .before .before .if1 .taken)))
+    subst (λ (n : ℕ). n < 64) (sym (c .before .first .ensures)) (rest-lt (l .inv .tested .left) (pos-of-ne-zero (c .before .before .if1 .taken)))
 
 -- ---- the turn's agent, its home tested
 
@@ -75,7 +72,7 @@ module _ (c : tie.After-has Inv-loop μ-loop) where
   left = c .before .before .before .before .before .before .loop .rest
 
   pub some-left : 0 < left .bits
-  some-left = positive (c .before .before .before .before .if1 .taken)
+  some-left = pos-of-ne-zero (c .before .before .before .before .if1 .taken)
 
   pub lowest : number ≡ lowestIn left
   lowest = c .before .before .before .first .ensures
@@ -97,10 +94,6 @@ module _ (c : tie.After-has Inv-loop μ-loop) where
       passed-stop table (sized table good) (l .claimed) (l .going) (l .rest) (l .inv) some-left (moved-to (agentFits (cellOf table)) false e))
 
 -- a test that was turned round
-pub turned : (b : Bool) → not b ≡ true → b ≡ false
-turned true e = sym e
-turned false e = refl
-
 pub kept : (b : Bool) → not b ≡ false → b ≡ true
 kept true e = refl
 kept false e = sym e
