@@ -1,10 +1,14 @@
 -- what is claimed
+pub mod Refusals
 pub mod AfterCalls
+pub mod Printed
 pub mod TwoSteps
 pub mod Agrees
 -- the theorems
+pub mod DemandOne
 pub mod DemandTwo
 pub mod DemandThree
+pub mod PrintedLaws
 pub mod AgreesLaws
 -- the invariant and the ways a step can go
 pub mod Reading
@@ -54,9 +58,12 @@ pub mod MovesMade
 pub mod AtRest
 pub mod RunKeeps
 pub mod Resting
+-- listings and trees
+pub mod Layouts
 -- nine steps
 pub mod Ahead
 pub mod TwoAlone
+pub mod Settled
 pub mod Permitted
 pub mod TwoChain
 pub mod Two

@@ -6,6 +6,7 @@ pub mod Calculus
 pub mod Plain
 pub mod Text
 pub mod Listing
+pub mod TreeListing
 pub mod Report
 pub mod Codes
 pub mod Bench

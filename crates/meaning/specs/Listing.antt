@@ -1,5 +1,6 @@
 -- The listing (document 01, "The listing"): "A term, in ASCII: a place writes its contents and contents write places."
 use Prim.Native.Nat.{ℕ, zero, suc}
+use mathlib.Core.Path.{_≡_}
 use mathlib.Core.Bool.{Bool, not, _&&_, cond}
 use mathlib.Core.List.{List, [], _++_}
 use lib.Dec.{ltb, leb, eqb}
@@ -80,6 +81,10 @@ placeText depth c q = bracketed (c .land .place q .name) (contentsText depth c q
 unfoldable pub listing : State → List ℕ
 unfolding contentsText tab
 listing c = cond (eqb (length (contentsText 65 c 0)) 0) (ascii "0") (contentsText 65 c 0)
+
+-- "Two layouts are taken as alike when their listings are equal."
+abbrev pub Alike : State → State → Type 0
+Alike c d = listing c ≡ listing d
 
 -- ---- the call
 

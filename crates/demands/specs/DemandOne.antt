@@ -1,0 +1,213 @@
+-- Demand 1: on every table, file, agent, wish and buffer, each call is refused only with its numbers, each exactly under its condition, and a
+-- refusal changes nothing.
+-- Idea: a call on a table is a row of tests with a refusal in one arm each; a load's number is that of the record at which it stops.
+use mathlib.Core.Path.{_≡_, refl, ap, subst}
+use mathlib.Core.Bool.{Bool, true, false, _&&_, cond}
+use mathlib.Core.List.{List}
+use Prim.Native.Nat.{ℕ, zero, suc, _+_, _-_, _≤_, _<_, zero-le}
+use native.Mathlib.Omega.{arith}
+use lib.Dec.{ltb, leb, eqb}
+use lib.ListN.{length}
+use borrow.Author.Tests.{ltb-true, leb-true, leb-false, le-leb, lt-leb}
+use Rattle.table.specs.BaseLaws.{Told, yea, nay, told, and-left, and-right}
+use Rattle.table.specs.Cell.{State, cellOf, bareTable}
+use Rattle.table.specs.Sound.{sound}
+use Rattle.table.specs.Idle.{idle}
+use Rattle.table.specs.declared.Cell.{Cell}
+use Rattle.meaning.specs.declared.Record.{Record}
+use Rattle.meaning.specs.declared.Record.the-variants.{PlaceRecord, AgentRecord, ActionRecord, EndRecord, Faulty}
+use Rattle.meaning.specs.declared.Verdict.the-variants.{Rejected}
+use Rattle.meaning.specs.declared.Answer.the-variants.{Refused}
+use Rattle.meaning.specs.declared.Listed.the-variants.{Unlisted}
+use Rattle.meaning.specs.declared.Checked.the-variants.{Unsound}
+use Rattle.meaning.specs.declared.Idled.the-variants.{Unknown}
+use Rattle.meaning.specs.File.{byteAt, placeRecord, agentRecord, actionRecord, recordAt, isFull}
+use Rattle.meaning.specs.File.{Load, accepted, refused, loadRecord, loadFrom, load, loaded, loadOf}
+use Rattle.meaning.specs.FileLaws.{refused-keeps}
+use Rattle.meaning.specs.Run.{made, turnedAway, stepOf}
+use Rattle.meaning.specs.Listing.{listing, listAnswer, listBuffer}
+use Rattle.meaning.specs.Codes.{checkOf, idleOf}
+use Rattle.demands.specs.Refusals.{KeeperCall, step-call, list-call, check-call, idle-call, mayAnswer, before, after, RefusedRightly}
+use Rattle.demands.specs.Refusals.{Refuses, load-refused, step-refused, list-refused, check-refused, idle-refused}
+use Rattle.demands.specs.Refusals.{Grounds, in-the-file, step-10, step-11, list-10, list-12, check-10, idle-10}
+
+-- two answers of different kinds are not equal: `cc` finds this equation then
+never : {A : Type 0} → _≡_ {A = ℕ} 0 1 → A
+never e = absurd (omega arith)
+
+-- ---- a load's number and offset
+
+-- a record is refused with a number 1 to 8
+data Numbered : Record → Type 0 where
+  place : {number parent name : ℕ} → Numbered (PlaceRecord number parent name)
+  agent : {number home : ℕ} → Numbered (AgentRecord number home)
+  action : {agent kind name : ℕ} → Numbered (ActionRecord agent kind name)
+  end : Numbered EndRecord
+  fault : (number : ℕ) → (leb 1 number && leb number 8) ≡ true → Numbered (Faulty number)
+
+-- a test with such a record in both arms
+either : (b : Bool) {x y : Record} → Numbered x → Numbered y → Numbered (cond b x y)
+either true f g = f
+either false f g = g
+
+-- a test with a refusal in the first arm
+unless : (b : Bool) (number : ℕ) {y : Record} → (leb 1 number && leb number 8) ≡ true → Numbered y → Numbered (cond b (Faulty number) y)
+unless b number e g = either b (fault number e) g
+
+place-number : (taken known : Bool) (number parent name : ℕ) → Numbered (placeRecord taken known number parent name)
+unfolding placeRecord
+place-number taken known n p m = unless (ltb n 1) 3 refl (unless (leb 64 n) 3 refl (unless (leb 64 p) 3 refl (unless taken 4 refl
+    (either known (unless (ltb m 1) 6 refl place) (fault 5 refl)))))
+
+agent-number : (taken known : Bool) (number home : ℕ) → Numbered (agentRecord taken known number home)
+unfolding agentRecord
+agent-number taken known n h = unless (leb 64 n) 3 refl (unless (leb 64 h) 3 refl (unless taken 4 refl (either known agent (fault 5 refl))))
+
+action-number : (known full : Bool) (agent kind name : ℕ) → Numbered (actionRecord known full agent kind name)
+unfolding actionRecord
+action-number known full n k m = unless (leb 64 n) 3 refl (either known (unless (ltb k 1) 7 refl (unless (leb 4 k) 7 refl
+    (unless (ltb m 1) 6 refl (unless full 8 refl action)))) (fault 5 refl))
+
+record-number : (used given full : ℕ → Bool) (s : List ℕ) (at : ℕ) → Numbered (recordAt used given full s at)
+unfolding recordAt
+record-number used given full s at =
+    either (eqb (byteAt s at) 1) (unless (ltb (length s - at) 5) 1 refl (place-number _ _ _ _ _))
+    (either (eqb (byteAt s at) 2) (unless (ltb (length s - at) 3) 1 refl (agent-number _ _ _ _))
+    (either (eqb (byteAt s at) 3) (unless (ltb (length s - at) 5) 1 refl (action-number _ _ _ _ _))
+    (either (eqb (byteAt s at) 4) end (fault 2 refl))))
+
+module _ (s : List ℕ) where
+  -- a load is refused with a number 1 to 9 and an offset within the file
+  data Fair : Load → Type 0 where
+    taken : {c : State} → Fair (accepted c)
+    turned : (number offset : ℕ) → 1 ≤ number → number ≤ 9 → offset ≤ length s → Fair (refused number offset)
+
+  cut-short : Fair (refused 1 (length s))
+  cut-short = turned 1 (length s) (omega arith) (omega arith) (omega arith)
+
+  fair-record : (rest : State → ℕ → Load) → ((d : State) (next : ℕ) → Fair (rest d next)) → (c : State) (at : ℕ) → at < length s
+      → {r : Record} → Numbered r → Fair (loadRecord rest c s at r)
+  unfolding loadRecord
+  fair-record rest f c at l place = f _ _
+  fair-record rest f c at l agent = f _ _
+  fair-record rest f c at l action = f _ _
+  fair-record rest f c at l end = go (told (ltb (at + 1) (length s)))
+    where
+      go : Told (ltb (at + 1) (length s)) → Fair (cond (ltb (at + 1) (length s)) (refused 9 (at + 1)) (accepted c))
+      go (yea t) = rw t (turned 9 (at + 1) (omega arith) (omega arith) (omega arith))
+      go (nay t) = rw t taken
+  fair-record rest f c at l (fault number e) = turned number at (leb-true 1 number (and-left (leb 1 number) (leb number 8) e))
+      (omega (arith, leb-true number 8 (and-right (leb 1 number) (leb number 8) e))) (omega arith)
+
+  fair-from : (turns : ℕ) (c : State) (at : ℕ) → Fair (loadFrom turns c s at)
+  unfolding loadFrom
+  fair-from zero c at = cut-short
+  fair-from (suc turns) c at = go (told (ltb at (length s))) (λ d next. fair-from turns d next)
+    where
+      go : Told (ltb at (length s)) → ((d : State) (next : ℕ) → Fair (loadFrom turns d s next)) → Fair (loadFrom (suc turns) c s at)
+      go (yea t) f = rw t (fair-record _ f c at (ltb-true _ _ t) (record-number (c .land .used) (c .given) (isFull c) s at))
+      go (nay t) f = rw t cut-short
+
+  fair-load : Fair (load s)
+  unfolding load
+  fair-load = fair-from (suc (length s)) (cellOf bareTable) 0
+
+  -- what that says of a refused load
+  fair-number : {l : Load} {number offset : ℕ} → Fair l → l ≡ refused number offset
+      → ((leb 1 number && leb number 9) ≡ true) × (offset ≤ length s)
+  fair-number taken e = never (cc)
+  fair-number {number} {offset} (turned n o low high l) e =
+      let p : n ≡ number = cc in
+      let q : o ≡ offset = cc in
+      (rw (le-leb 1 number (omega arith), le-leb number 9 (omega arith)), omega arith)
+
+-- ---- each number exactly under its condition
+
+load-grounds : (t : Cell) (l : Load) (number offset : ℕ) → loaded t l .verdict ≡ Rejected number offset → l ≡ refused number offset
+unfolding loaded
+load-grounds t (accepted c) number offset e = never (cc)
+load-grounds t (refused n o) number offset e = cc
+
+-- a condition of the number that is answered
+of : {k : KeeperCall} {m n : ℕ} → m ≡ n → Grounds k m 0 → Grounds k n 0
+of {k} e g = subst (λ (n : ℕ). Grounds k n 0) e g
+
+-- from the answer to the condition
+refused-grounds : {k : KeeperCall} {number offset : ℕ} → Refuses k number offset → Grounds k number offset
+unfolding loadOf stepOf made turnedAway listAnswer checkOf idleOf
+refused-grounds (load-refused {t} {file} {number} {offset} e) = in-the-file (load-grounds t (load file) number offset e)
+refused-grounds (step-refused {t} {agent} {wish} {number} e) = go (told (sound (cellOf t))) (told (cellOf t .given agent))
+  where
+    go : Told (sound (cellOf t)) → Told (cellOf t .given agent) → Grounds (step-call t agent wish) number 0
+    go (yea s) (yea g) = let f = rw (s, g) at e in never (cc)
+    go (yea s) (nay g) = let f = rw (s, g) at e in let z : 11 ≡ number = cc in of z (step-11 s g)
+    go (nay s) _ = let f = rw s at e in let z : 10 ≡ number = cc in of z (step-10 s)
+refused-grounds (list-refused {t} {buffer} {number} e) = go (told (sound (cellOf t))) (told (leb (length (listing (cellOf t))) (length buffer)))
+  where
+    go : Told (sound (cellOf t)) → Told (leb (length (listing (cellOf t))) (length buffer)) → Grounds (list-call t buffer) number 0
+    go (yea s) (yea r) = let f = rw (s, r) at e in never (cc)
+    go (yea s) (nay r) = let f = rw (s, r) at e in let z : 12 ≡ number = cc in of z (list-12 s (leb-false _ _ r))
+    go (nay s) _ = let f = rw s at e in let z : 10 ≡ number = cc in of z (list-10 s)
+refused-grounds (check-refused {t} {number} e) = go (told (sound (cellOf t)))
+  where
+    go : Told (sound (cellOf t)) → Grounds (check-call t) number 0
+    go (yea s) = let f = rw s at e in never (cc)
+    go (nay s) = let f = rw s at e in let z : 10 ≡ number = cc in of z (check-10 s)
+refused-grounds (idle-refused {t} {number} e) = go (told (sound (cellOf t))) (told (idle (cellOf t)))
+  where
+    go : Told (sound (cellOf t)) → Told (idle (cellOf t)) → Grounds (idle-call t) number 0
+    go (yea s) (yea i) = let f = rw (s, i) at e in never (cc)
+    go (yea s) (nay i) = let f = rw (s, i) at e in never (cc)
+    go (nay s) _ = let f = rw s at e in let z : 10 ≡ number = cc in of z (idle-10 s)
+
+-- and from the condition to the answer
+grounds-refused : {k : KeeperCall} {number offset : ℕ} → Grounds k number offset → Refuses k number offset
+unfolding loadOf loaded stepOf turnedAway listAnswer checkOf idleOf
+grounds-refused (in-the-file {t} e) = load-refused (ap (λ (l : Load). loaded t l .verdict) e)
+grounds-refused (step-10 {t} {agent} {wish} s) = let e : stepOf t agent wish .answer ≡ Refused 10 = rw s in step-refused e
+grounds-refused (step-11 {t} {agent} {wish} s g) = let e : stepOf t agent wish .answer ≡ Refused 11 = rw (s, g) in step-refused e
+grounds-refused (list-10 {t} {buffer} s) = let e : listAnswer (cellOf t) buffer ≡ Unlisted 10 = rw s in list-refused e
+grounds-refused (list-12 {t} {buffer} s l) =
+    let e : listAnswer (cellOf t) buffer ≡ Unlisted 12 = rw (s, lt-leb (length (listing (cellOf t))) (length buffer) l) in
+    list-refused e
+grounds-refused (check-10 {t} s) = let e : checkOf t ≡ Unsound 10 = rw s in check-refused e
+grounds-refused (idle-10 {t} s) = let e : idleOf t ≡ Unknown 10 = rw s in idle-refused e
+
+-- ---- what follows from the condition
+
+grounds-number : {k : KeeperCall} {number offset : ℕ} → Grounds k number offset → mayAnswer k number ≡ true
+grounds-number (in-the-file {t} {file} e) = fair-number file (fair-load file) e .0
+grounds-number (step-10 s) = refl
+grounds-number (step-11 s g) = refl
+grounds-number (list-10 s) = refl
+grounds-number (list-12 s l) = refl
+grounds-number (check-10 s) = refl
+grounds-number (idle-10 s) = refl
+
+grounds-within : {k : KeeperCall} {number offset : ℕ} → Grounds k number offset → offset ≤ length (before k .bytes)
+grounds-within (in-the-file {t} {file} e) = fair-number file (fair-load file) e .1
+grounds-within (step-10 s) = zero-le
+grounds-within (step-11 s g) = zero-le
+grounds-within (list-10 s) = zero-le
+grounds-within (list-12 s l) = zero-le
+grounds-within (check-10 s) = zero-le
+grounds-within (idle-10 s) = zero-le
+
+grounds-keep : {k : KeeperCall} {number offset : ℕ} → Grounds k number offset → after k ≡ before k
+unfolding stepOf turnedAway listBuffer
+grounds-keep (in-the-file {t} {file} {number} {offset} e) = rw (refused-keeps t file number offset e)
+grounds-keep (step-10 s) = rw s
+grounds-keep (step-11 s g) = rw (s, g)
+grounds-keep (list-10 s) = rw s
+grounds-keep (list-12 {t} {buffer} s l) = rw (s, lt-leb (length (listing (cellOf t))) (length buffer) l)
+grounds-keep (check-10 s) = refl
+grounds-keep (idle-10 s) = refl
+
+-- demand 1
+pub demand-one : (k : KeeperCall) → RefusedRightly k
+demand-one k = record {
+  only = λ number offset r. grounds-number (refused-grounds r);
+  within = λ number offset r. omega (arith, grounds-within (refused-grounds r));
+  exactly = λ number offset. (refused-grounds, grounds-refused);
+  keeps = λ number offset r. grounds-keep (refused-grounds r);
+}

@@ -1,0 +1,158 @@
+-- The listing of a sound cell is that of its tree, so sound cells with the same tree are alike; and alike is an equivalence.
+-- Idea: a cell and its tree differ only where nothing is in use, and there nothing is written. An agent's text goes over sixteen numbers, its
+-- row over its unused actions: they are the same where it has at most sixteen, and soundness is asked for this alone.
+use mathlib.Core.Path.{_≡_, refl, sym, ap, ap₂, _∙_, fun-ext}
+use mathlib.Core.Bool.{true}
+use mathlib.Core.List.{List, []}
+use Prim.Native.Nat.{ℕ, zero, suc, _+_, _-_, _≤_}
+use native.Mathlib.Omega.{arith}
+use lib.Dec.{ltb, leb}
+use lib.ListN.{length, getD}
+use borrow.Author.Tests.{leb-true, leb-false, lt-ltb, le-ltb, ltb-true, ltb-false}
+use Rattle.table.specs.Base.{tab, foldUp}
+use Rattle.table.specs.BaseLaws.{Told, yea, nay, told, and-right, length-tab}
+use Rattle.table.specs.Bounds.{Sized}
+use Rattle.table.specs.Cell.{State, noAction, unused, cellOf}
+use Rattle.table.specs.CellLaws.{bounded}
+use Rattle.table.specs.Sound.{sound}
+use Rattle.table.specs.declared.Action.{Action}
+use Rattle.table.specs.declared.Agent.{Agent}
+use Rattle.table.specs.declared.Cell.{Cell}
+use Rattle.meaning.specs.Text.{ascii, joined}
+use Rattle.meaning.specs.Plain.{treeOf}
+use Rattle.meaning.specs.Listing.{actionText, isUnused, actionTurn, agentText, listsIn, agentTurn, agentsText, standsUnder}
+use Rattle.meaning.specs.Listing.{placeTurn, contentsText, listing, Alike}
+use Rattle.meaning.specs.TreeListing.{rowText, actsIn, rowTurn, treeAgents, standTurn, treeContents, treeListing}
+use Rattle.demands.specs.Invariant.{Sound}
+use Rattle.demands.specs.Stages.{fit-given}
+use Rattle.demands.specs.Within.{bounded-within}
+use Rattle.demands.specs.ReadBack.{sound-within}
+
+-- ---- an agent's text is its row of unused actions
+
+-- one action more at the end of a row
+row-more : (f : ℕ → Action) (n k : ℕ) (s : List ℕ)
+    → rowText s (tab f (suc n) k) ≡ joined (ascii ".") (rowText s (tab f n k)) (actionText (f (k + n)))
+unfolding rowText tab
+row-more f zero k s = ap (λ (j : ℕ). joined (ascii ".") s (actionText (f j))) (omega arith)
+row-more f (suc n) k s = row-more f n (suc k) (joined (ascii ".") s (actionText (f k)))
+    ∙ ap (λ (j : ℕ). joined (ascii ".") (rowText (joined (ascii ".") s (actionText (f k))) (tab f n (suc k))) (actionText (f j))) (omega arith)
+
+module _ (a : Agent) where
+  abbrev at : ℕ → Action
+  at j = getD (a .actions) j noAction
+
+  -- the unused actions below n
+  abbrev rowTo : ℕ → List Action
+  rowTo n = tab at (n - a .next) (a .next)
+
+  row-none : (n : ℕ) → n ≤ a .next → [] ≡ rowText [] (rowTo n)
+  unfolding rowText tab
+  row-none n l = let e : n - a .next ≡ 0 = omega arith in rw e
+
+  row-one : (n : ℕ) → a .next ≤ n → joined (ascii ".") (rowText [] (rowTo n)) (actionText (at n)) ≡ rowText [] (rowTo (suc n))
+  row-one n l = sym (ap (λ (k : ℕ). rowText [] (tab at k (a .next))) (omega arith) ∙ row-more at (n - a .next) (a .next) []
+      ∙ ap (λ (j : ℕ). joined (ascii ".") (rowText [] (rowTo n)) (actionText (at j))) (omega arith))
+
+  -- as far as there are actions, the numbers give the row
+  text-to : (n : ℕ) → n ≤ a .count → foldUp (actionTurn a) n [] ≡ rowText [] (rowTo n)
+  unfolding foldUp
+  text-to zero l = row-none 0 (omega arith)
+  text-to (suc n) l = go (told (leb (a .next) n)) (text-to n (omega arith))
+    where
+      go : Told (leb (a .next) n) → foldUp (actionTurn a) n [] ≡ rowText [] (rowTo n)
+          → actionTurn a n (foldUp (actionTurn a) n []) ≡ rowText [] (rowTo (suc n))
+      go (yea e) h = rw (e, lt-ltb n (a .count) (omega arith), h) (row-one n (leb-true _ _ e))
+      go (nay e) h = let m = leb-false (a .next) n e in rw (e, h) (sym (row-none n (omega arith)) ∙ row-none (suc n) (omega arith))
+
+  -- past the last action nothing more is written
+  text-past : (n : ℕ) → a .count ≤ n → foldUp (actionTurn a) n [] ≡ rowText [] (rowTo (a .count))
+  unfolding foldUp
+  text-past zero l = row-none (a .count) (omega arith)
+  text-past (suc n) l = go (told (leb (a .count) n)) (told (isUnused a n)) (text-past n)
+    where
+      go : Told (leb (a .count) n) → Told (isUnused a n) → (a .count ≤ n → foldUp (actionTurn a) n [] ≡ rowText [] (rowTo (a .count)))
+          → actionTurn a n (foldUp (actionTurn a) n []) ≡ rowText [] (rowTo (a .count))
+      go (yea e) (yea u) h = absurd (omega (arith, leb-true (a .count) n e, ltb-true n (a .count) (and-right (leb (a .next) n) (ltb n (a .count)) u)))
+      go (yea e) (nay u) h = rw u (h (leb-true _ _ e))
+      go (nay e) _ h = let m = leb-false (a .count) n e in let k : suc n ≡ a .count = omega arith in
+          text-to (suc n) (omega arith) ∙ ap (λ (j : ℕ). rowText [] (rowTo j)) k
+
+  pub agent-row : a .count ≤ 16 → agentText a ≡ rowText [] (unused a)
+  unfolding agentText unused
+  agent-row l = text-past 16 l
+
+  -- it has an action left exactly if the row is not empty
+  row-left : ltb (a .next) (a .count) ≡ ltb 0 (length (unused a))
+  row-left = go (told (ltb (a .next) (a .count)))
+    where
+      size : length (unused a) ≡ a .count - a .next
+      size = unfold unused in length-tab at (a .count - a .next) (a .next)
+
+      go : Told (ltb (a .next) (a .count)) → ltb (a .next) (a .count) ≡ ltb 0 (length (unused a))
+      go (yea e) = e ∙ sym (lt-ltb 0 (length (unused a)) (omega (arith, size, ltb-true (a .next) (a .count) e)))
+      go (nay e) = e ∙ sym (le-ltb 0 (length (unused a)) (omega (arith, size, ltb-false (a .next) (a .count) e)))
+
+-- ---- a cell and its tree, where no agent has more than sixteen actions
+
+module _ (c : State) (few : (x : ℕ) → c .given x ≡ true → c .agent x .count ≤ 16) where
+  -- an agent is written with the same text
+  agent-turn : (p x : ℕ) (s : List ℕ) → agentTurn c p x s ≡ rowTurn (treeOf c) p x s
+  unfolding listsIn actsIn treeOf
+  agent-turn p x s = go (told (c .given x))
+    where
+      go : Told (c .given x) → agentTurn c p x s ≡ rowTurn (treeOf c) p x s
+      go (yea g) = rw (g, row-left (c .agent x), agent-row (c .agent x) (few x g))
+      go (nay g) = rw g
+
+  agents-same : (p : ℕ) → agentsText c p ≡ treeAgents (treeOf c) p
+  unfolding agentsText treeAgents
+  agents-same p = ap (λ (f : ℕ → List ℕ → List ℕ). foldUp f 64 []) (fun-ext (λ x. fun-ext (agent-turn p x)))
+
+  -- a place is written with the same name
+  place-turn : (p : ℕ) (text : ℕ → List ℕ) (q : ℕ) (s : List ℕ) → placeTurn (c .land) p text q s ≡ standTurn (treeOf c) p text q s
+  unfolding standsUnder treeOf
+  place-turn p text q s = go (told (c .land .used q))
+    where
+      go : Told (c .land .used q) → placeTurn (c .land) p text q s ≡ standTurn (treeOf c) p text q s
+      go (yea u) = rw u
+      go (nay u) = rw u
+
+  contents-same : (depth p : ℕ) → contentsText depth c p ≡ treeContents depth (treeOf c) p
+  unfolding contentsText treeContents
+  contents-same zero p = refl
+  contents-same (suc depth) p = ap₂ (λ (f : ℕ → List ℕ → List ℕ) (s : List ℕ). foldUp f 64 s)
+      (fun-ext (λ q. fun-ext (λ s. place-turn p (contentsText depth c) q s
+      ∙ ap (λ (text : ℕ → List ℕ). standTurn (treeOf c) p text q s) (fun-ext (contents-same depth)))))
+      (agents-same p)
+
+  few-listing : listing c ≡ treeListing (treeOf c)
+  unfolding listing treeListing
+  few-listing = rw (contents-same 65 0)
+
+-- ---- sound cells
+
+-- the listing of a sound cell is that of its tree
+pub tree-listing : (c : State) → Sound c → listing c ≡ treeListing (treeOf c)
+tree-listing c i = few-listing c (λ x g. fit-given c i x g .few)
+
+-- "Two layouts are taken as alike when their listings are equal": so are two sound cells with the same tree
+pub same-tree-alike : (c d : State) → Sound c → Sound d → treeOf c ≡ treeOf d → Alike c d
+same-tree-alike c d i j e = tree-listing c i ∙ ap treeListing e ∙ sym (tree-listing d j)
+
+-- the same of tables that pass the test of soundness
+pub sound-tables-alike : (t u : Cell) → Sized t → Sized u → sound (cellOf t) ≡ true → sound (cellOf u) ≡ true
+    → treeOf (cellOf t) ≡ treeOf (cellOf u) → Alike (cellOf t) (cellOf u)
+sound-tables-alike t u y z e f = same-tree-alike (cellOf t) (cellOf u)
+    (sound-within (cellOf t) (bounded-within (bounded t y)) e) (sound-within (cellOf u) (bounded-within (bounded u z)) f)
+
+-- ---- alike is an equivalence
+
+pub alike-itself : (c : State) → Alike c c
+alike-itself c = refl
+
+pub alike-turned : (c d : State) → Alike c d → Alike d c
+alike-turned c d e = sym e
+
+pub alike-on : (b c d : State) → Alike b c → Alike c d → Alike b d
+alike-on b c d e f = e ∙ f

@@ -1,0 +1,100 @@
+-- What demand 1 claims of every call of the keeper (document 01, "Turned-away calls"): which numbers it may be refused with, when, and that a
+-- refusal changes nothing. A call more is one line more in each of these definitions. Definitions only.
+use mathlib.Core.Path.{_≡_}
+use mathlib.Core.Logic.{_↔_}
+use mathlib.Core.Bool.{Bool, true, false, _&&_, _||_}
+use mathlib.Core.List.{List, []}
+use Prim.Native.Nat.{ℕ, _≤_, _<_}
+use lib.Dec.{leb, eqb}
+use lib.ListN.{length}
+use Rattle.table.specs.Cell.{cellOf}
+use Rattle.table.specs.Sound.{sound}
+use Rattle.table.specs.declared.Cell.{Cell}
+use Rattle.meaning.specs.declared.Verdict.the-variants.{Rejected}
+use Rattle.meaning.specs.declared.Answer.the-variants.{Refused}
+use Rattle.meaning.specs.declared.Listed.the-variants.{Unlisted}
+use Rattle.meaning.specs.declared.Checked.the-variants.{Unsound}
+use Rattle.meaning.specs.declared.Idled.the-variants.{Unknown}
+use Rattle.meaning.specs.File.{refused, load, loadOf}
+use Rattle.meaning.specs.Run.{stepOf}
+use Rattle.meaning.specs.Listing.{listing, listAnswer, listBuffer}
+use Rattle.meaning.specs.Codes.{checkOf, idleOf}
+
+-- ---- the calls
+
+-- a call with what it is given: a table with anything in it; a file, an agent and a wish, or a buffer
+pub data KeeperCall : Type 0 where
+  load-call : Cell → List ℕ → KeeperCall
+  step-call : Cell → ℕ → ℕ → KeeperCall
+  list-call : Cell → List ℕ → KeeperCall
+  check-call : Cell → KeeperCall
+  idle-call : Cell → KeeperCall
+
+-- it is refused with a number; a load answers an offset too, the other calls none (0)
+pub data Refuses : KeeperCall → ℕ → ℕ → Type 0 where
+  load-refused : {t : Cell} {file : List ℕ} {number offset : ℕ} → loadOf t file .verdict ≡ Rejected number offset
+      → Refuses (load-call t file) number offset
+  step-refused : {t : Cell} {agent wish number : ℕ} → stepOf t agent wish .answer ≡ Refused number → Refuses (step-call t agent wish) number 0
+  list-refused : {t : Cell} {buffer : List ℕ} {number : ℕ} → listAnswer (cellOf t) buffer ≡ Unlisted number
+      → Refuses (list-call t buffer) number 0
+  check-refused : {t : Cell} {number : ℕ} → checkOf t ≡ Unsound number → Refuses (check-call t) number 0
+  idle-refused : {t : Cell} {number : ℕ} → idleOf t ≡ Unknown number → Refuses (idle-call t) number 0
+
+-- ---- the numbers
+
+-- the numbers of each call: "Calls on a table test 10 first, then 11 or 12"
+abbrev pub mayAnswer : KeeperCall → ℕ → Bool
+mayAnswer (load-call t file) number = leb 1 number && leb number 9
+mayAnswer (step-call t agent wish) number = eqb number 10 || eqb number 11
+mayAnswer (list-call t buffer) number = eqb number 10 || eqb number 12
+mayAnswer (check-call t) number = eqb number 10
+mayAnswer (idle-call t) number = eqb number 10
+
+-- "Each is given exactly under its condition": 10 unsound table, 11 no such agent, 12 listing longer than the buffer; the conditions of a
+-- load's numbers are those of its records
+pub data Grounds : KeeperCall → ℕ → ℕ → Type 0 where
+  in-the-file : {t : Cell} {file : List ℕ} {number offset : ℕ} → load file ≡ refused number offset
+      → Grounds (load-call t file) number offset
+  step-10 : {t : Cell} {agent wish : ℕ} → sound (cellOf t) ≡ false → Grounds (step-call t agent wish) 10 0
+  step-11 : {t : Cell} {agent wish : ℕ} → sound (cellOf t) ≡ true → cellOf t .given agent ≡ false → Grounds (step-call t agent wish) 11 0
+  list-10 : {t : Cell} {buffer : List ℕ} → sound (cellOf t) ≡ false → Grounds (list-call t buffer) 10 0
+  list-12 : {t : Cell} {buffer : List ℕ} → sound (cellOf t) ≡ true → length buffer < length (listing (cellOf t))
+      → Grounds (list-call t buffer) 12 0
+  check-10 : {t : Cell} → sound (cellOf t) ≡ false → Grounds (check-call t) 10 0
+  idle-10 : {t : Cell} → sound (cellOf t) ≡ false → Grounds (idle-call t) 10 0
+
+-- ---- what a host lends
+
+-- the table, and the bytes: the file of a load, the buffer of a listing
+pub record Lent : Type 0 where
+  pub table : Cell
+  pub bytes : List ℕ
+
+-- what a host lends to a call
+abbrev pub before : KeeperCall → Lent
+before (load-call t file) = record { table = t; bytes = file }
+before (step-call t agent wish) = record { table = t; bytes = [] }
+before (list-call t buffer) = record { table = t; bytes = buffer }
+before (check-call t) = record { table = t; bytes = [] }
+before (idle-call t) = record { table = t; bytes = [] }
+
+-- and what it has of it afterwards
+abbrev pub after : KeeperCall → Lent
+after (load-call t file) = record { table = loadOf t file .cell; bytes = file }
+after (step-call t agent wish) = record { table = stepOf t agent wish .cell; bytes = [] }
+after (list-call t buffer) = record { table = t; bytes = listBuffer (cellOf t) buffer }
+after (check-call t) = record { table = t; bytes = [] }
+after (idle-call t) = record { table = t; bytes = [] }
+
+-- ---- the claim
+
+-- demand 1, of a call
+pub record RefusedRightly (k : KeeperCall) : Type 0 where
+  -- a call is refused only with one of its numbers
+  pub only : (number offset : ℕ) → Refuses k number offset → mayAnswer k number ≡ true
+  -- the offset lies within the file: at its end where the end record is missing
+  pub within : (number offset : ℕ) → Refuses k number offset → offset ≤ length (before k .bytes)
+  -- each number exactly under its condition
+  pub exactly : (number offset : ℕ) → Refuses k number offset ↔ Grounds k number offset
+  -- "A refused one leaves the cell that was there": a refusal changes nothing
+  pub keeps : (number offset : ℕ) → Refuses k number offset → after k ≡ before k
