@@ -126,7 +126,8 @@ module _ (c : State) (few : (x : ℕ) → c .given x ≡ true → c .agent x .co
       ∙ ap (λ (text : ℕ → List ℕ). standTurn (treeOf c) p text q s) (fun-ext (contents-same depth)))))
       (agents-same p)
 
-  few-listing : listing c ≡ treeListing (treeOf c)
+  -- so the listings are the same
+  pub few-listing : listing c ≡ treeListing (treeOf c)
   unfolding listing treeListing
   few-listing = rw (contents-same 65 0)
 

@@ -1,1 +1,1 @@
-// Demands 2 and 3, proved of the written meaning: laws, no code.
+// Demands 1 to 3, proved of the written meaning: laws, no code.
