@@ -7,14 +7,14 @@ use native.Mathlib.Omega.{arith}
 use lib.Dec.{eqb}
 use borrow.Author.Tests.{eqb-true, eq-eqb, ne-eqb}
 use Rattle.table.specs.BaseLaws.{Told, yea, nay, told, eq?, clash, all-yes}
-use Rattle.table.specs.Cell.{State, none, travels}
+use Rattle.table.specs.Cell.{Land, State, none, travels}
 use Rattle.table.specs.declared.Agent.{Agent}
 use Rattle.meaning.specs.Run.{settled}
 use Rattle.demands.specs.ReadingLaws.{agent-given}
-use Rattle.demands.specs.Invariant.{Sound}
+use Rattle.demands.specs.Invariant.{Ok, ok0, ok1, ok2, ok3-move, ok3-open, ok4, ok5, ok6, ok7, ok8, Sound}
 use Rattle.demands.specs.Facts.{settled-at}
 use Rattle.demands.specs.Given.{agent-all}
-use Rattle.demands.specs.TwoAlone.{Low, settled-low, low-settled}
+use Rattle.demands.specs.TwoAlone.{Low, low-not, settled-low, low-settled}
 
 -- no place in use is locked (64 is nobody), and none but the floor is on its way: each is linked (0)
 pub record Settled (c : State) : Type 0 where
@@ -42,16 +42,44 @@ module _ (c : State) where
       go : (q : ℕ) → q < 64 → Told (c .land .used q) → (q ≡ 0) ⊎ (q ≢ 0)
           → cond (c .land .used q) (eqb (c .lock q) none && not (travels (c .land) q)) true ≡ true
       go q l (yea u) (inl z) = rw (u, eq-eqb (c .lock q) none (s .unlocked q l u), eq-eqb q 0 z)
-      go q l (yea u) (inr n) = rw (u, eq-eqb (c .lock q) none (s .unlocked q l u), ne-eqb q 0 n, eq-eqb (c .land .place q .way) 0 (s .linked q l u n))
+      go q l (yea u) (inr n) =
+          rw (u, eq-eqb (c .lock q) none (s .unlocked q l u), ne-eqb q 0 n, eq-eqb (c .land .place q .way) 0 (s .linked q l u n))
       go q l (nay u) _ = rw u
 
   -- the test is true exactly if it is so
   pub settled-means : (settled c ≡ true) ↔ Settled c
   settled-means = (settled-holds, settled-true)
 
-  -- a sound cell is settled exactly if every agent is looking (0), found (1), asleep (7) or done (8)
-  pub settled-stages : Sound c → (settled c ≡ true) ↔ ((x : ℕ) → c .given x ≡ true → Low (c .agent x .stage))
-  settled-stages i = (
-    λ e x g. subst (λ (a : Agent). Low (a .stage)) (agent-given c x g) (settled-low c i e x),
-    λ h. low-settled c i (agent-all c (λ _ a. Low (a .stage)) h (λ x. inr (omega arith))),
-  )
+-- ---- by the agents of a sound cell
+
+-- the stages of an agent that holds no lock and whose place is not on its way
+pub data HoldsNothing (stage : ℕ) : Type 0 where
+  looking : stage ≡ 0 → HoldsNothing stage
+  found : stage ≡ 1 → HoldsNothing stage
+  asleep : stage ≡ 7 → HoldsNothing stage
+  done : stage ≡ 8 → HoldsNothing stage
+
+nothing-low : {s : ℕ} → HoldsNothing s → Low s
+nothing-low (looking e) = inl (omega arith)
+nothing-low (found e) = inl (omega arith)
+nothing-low (asleep e) = inr (omega arith)
+nothing-low (done e) = inr (omega arith)
+
+low-nothing : {l : Land} {lock : ℕ → ℕ} {x : ℕ} {a : Agent} → Ok l lock x a → Low (a .stage) → HoldsNothing (a .stage)
+low-nothing (ok0 s _) w = looking s
+low-nothing (ok1 s _) w = found s
+low-nothing (ok2 s _ _) w = absurd (low-not w (omega arith) (omega arith))
+low-nothing (ok3-move s _ _ _ _ _ _) w = absurd (low-not w (omega arith) (omega arith))
+low-nothing (ok3-open s _ _ _ _ _) w = absurd (low-not w (omega arith) (omega arith))
+low-nothing (ok4 s _) w = absurd (low-not w (omega arith) (omega arith))
+low-nothing (ok5 s _ _) w = absurd (low-not w (omega arith) (omega arith))
+low-nothing (ok6 s _ _ _) w = absurd (low-not w (omega arith) (omega arith))
+low-nothing (ok7 s _ _) w = asleep s
+low-nothing (ok8 s _) w = done s
+
+-- a sound cell is settled exactly if every agent is looking, found, asleep or done
+pub settled-stages : (c : State) → Sound c → (settled c ≡ true) ↔ ((x : ℕ) → c .given x ≡ true → HoldsNothing (c .agent x .stage))
+settled-stages c i = (
+  λ e x g. subst (λ (a : Agent). HoldsNothing (a .stage)) (agent-given c x g) (low-nothing (i .ok x) (settled-low c i e x)),
+  λ h. low-settled c i (agent-all c (λ _ a. Low (a .stage)) (λ x g. nothing-low (h x g)) (λ x. inr (omega arith))),
+)
