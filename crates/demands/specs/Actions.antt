@@ -62,7 +62,11 @@ first-unused a f = go (told (hasAction a))
 -- an action used up leaves the rest of the row
 pub rest-unused : (a : Agent) → unused (useUp a) ≡ restOf (unused a)
 unfolding unused
-rest-unused a = rest-tab _ (a .count - a .next) (a .count - (a .next + 1)) (a .next) (omega arith)
+rest-unused a = go (told (hasAction a))
+  where
+    go : Told (hasAction a) → unused (useUp a) ≡ restOf (unused a)
+    go (yea e) = rw e (rest-tab _ (a .count - a .next) (a .count - (a .next + 1)) (a .next) (omega arith))
+    go (nay e) = rw e (unused-none a e ∙ sym (ap restOf (unused-none a e)))
 
 -- ---- kind and name of the next action
 
@@ -112,4 +116,4 @@ fit-stage a stage remembered chosen f = record { ordered = f .ordered; few = f .
 -- with an action used up
 pub fit-used : (a : Agent) → Fit a → hasAction a ≡ true → Fit (useUp a)
 fit-used a f e = let l = ltb-true (a .next) (a .count) e in
-    record { ordered = omega arith; few = f .few; good = subst Good (sym (rest-unused a)) (good-rest (f .good)) }
+    record { ordered = rw e (omega arith); few = f .few; good = subst Good (sym (rest-unused a)) (good-rest (f .good)) }

@@ -1,14 +1,15 @@
 -- Every step keeps a cell sound and gives every sleeper a reason to sleep, from every sound cell, and so does every list of calls on a table.
--- Each way that a step can go has its own lemma; this file collects them, and goes from cells to tables by reading back.
-use mathlib.Core.Path.{_≡_, refl}
+-- Each way that a step can go has its own lemma; this file collects them, and goes from cells to tables: what a step makes of a table's cell
+-- reads nothing at and past 64, so the table after it has just that cell.
+use mathlib.Core.Path.{_≡_, refl, sym, subst}
 use mathlib.Core.Logic.{inl}
 use mathlib.Core.Bool.{true}
 use mathlib.Core.List.{List, [], _∷_}
 use Prim.Native.Nat.{ℕ}
 use Rattle.table.specs.BaseLaws.{Told, yea, nay, told}
-use Rattle.table.specs.Bounds.{Sized}
+use Rattle.table.specs.Bounds.{Sized, Bounded}
 use Rattle.table.specs.Cell.{State, cellOf, tableOf}
-use Rattle.table.specs.CellLaws.{bounded, sized-table}
+use Rattle.table.specs.CellLaws.{bounded, forth, sized-table}
 use Rattle.table.specs.Sound.{sound}
 use Rattle.table.specs.declared.Cell.{Cell}
 use Rattle.meaning.specs.Step.{Outcome, still, step}
@@ -24,16 +25,16 @@ use Rattle.demands.specs.Quiet.{keep-take-second, keep-give-up, keep-tak
 use Rattle.demands.specs.Leaving.{keep-enter, keep-exit}
 use Rattle.demands.specs.Coming.{keep-come}
 use Rattle.demands.specs.Opening.{open-keeps}
-use Rattle.demands.specs.Within.{Within, bounded-within}
-use Rattle.demands.specs.ReadBack.{sound-within, sound-back, inv-back}
-use Rattle.demands.specs.SoundTest.{sound-true}
+use Rattle.demands.specs.Unused.{untouched-none, untouched-bounded}
+use Rattle.demands.specs.SoundTest.{sound-true, sound-holds}
+use Rattle.demands.specs.Facts.{below-64}
 
 -- ---- one step of a cell
 
 module _ (c : State) (i : Sound c) (x : ℕ) (g : c .given x ≡ true) where
   -- where nothing changes
   same : Keeps c x c
-  same = record { sound = i; sleep = λ s. s; given = λ y. refl; within = λ b. b; others = λ y n. inl refl }
+  same = record { sound = i; sleep = λ s. s; untouched = untouched-none c; others = λ y n. inl refl }
 
   -- every way keeps the cell
   pub way-keeps : {wish : ℕ} {o : Outcome} → Way c x wish o → Keeps c x (o .cell)
@@ -85,6 +86,11 @@ stepped P t x wish old new = go (told (sound (cellOf t))) (told (cellOf t .given
     go (yea e) (nay g) = rw (e, g) old
     go (nay e) _ = rw e old
 
+-- the table after a step has the cell that the step makes
+pub step-back : (t : Cell) → Sized t → Sound (cellOf t) → (x : ℕ) → cellOf t .given x ≡ true → (wish : ℕ)
+    → cellOf (tableOf (step (cellOf t) x wish .cell)) ≡ step (cellOf t) x wish .cell
+step-back t z i x g wish = forth _ (untouched-bounded (step-keeps (cellOf t) i x g wish .untouched) (bounded t z))
+
 -- the table after a call has the sizes of the struct
 pub sized-stepped : (t : Cell) (x wish : ℕ) → Sized t → Sized (stepOf t x wish .cell)
 sized-stepped t x wish z = stepped Sized t x wish z (λ _ _. sized-table _)
@@ -92,7 +98,7 @@ sized-stepped t x wish z = stepped Sized t x wish z (λ _ _. sized-table _)
 -- and its cell the invariant
 pub inv-stepped : (t : Cell) (x wish : ℕ) → Sized t → Inv (cellOf t) → Inv (cellOf (stepOf t x wish .cell))
 inv-stepped t x wish z i = stepped (λ (u : Cell). Inv (cellOf u)) t x wish i
-    (λ _ g. inv-back _ (step-keeps (cellOf t) (i .sound) x g wish .within (bounded-within (bounded t z))) (step-inv (cellOf t) i x g wish))
+    (λ _ g. subst Inv (sym (step-back t z (i .sound) x g wish)) (step-inv (cellOf t) i x g wish))
 
 -- so has every table after a list of calls
 pub sized-run : (t : Cell) (calls : List Call) → Sized t → Sized (run t calls)
@@ -108,16 +114,19 @@ inv-run t (k ∷ calls) z i = inv-run _ calls (sized-stepped t (k .agent) (k .wi
 
 -- ---- soundness as a test
 
+-- a cell without places and agents past 64 that passes the test is sound
+pub sound-bounded : (c : State) → Bounded c → sound c ≡ true → Sound c
+sound-bounded c b = sound-holds c (below-64 (c .land .used) (b .used)) (below-64 (c .given) (b .given))
+
 -- a step in a cell that passes the test gives a cell that passes it
-pub step-keeps-sound : (c : State) → Within c → (x : ℕ) → c .given x ≡ true → (wish : ℕ) → sound c ≡ true → sound (step c x wish .cell) ≡ true
-step-keeps-sound c b x g wish e = sound-true _ (step-sound c (sound-within c b e) x g wish)
+pub step-keeps-sound : (c : State) → Bounded c → (x : ℕ) → c .given x ≡ true → (wish : ℕ) → sound c ≡ true → sound (step c x wish .cell) ≡ true
+step-keeps-sound c b x g wish e = sound-true _ (step-sound c (sound-bounded c b e) x g wish)
 
 -- a step call on a table whose cell is sound leaves one, whatever it answers; the table has the sizes of the struct, as every value of it has
 pub sound-stepped : (t : Cell) (x wish : ℕ) → Sized t → sound (cellOf t) ≡ true → sound (cellOf (stepOf t x wish .cell)) ≡ true
 sound-stepped t x wish z e = stepped (λ (u : Cell). sound (cellOf u) ≡ true) t x wish e
-    (λ _ g. let b = bounded-within (bounded t z) in
-    let i = sound-within (cellOf t) b e in
-    sound-true _ (sound-back _ (step-keeps (cellOf t) i x g wish .within b) (step-sound (cellOf t) i x g wish)))
+    (λ _ g. let i = sound-bounded (cellOf t) (bounded t z) e in
+    subst (λ (c : State). sound c ≡ true) (sym (step-back t z i x g wish)) (sound-true _ (step-sound (cellOf t) i x g wish)))
 
 -- so does every list of calls: a sound table is never turned away with 10
 pub sound-run : (t : Cell) (calls : List Call) → Sized t → sound (cellOf t) ≡ true → sound (cellOf (run t calls)) ≡ true

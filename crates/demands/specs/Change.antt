@@ -3,7 +3,7 @@
 use mathlib.Core.Path.{_≡_, refl, sym, ap, _∙_, subst}
 use mathlib.Core.Logic.{_≢_, _⊎_, inl, inr}
 use Prim.Native.Nat.{ℕ, _<_}
-use mathlib.Core.Bool.{true, false}
+use mathlib.Core.Bool.{Bool, true, false}
 use native.Mathlib.Omega.{arith}
 use Rattle.table.specs.Base.{upd}
 use Rattle.table.specs.BaseLaws.{eq?, upd-at, upd-other, upd-all}
@@ -16,7 +16,7 @@ use Rattle.demands.specs.Invariant.{Holds, near, far, own, destination, 
 use Rattle.demands.specs.Facts.{Kind}
 use Rattle.demands.specs.Actions.{fit-stage, kind-of}
 use Rattle.demands.specs.Stages.{SameOrReset, same-between, ok-at, travels-away, holds-between, Returned}
-use Rattle.demands.specs.Within.{Within}
+use Rattle.demands.specs.NoMore.{Untouched}
 use Rattle.demands.specs.Frame.{ok-frame, Roused, woken, unchanged, roused-home, roused-reset}
 
 -- a lock that no other agent has: it is free, or the agent that steps has it and says so by its stage
@@ -36,8 +36,7 @@ module _ {c : State} {x : ℕ} {lock′ : ℕ → ℕ} (r : Returned c x lock′
 -- from c to c′ agent x becomes `new`, other agents become `woke`, and those that stay asleep remember a quiet place
 pub record Change (c c′ : State) (x : ℕ) (quiet : ℕ → Type 0) : Type 0 where
   pub steps : c .given x ≡ true
-  pub given : (y : ℕ) → c′ .given y ≡ c .given y
-  pub within : Within c → Within c′
+  pub untouched : Untouched c c′
   pub used : (q : ℕ) → c′ .land .used q ≡ c .land .used q
   pub new : Agent
   pub woke : ℕ → Agent
@@ -198,7 +197,7 @@ module _ {c c′ : State} {x : ℕ} {quiet : ℕ → Type 0} (i : Sound c) (m : 
         (λ y. m .used _ ∙ ap (c .land .used) (same-home y) ∙ i .homes y);
     fit = read (λ f. (y : ℕ) → Fit (f y))
         (upd-all (m .woke) x (m .new) (λ (y : ℕ) (b : Agent). Fit b) (m .fit) (λ y _. roused-fit (m .roused y) (i .fit y)));
-    few = λ y g. i .few y (sym (m .given y) ∙ g);
+    few = λ y g. i .few y (sym (ap (λ (f : ℕ → Bool). f y) (m .untouched .given)) ∙ g);
     ok = read (λ f. (y : ℕ) → Ok (c′ .land) (c′ .lock) y (f y)) (upd-all (m .woke) x (m .new) (Ok (c′ .land) (c′ .lock)) (m .ok) others-ok);
     locks = read (λ f. (q : ℕ) → c′ .land .used q ≡ true → Kept (c′ .land) (c′ .lock) f q) locks-kept;
     mover = read (λ f. (q : ℕ) → c′ .land .used q ≡ true → q ≢ 0 → linked (c′ .land) q ≡ false → Mover f q) moved;
@@ -224,13 +223,12 @@ module _ {c c′ : State} {x : ℕ} {quiet : ℕ → Type 0} (i : Sound c) (m : 
 
 -- ---- a step keeps the cell
 
--- after a step of agent x the cell is sound, and its sleepers have a reason if those before had one; no agent comes or goes, nothing
--- is put at or past 64, and every other agent is as it was, or at stage 0 or 8
+-- after a step of agent x the cell is sound, and its sleepers have a reason if those before had one; what is not in use is as it was,
+-- and every other agent is as it was, or at stage 0 or 8
 pub record Keeps (c : State) (x : ℕ) (c′ : State) : Type 0 where
   pub sound : Sound c′
   pub sleep : Reasons c → Reasons c′
-  pub given : (y : ℕ) → c′ .given y ≡ c .given y
-  pub within : Within c → Within c′
+  pub untouched : Untouched c c′
   pub others : (y : ℕ) → y ≢ x → SameOrReset (agentIn c y) (agentIn c′ y)
 
 -- so it keeps the invariant
@@ -243,7 +241,6 @@ pub keeps : {c c′ : State} {x : ℕ} {quiet : ℕ → Type 0} → Sound c → 
 keeps i m mine calm = record {
   sound = changed-sound i m;
   sleep = changed-sleep i m mine calm;
-  given = m .given;
-  within = m .within;
+  untouched = m .untouched;
   others = changed-others i m;
 }

@@ -17,7 +17,7 @@ use Rattle.demands.specs.Invariant.{Under, Places, Away, Travels, Sound}
 use Rattle.demands.specs.Facts.{not-yes, Comes, awaited-yes, awaited-some, parent-read, link-used}
 use Rattle.demands.specs.Actions.{fit-stage}
 use Rattle.demands.specs.Stages.{ok-at, rest-ok, rest-stage, not-between, ok-given, fit-given, home-given, returned-six}
-use Rattle.demands.specs.Within.{woken-within}
+use Rattle.demands.specs.Unused.{released-outside, woken-untouched}
 use Rattle.demands.specs.Frame.{Calm, sleeper-frame, Apart, rouses}
 use Rattle.demands.specs.Change.{is-free, returned-has, returned-free, Change, Keeps, keeps}
 
@@ -111,8 +111,8 @@ module _ (c : State) (i : Sound c) (x : ℕ) (g : c .given x ≡ true) (e : c .a
       change : Change c (arrive c x (c .agent x) (parentIn (c .land) (c .agent x .home)) .cell) x (Apart h d (beyond l d))
       change = record {
         steps = g;
-        given = λ y. refl;
-        within = λ b. woken-within c i x g b _ _ _ _ _ _;
+        untouched = woken-untouched c x g _ _ _ h _ _ _ (home-given c i x g)
+            (released-outside (c .land .used) (c .lock) _ _ (home-given c i x g) (i .places .parent-used _));
         used = λ q. refl;
         new = atStage a (restStage a) 0 0;
         woke = λ y. wakeAgent h d (beyond l d) (agentIn c y);

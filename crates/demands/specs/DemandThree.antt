@@ -12,7 +12,7 @@ use Rattle.table.specs.Base.{iter}
 use Rattle.table.specs.BaseLaws.{Told, yea, nay, told}
 use Rattle.table.specs.Cell.{State, travels, cellOf, tableOf}
 use Rattle.table.specs.Bounds.{Sized}
-use Rattle.table.specs.CellLaws.{bounded, sized-table}
+use Rattle.table.specs.CellLaws.{sized-table}
 use Rattle.table.specs.Sound.{sound}
 use Rattle.table.specs.Idle.{idle}
 use Rattle.table.specs.declared.Cell.{Cell}
@@ -27,13 +27,11 @@ use Rattle.demands.specs.Invariant.{Inv}
 use Rattle.demands.specs.Facts.{whole-still}
 use Rattle.demands.specs.Stages.{not-between}
 use Rattle.demands.specs.SoundTest.{leads-all}
-use Rattle.demands.specs.Always.{step-keeps, sized-run, inv-run}
+use Rattle.demands.specs.Always.{step-back, sized-run, inv-run}
 use Rattle.demands.specs.Fresh.{Fresh}
 use Rattle.demands.specs.Loading.{accepted-fresh}
 use Rattle.demands.specs.LoadingLaws.{fresh-stage, accepted-inv, accepted-forth}
 use Rattle.demands.specs.Live.{Goes, live}
-use Rattle.demands.specs.ReadBack.{read-back}
-use Rattle.demands.specs.Within.{bounded-within}
 use Rattle.demands.specs.AtRest.{all-linked, no-move}
 use Rattle.demands.specs.AfterCalls.{EqualsPlain, StepChanges, reached, plainAfter, AfterCalls}
 use Rattle.demands.specs.SamePlain.{Same}
@@ -79,9 +77,8 @@ module _ (t : Cell) (z : Sized t) (i : Inv (cellOf t)) where
       back : (wish : ℕ) → stepOf t (g .who) wish .cell ≡ t → step c (g .who) wish .cell .agent (g .who) .stage ≡ c .agent (g .who) .stage
       back wish e =
           let d : State = step c (g .who) wish .cell in
-          let n = step-keeps c (i .sound) (g .who) (g .given) wish .within (bounded-within (bounded t z)) in
           let m : tableOf d ≡ t = sym (ap (λ r. r .cell) (call-made t i (g .who) wish (g .given)) ∙ unfold made in refl) ∙ e in
-          ap (λ s. s .agent (g .who) .stage) (sym (read-back d n) ∙ ap cellOf m)
+          ap (λ s. s .agent (g .who) .stage) (sym (step-back t z (i .sound) (g .who) (g .given) wish) ∙ ap cellOf m)
 
   goes-of : (x : ℕ) → c .given x ≡ true → rests t x ≡ false → (y : ℕ) × StepChanges t y
   goes-of x g r = changes-of (live c (i .sound) x g (let l = leb-false 7 (c .agent x .stage) (sym (rests-stage t i x g) ∙ r) in omega arith))

@@ -18,7 +18,7 @@ use Rattle.demands.specs.Invariant.{Under, Places, Has, ok4, Travels, So
 use Rattle.demands.specs.Facts.{not-yes, Comes, awaited-yes, awaited-some, enters-fits, link-used, fires-target, target-chosen, second-move}
 use Rattle.demands.specs.Actions.{has-some, fit-stage, fit-used}
 use Rattle.demands.specs.Stages.{BothMove, both-move, ok-at, travels-away, ok-given, fit-given, home-given, Returned, returned-three}
-use Rattle.demands.specs.Within.{woken-within}
+use Rattle.demands.specs.Unused.{released-outside, woken-untouched}
 use Rattle.demands.specs.Frame.{Calm, sleeper-frame, Apart, rouses}
 use Rattle.demands.specs.Change.{is-free, returned-has, returned-free, Change, Keeps, keeps}
 
@@ -111,8 +111,8 @@ module _ (c : State) (i : Sound c) (x : ℕ) (g : c .given x ≡ true) (e : c .a
       change : Change c (leave c x (c .agent x) d .cell) x (Apart (a .remembered) h h)
       change = record {
         steps = g;
-        given = λ y. refl;
-        within = λ b. woken-within c i x g b _ _ _ _ _ _;
+        untouched = woken-untouched c x g _ _ _ h _ _ _ (home-given c i x g)
+            (released-outside (c .land .used) (c .lock) _ _ (ok-at 3 e (ok-given c i x g) .0 .known) (home-given c i x g));
         used = λ q. refl;
         new = atStage (useUp a) 4 0 0;
         woke = λ y. wakeAgent (a .remembered) h h (agentIn c y);

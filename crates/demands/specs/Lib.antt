@@ -4,12 +4,14 @@ pub mod AfterCalls
 pub mod Printed
 pub mod TwoSteps
 pub mod Agrees
+pub mod NoMore
 -- the theorems
 pub mod DemandOne
 pub mod DemandTwo
 pub mod DemandThree
 pub mod PrintedLaws
 pub mod AgreesLaws
+pub mod NoMoreLaws
 -- the invariant and the ways a step can go
 pub mod Reading
 pub mod ReadingLaws
@@ -30,7 +32,7 @@ pub mod SoundTestAgents
 pub mod SoundTestPlaces
 pub mod SoundTestTravellers
 -- every step keeps the invariant
-pub mod Within
+pub mod Unused
 pub mod Frame
 pub mod Change
 pub mod Quiet
@@ -40,7 +42,6 @@ pub mod OpeningAgents
 pub mod OpeningPlaces
 pub mod OpeningLocks
 pub mod Opening
-pub mod ReadBack
 pub mod Always
 -- an accepted load
 pub mod Fresh

@@ -16,10 +16,10 @@ use Rattle.demands.specs.Reading.{parentIn, agentIn}
 use Rattle.demands.specs.ReadingLaws.{agent-given, agent-dissolved}
 use Rattle.demands.specs.Invariant.{Under, Has, Fit, Ok, ok0, ok1, ok2, ok3-move, ok3-open, ok4, ok5, ok6, ok7, ok8, Kept, Travels}
 use Rattle.demands.specs.Invariant.{Mover, Sound, Sleeper, Reasons}
-use Rattle.demands.specs.Facts.{not-yes, Comes, awaited-yes, awaited-some, opens-fits, fires-target, target-chosen}
+use Rattle.demands.specs.Facts.{not-yes, link-used, Comes, awaited-yes, awaited-some, opens-fits, fires-target, target-chosen}
 use Rattle.demands.specs.Actions.{kind-of, has-some, unused-none, fit-stage, fit-used}
-use Rattle.demands.specs.Stages.{ok-at, rest-ok, rest-stage, not-between, SameOrReset, same-between, fit-given}
-use Rattle.demands.specs.Within.{opened-within}
+use Rattle.demands.specs.Stages.{ok-at, rest-ok, rest-stage, not-between, SameOrReset, same-between, ok-given, fit-given}
+use Rattle.demands.specs.Unused.{opened-untouched}
 use Rattle.demands.specs.Frame.{Recalls, found, sleeping, holding, ok-frame, Calm, sleeper-frame}
 use Rattle.demands.specs.Change.{Keeps}
 use Rattle.demands.specs.Given.{agent-fresh}
@@ -235,7 +235,6 @@ open-keeps c i x g s k f =
     record {
       sound = sound-opened c i x g s k _ _ o w;
       sleep = sleep-opened c i x g s k _ _ o w;
-      given = λ y. refl;
-      within = λ b. opened-within c i x g b _ _ (o .under .link);
+      untouched = opened-untouched c x g _ _ (ok-at 3 s (ok-given c i x g) .0 .known) (link-used (c .land) _ (o .under .link));
       others = others-opened c i x g s k _ _ o w;
     }

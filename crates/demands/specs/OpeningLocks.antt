@@ -1,18 +1,18 @@
 -- The locks once an agent has opened a place: the two that it held are free, so is one that an agent of the opened place held at
 -- stage 2, and no other changes.
 -- An agent of the opened place can hold no lock at another stage: at stage 3 it would hold one of the opener's, and it is not on its way.
-use mathlib.Core.Path.{_≡_, sym, ap, _∙_, subst}
+use mathlib.Core.Path.{_≡_, refl, sym, ap, _∙_, subst}
 use mathlib.Core.Logic.{_≢_, _⊎_, inl, inr}
 use Prim.Native.Nat.{ℕ, _≤_}
-use mathlib.Core.Bool.{Bool, true, false, _&&_}
+use mathlib.Core.Bool.{Bool, true, false, _&&_, cond}
 use native.Mathlib.Omega.{arith}
-use lib.Dec.{ltb, eqb}
-use borrow.Author.Tests.{eq-eqb, ne-eqb, lt-ltb}
+use lib.Dec.{eqb}
+use borrow.Author.Tests.{eq-eqb, ne-eqb}
 use Rattle.table.specs.BaseLaws.{Told, yea, nay, told, clash, eq?, upd-at, upd-other}
 use Rattle.table.specs.Cell.{State, none, linked, kindOf}
 use Rattle.table.specs.declared.Agent.{Agent}
 use Rattle.meaning.specs.Update.{released}
-use Rattle.meaning.specs.Step.{awaited, dissolveLand, dissolveLock, dissolveAgent}
+use Rattle.meaning.specs.Step.{awaited, dissolveLand, letsGo, dissolveLock, dissolveAgent}
 use Rattle.demands.specs.Reading.{parentIn, agentIn}
 use Rattle.demands.specs.ReadingLaws.{agent-given}
 use Rattle.demands.specs.Invariant.{Under, Has, Ok, ok0, ok1, ok2, ok3-move, ok3-open, ok4, ok5, ok6, ok7, ok8, Holds, near, far}
@@ -77,7 +77,12 @@ module _ {c : State} (i : Sound c) {x p t : ℕ} (o : Opener c x p t) where
   unfolding dissolveLock
   has-same {y} {q} n e h =
       let r = others n h in
-      record { by = locks-at q (r .0) (r .1) ∙ rw (h .by, lt-ltb y 64 (h .small), ne-eqb (c .agent y .home) t e); small = h .small }
+      record { by = locks-at q (r .0) (r .1) ∙ rw (h .by) (stays (c .land .used q) (c .given y) (ne-eqb (c .agent y .home) t e)); small = h .small }
+    where
+      stays : (u v : Bool) {b : Bool} → b ≡ false → cond (u && (v && (b && eqb (c .agent y .stage) 2))) none y ≡ y
+      stays true true z = rw z
+      stays true false z = refl
+      stays false v z = refl
 
   -- ---- once the agents are as dissolving leaves them, and nothing was on its way to t
 
@@ -106,8 +111,11 @@ module _ {c : State} (i : Sound c) {x p t : ℕ} (o : Opener c x p t) where
         gone : q ≢ t
         gone = used-before (i .places) (o .under) q u
 
+        before : c .land .used q ≡ true
+        before = sym (used-same (i .places) (o .under) q gone) ∙ u
+
         test : ℕ → Bool
-        test y = ltb y 64 && (eqb (c .agent y .home) t && eqb (c .agent y .stage) 2)
+        test y = c .land .used q && letsGo c t y
 
         go : q ≢ p → Told (test (c .lock q)) → Kept (c .land) (c .lock) (agentIn c) q → Kept (dissolveLand (c .land) p t) locks agents q
         go m (yea e) _ = free (locks-at q m gone ∙ rw e)
@@ -129,7 +137,8 @@ module _ {c : State} (i : Sound c) {x p t : ℕ} (o : Opener c x p t) where
             out′ : agentIn c y .home ≢ t
             out′ z = clash (rw (
               h .by,
-              lt-ltb y 64 (h .small),
+              before,
+              holds-given c y r,
               eq-eqb (c .agent y .home) t (ap (λ b. b .home) (sym given) ∙ z),
               eq-eqb (c .agent y .stage) 2 (ap (λ b. b .stage) (sym given) ∙ held-at-two n z (i .ok y) r),
             )) e
@@ -139,4 +148,4 @@ module _ {c : State} (i : Sound c) {x p t : ℕ} (o : Opener c x p t) where
 
         at : (q ≡ p) ⊎ (q ≢ p) → Kept (dissolveLand (c .land) p t) locks agents q
         at (inl e) = free (upd-other _ t q none gone ∙ upd-at _ p q none e)
-        at (inr m) = go m (told (test (c .lock q))) (i .locks q (sym (used-same (i .places) (o .under) q gone) ∙ u))
+        at (inr m) = go m (told (test (c .lock q))) (i .locks q before)

@@ -23,8 +23,8 @@ use Rattle.demands.specs.Choice.{choice-fits, choice-none}
 use Rattle.demands.specs.Facts.{Kind, is-enter, is-exit, is-open, enters-fits, opens-fits, fits-linked}
 use Rattle.demands.specs.Actions.{kind-of, fit-stage}
 use Rattle.demands.specs.Stages.{ok-at, holds-none, holds-two, holds-four, holds-five, ok-given, fit-given, home-given, Returned}
-use Rattle.demands.specs.Stages.{returned-two, returned-three}
-use Rattle.demands.specs.Within.{turned-within}
+use Rattle.demands.specs.Stages.{second-used, returned-two, returned-three}
+use Rattle.demands.specs.Unused.{turned-untouched, upd-outside, released-outside}
 use Rattle.demands.specs.Frame.{unchanged}
 use Rattle.demands.specs.Change.{Mine, is-free, is-mine, returned-has, returned-free, Change, Keeps, keeps}
 
@@ -39,14 +39,15 @@ module _ (c : State) (i : Sound c) (x : ℕ) (g : c .given x ≡ true) where
       ⊎ ((Travels (c .agent x) → ⊥) × (Travels (next stage remembered chosen) → ⊥))
 
   -- one agent and some locks change, and not the places
-  quiet : (stage remembered chosen : ℕ) (lock′ : ℕ → ℕ) → Ok (c .land) lock′ x (next stage remembered chosen)
+  quiet : (stage remembered chosen : ℕ) (lock′ : ℕ → ℕ) → ((q : ℕ) → c .land .used q ≡ false → lock′ q ≡ c .lock q)
+      → Ok (c .land) lock′ x (next stage remembered chosen)
       → ((y q : ℕ) → y ≢ x → Has (c .lock) q y → Has lock′ q y)
       → ((q : ℕ) → c .land .used q ≡ true → Mine (c .land) (c .lock) x (c .agent x) q → Mine (c .land) lock′ x (next stage remembered chosen) q)
       → Pace stage remembered chosen
       → (stage ≡ 7 → Sleeper (c .land) (next stage remembered chosen))
       → Keeps c x (withLocks (goesOn c x stage remembered chosen) lock′)
   unfolding agentIn
-  quiet stage remembered chosen lock′ ok has mine pace asleep = keeps i change asleep (λ a _ _ r. r)
+  quiet stage remembered chosen lock′ same ok has mine pace asleep = keeps i change asleep (λ a _ _ r. r)
     where
       own-loose : Pace stage remembered chosen → linked (c .land) (c .agent x .home) ≡ false
           → Travels (next stage remembered chosen) ⊎ ((linked (c .land) (c .agent x .home) ≡ false) × (Travels (c .agent x) → ⊥))
@@ -63,8 +64,7 @@ module _ (c : State) (i : Sound c) (x : ℕ) (g : c .given x ≡ true) where
       change : Change c (withLocks (goesOn c x stage remembered chosen) lock′) x (λ _. Unit {0})
       change = record {
         steps = g;
-        given = λ y. refl;
-        within = λ b. turned-within c i x g b _ _;
+        untouched = turned-untouched c x g _ lock′ same;
         used = λ q. refl;
         new = next stage remembered chosen;
         woke = agentIn c;
@@ -87,20 +87,20 @@ module _ (c : State) (i : Sound c) (x : ℕ) (g : c .given x ≡ true) where
   go-on : (stage remembered chosen : ℕ) → Ok (c .land) (c .lock) x (next stage remembered chosen)
       → ((q : ℕ) → Holds (c .land) (c .agent x) q → ⊥) → Pace stage remembered chosen
       → (stage ≡ 7 → Sleeper (c .land) (next stage remembered chosen)) → Keeps c x (goesOn c x stage remembered chosen)
-  go-on stage remembered chosen ok idle pace asleep = quiet stage remembered chosen (c .lock) ok (λ y q n h. h) (λ q u. go q) pace asleep
+  go-on stage remembered chosen ok idle pace asleep = quiet stage remembered chosen (c .lock) (λ q u. refl) ok (λ y q n h. h) (λ q u. go q) pace asleep
     where
       go : (q : ℕ) → Mine (c .land) (c .lock) x (c .agent x) q → Mine (c .land) (c .lock) x (next stage remembered chosen) q
       go q (is-free e) = is-free e
       go q (is-mine h r) = absurd (idle q r)
 
   -- a free lock is taken
-  take-on : (p stage remembered chosen : ℕ) → c .lock p ≡ none
+  take-on : (p stage remembered chosen : ℕ) → c .land .used p ≡ true → c .lock p ≡ none
       → (((q : ℕ) → Has (c .lock) q x → Has (upd (c .lock) p x) q x) → Has (upd (c .lock) p x) p x
       → Ok (c .land) (upd (c .lock) p x) x (next stage remembered chosen))
       → ((q : ℕ) → Holds (c .land) (c .agent x) q → Holds (c .land) (next stage remembered chosen) q)
       → Holds (c .land) (next stage remembered chosen) p → Pace stage remembered chosen → stage ≢ 7
       → Keeps c x (takesLock c x p stage remembered chosen)
-  take-on p stage remembered chosen f ok old add pace up = quiet stage remembered chosen lock′ (ok (has x) mine) (λ y q n h. has y q h)
+  take-on p stage remembered chosen u f ok old add pace up = quiet stage remembered chosen lock′ (upd-outside (c .land .used) (c .lock) p x u) (ok (has x) mine) (λ y q n h. has y q h)
       (λ q u. go q (eq? q p)) pace
       (λ e. absurd (up e))
     where
@@ -122,10 +122,11 @@ module _ (c : State) (i : Sound c) (x : ℕ) (g : c .given x ≡ true) where
       go q (inr n) (is-mine h r) = is-mine (has x q h) (old q r)
 
   -- all of the agent's locks are given back
-  give-on : (p q stage remembered : ℕ) → Returned c x (released (c .lock) p q)
+  give-on : (p q stage remembered : ℕ) → c .land .used p ≡ true → c .land .used q ≡ true → Returned c x (released (c .lock) p q)
       → Ok (c .land) (released (c .lock) p q) x (next stage remembered 0) → Pace stage remembered 0
       → (stage ≡ 7 → Sleeper (c .land) (next stage remembered 0)) → Keeps c x (givesBack c x p q stage remembered)
-  give-on p q stage remembered back ok pace asleep = quiet stage remembered 0 (released (c .lock) p q) ok
+  give-on p q stage remembered u v back ok pace asleep = quiet stage remembered 0 (released (c .lock) p q)
+      (released-outside (c .land .used) (c .lock) p q u v) ok
       (λ y r n h. returned-has back n h) (λ r u h. is-free (returned-free back (i .few x g) u h)) pace asleep
 
   -- ---- the steps
@@ -169,7 +170,7 @@ module _ (c : State) (i : Sound c) (x : ℕ) (g : c .given x ≡ true) where
   -- stage 1 with the lock free
   pub keep-take-first : c .agent x .stage ≡ 1 → c .lock (c .agent x .remembered) ≡ none
       → Keeps c x (takesLock c x (c .agent x .remembered) 2 (c .agent x .remembered) 0)
-  keep-take-first e f = take-on _ 2 _ 0 f
+  keep-take-first e f = take-on _ 2 _ 0 (ok-at 1 e (ok-given c i x g) .known) f
       (λ has mine. ok2 refl (ready 2 0 (ok-at 1 e (ok-given c i x g))) mine)
       (λ q h. absurd (holds-none (omega arith) h)) (near (omega arith) (omega arith) refl)
       (stay 2 _ 0 (omega arith) (inl (omega arith))) (λ z. omega arith)
@@ -177,14 +178,14 @@ module _ (c : State) (i : Sound c) (x : ℕ) (g : c .given x ≡ true) where
   -- stage 2 when its place is no longer linked to p
   pub keep-back : c .agent x .stage ≡ 2 → Keeps c x (givesBack c x (c .agent x .remembered) (c .agent x .remembered) 0 0)
   unfolding nextAction
-  keep-back e = give-on _ _ 0 0 (returned-two c i x g e) (ok0 refl (ok-at 2 e (ok-given c i x g) .0 .some))
+  keep-back e = let u = ok-at 2 e (ok-given c i x g) .0 .known in give-on _ _ 0 0 u u (returned-two c i x g e) (ok0 refl (ok-at 2 e (ok-given c i x g) .0 .some))
       (stay 0 0 0 (omega arith) (inl (omega arith))) (λ z. absurd (omega arith))
 
   -- stage 2 when the action can't fire
   pub keep-sleep-stuck : (wish : ℕ) → c .agent x .stage ≡ 2 → stays (c .land) (c .agent x) ≡ true → 64 ≤ choice (c .land) (c .agent x) wish
       → Keeps c x (givesBack c x (c .agent x .remembered) (c .agent x .remembered) 7 (c .agent x .remembered))
   unfolding nextAction stays
-  keep-sleep-stuck wish e st ch = give-on _ _ 7 _ (returned-two c i x g e) (ok7 refl (r .some) (r .known))
+  keep-sleep-stuck wish e st ch = give-on _ _ 7 _ (r .known) (r .known) (returned-two c i x g e) (ok7 refl (r .some) (r .known))
       (stay 7 _ 0 (omega arith) (inr refl)) (λ z. stuck (r .opener) st nothing)
     where
       r : Ready (c .land) (c .agent x)
@@ -200,7 +201,7 @@ module _ (c : State) (i : Sound c) (x : ℕ) (g : c .given x ≡ true) where
       → Keeps c x (takesLock c x (secondPlace (kindOf (c .agent x)) (c .agent x .home) q) 3 (c .agent x .remembered)
       (cond (eqb (kindOf (c .agent x)) 2) 0 q))
   unfolding nextAction
-  keep-take-second wish q e st ch l f = take-on _ 3 _ _ f (λ has mine. ok kind has mine)
+  keep-take-second wish q e st ch l f = take-on _ 3 _ _ (in-use kind) f (λ has mine. ok kind has mine)
       (λ r h. near (omega arith) (omega arith) (holds-two e h)) (far refl (second kind)) (stay 3 _ _ (omega arith) (inl (omega arith)))
       (λ z. omega arith)
     where
@@ -215,6 +216,12 @@ module _ (c : State) (i : Sound c) (x : ℕ) (g : c .given x ≡ true) where
 
       fits : qualifies (c .land) (kindOf a) (nameOf a) (a .home) (a .remembered) q ≡ true
       fits = choice-fits (c .land) a wish q ch l
+
+      -- the second place is in use
+      in-use : Kind (kindOf a) → c .land .used (secondPlace (kindOf a) (a .home) q) ≡ true
+      in-use (is-enter k) = ap (c .land .used) (second-move (kindOf a) (a .home) q (omega arith)) ∙ home-given c i x g
+      in-use (is-exit k) = ap (c .land .used) (second-move (kindOf a) (a .home) q (omega arith)) ∙ home-given c i x g
+      in-use (is-open k) = ap (c .land .used) (second-open (kindOf a) (a .home) q k) ∙ link-used (c .land) q (opens-fits (c .land) _ _ _ _ q k fits .0 .under .link)
 
       second : Kind (kindOf a) → secondPlace (kindOf a) (a .home) q ≡ secondPlace (kindOf a) (a .home) (cond (eqb (kindOf a) 2) 0 q)
       second (is-enter k) = rw k
@@ -247,12 +254,12 @@ module _ (c : State) (i : Sound c) (x : ℕ) (g : c .given x ≡ true) where
   pub keep-give-up : c .agent x .stage ≡ 3
       → Keeps c x (givesBack c x (c .agent x .remembered) (secondPlace (kindOf (c .agent x)) (c .agent x .home) (c .agent x .chosen)) 0 0)
   unfolding nextAction
-  keep-give-up e = give-on _ _ 0 0 (returned-three c i x g e) (ok0 refl (ok-at 3 e (ok-given c i x g) .0 .some))
+  keep-give-up e = give-on _ _ 0 0 (ok-at 3 e (ok-given c i x g) .0 .known) (second-used c i x g e) (returned-three c i x g e) (ok0 refl (ok-at 3 e (ok-given c i x g) .0 .some))
       (stay 0 0 0 (omega arith) (inl (omega arith))) (λ z. absurd (omega arith))
 
   -- stage 4 with its own lock free
   pub keep-take-own : c .agent x .stage ≡ 4 → c .lock (c .agent x .home) ≡ none → Keeps c x (takesLock c x (c .agent x .home) 5 0 0)
-  keep-take-own e f = take-on _ 5 0 0 f
+  keep-take-own e f = take-on _ 5 0 0 (home-given c i x g) f
       (λ has mine. let w = ok-at 4 e (ok-given c i x g) in ok5 refl (record { loose = w .loose; placed = w .placed }) mine)
       (λ q h. absurd (holds-four e h)) (own (omega arith) (omega arith) refl)
       (travel 5 0 0 (omega arith) (omega arith) (omega arith) (omega arith)) (λ z. omega arith)
@@ -260,7 +267,7 @@ module _ (c : State) (i : Sound c) (x : ℕ) (g : c .given x ≡ true) where
   -- stage 5 with the destination's lock free
   pub keep-take-destination : c .agent x .stage ≡ 5 → c .lock (parentIn (c .land) (c .agent x .home)) ≡ none
       → Keeps c x (takesLock c x (parentIn (c .land) (c .agent x .home)) 6 0 0)
-  keep-take-destination e f = take-on _ 6 0 0 f
+  keep-take-destination e f = take-on _ 6 0 0 (i .places .parent-used _) f
       (λ has mine. let w = ok-at 5 e (ok-given c i x g) in ok6 refl (record { loose = w .0 .loose; placed = w .0 .placed }) (has _ (w .1)) mine)
       (λ q h. own (omega arith) (omega arith) (holds-five e h)) (destination refl refl)
       (travel 6 0 0 (omega arith) (omega arith) (omega arith) (omega arith)) (λ z. omega arith)

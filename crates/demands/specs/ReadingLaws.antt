@@ -89,31 +89,34 @@ module _ (l : Land) (h : ℕ) where
 module _ (l : Land) (p t : ℕ) where
   -- what does not tell where a place stands is read as before, but for t
   gone : {A : Type 0} (read : ℕ → Bool → Place → A) → ((q : ℕ) (u : Bool) (x : Place) → read q u (withParent x p) ≡ read q u x)
+      → ((q : ℕ) (x y : Place) → read q false x ≡ read q false y)
       → (λ q. read q (dissolveLand l p t .used q) (dissolveLand l p t .place q)) ≡ upd (λ q. read q (l .used q) (l .place q)) t (read t false noPlace)
   unfolding upd
-  gone read blind = fun-ext λ q. go q (told (eqb q t)) (told (eqb (l .place q .parent) t))
+  gone read blind unread = fun-ext λ q. go q (told (eqb q t)) (told (l .used q)) (told (eqb (l .place q .parent) t))
     where
-      go : (q : ℕ) → Told (eqb q t) → Told (eqb (l .place q .parent) t)
+      go : (q : ℕ) → Told (eqb q t) → Told (l .used q) → Told (eqb (l .place q .parent) t)
           → read q (dissolveLand l p t .used q) (dissolveLand l p t .place q) ≡ upd (λ r. read r (l .used r) (l .place r)) t (read t false noPlace) q
-      go q (yea e) _ = rw (e, upd) (ap (λ (r : ℕ). read r false noPlace) (eqb-true q t e))
-      go q (nay e) (yea f) = rw (e, f, upd) (blind q (l .used q) (l .place q))
-      go q (nay e) (nay f) = rw (e, f, upd)
+      go q (yea e) (yea u) _ = rw (e, u, upd) (ap (λ (r : ℕ). read r false noPlace) (eqb-true q t e))
+      go q (yea e) (nay u) _ = rw (e, u, upd) (unread q (l .place q) noPlace ∙ ap (λ (r : ℕ). read r false noPlace) (eqb-true q t e))
+      go q (nay e) (yea u) (yea f) = rw (e, u, f, upd) (blind q true (l .place q))
+      go q (nay e) (yea u) (nay f) = rw (e, u, f, upd)
+      go q (nay e) (nay u) _ = rw (e, u, upd)
 
   pub used-dissolved : dissolveLand l p t .used ≡ upd (l .used) t false
-  used-dissolved = gone readUsed (λ q u x. refl)
+  used-dissolved = gone readUsed (λ q u x. refl) (λ q x y. refl)
 
   pub linked-dissolved : linked (dissolveLand l p t) ≡ upd (linked l) t false
   unfolding linked
-  linked-dissolved = gone readLinked (λ q u x. refl)
+  linked-dissolved = gone readLinked (λ q u x. refl) (λ q x y. refl)
 
   pub name-dissolved : nameIn (dissolveLand l p t) ≡ upd (nameIn l) t 0
   unfolding nameIn
-  name-dissolved = gone readName (λ q u x. refl)
+  name-dissolved = gone readName (λ q u x. refl) (λ q x y. refl)
 
   -- a linked place that is dissolved did not travel
   pub travels-dissolved : linked l t ≡ true → travels (dissolveLand l p t) ≡ travels l
   unfolding travels linked
-  travels-dissolved k = gone readTravels (λ q u x. refl)
+  travels-dissolved k = gone readTravels (λ q u x. refl) (λ q x y. refl)
       ∙ upd-self (travels l) t false (sym (rw (and-right (l .used t) (eqb (l .place t .way) 0) k) (and-no (l .used t) (not (eqb t 0)))))
 
   -- what stood in t stands in p

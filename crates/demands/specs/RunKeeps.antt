@@ -7,7 +7,7 @@ use Prim.Native.Nat.{ℕ}
 use Rattle.table.specs.BaseLaws.{Told, yea, nay, told}
 use Rattle.table.specs.Cell.{State, cellOf, tableOf}
 use Rattle.table.specs.Bounds.{Sized}
-use Rattle.table.specs.CellLaws.{bounded, sized-table}
+use Rattle.table.specs.CellLaws.{sized-table}
 use Rattle.table.specs.Sound.{sound}
 use Rattle.table.specs.declared.Cell.{Cell}
 use Rattle.meaning.specs.declared.Answer.{Answer}
@@ -15,14 +15,11 @@ use Rattle.meaning.specs.declared.Stepped.{Stepped}
 use Rattle.meaning.specs.Step.{step}
 use Rattle.meaning.specs.Run.{Call, made, turnedAway, stepOf, run, answers}
 use Rattle.meaning.specs.Calculus.{Tree}
-use Rattle.meaning.specs.Plain.{Plain, treeOf, plainStep, plainRun, saysMove, History, start, moved, stayed}
-use Rattle.demands.specs.Reading.{agentIn}
+use Rattle.meaning.specs.Plain.{Plain, plainStep, plainRun, saysMove, History, start, moved, stayed}
 use Rattle.demands.specs.Invariant.{Inv}
 use Rattle.demands.specs.StepWays.{step-way}
 use Rattle.demands.specs.SoundTest.{sound-true}
-use Rattle.demands.specs.Always.{step-keeps, step-inv}
-use Rattle.demands.specs.Within.{Within, bounded-within}
-use Rattle.demands.specs.ReadBack.{read-back, inv-back}
+use Rattle.demands.specs.Always.{step-inv, step-back}
 use Rattle.demands.specs.SamePlain.{Same}
 use Rattle.demands.specs.MovesMade.{MovedOrSame, unmoved, way-follows}
 
@@ -54,10 +51,9 @@ first-call t p k calls r e = subst
         → Beside (stepOf t (k .agent) (k .wish) .cell) (plainStep p k (stepOf t (k .agent) (k .wish) .answer)) calls → Beside t p (k ∷ calls)
     whole m d = unfold run answers plainRun in record { same = d .same; history = more m (d .history) }
 
--- the cell read back from its table has the same plain tree beside it: only locks past the last place differ
-same-back : (c : State) → Within c → (p : Plain) → Same c p → Same (cellOf (tableOf c)) p
-unfolding treeOf agentIn
-same-back c n p m = subst (λ d. Same d p) (sym (read-back c n)) (record { tree = m .tree; travels = m .travels; pick = m .pick })
+-- an equal cell has the same plain tree beside it
+same-cell : {c d : State} {p : Plain} → c ≡ d → Same c p → Same d p
+same-cell {p = p} e = subst (λ s. Same s p) e
 
 module _ (t : Cell) (i : Inv (cellOf t)) (x wish : ℕ) where
   -- a step call for an agent that is given makes its step
@@ -81,8 +77,8 @@ run-keeps (k ∷ calls) t z i p m = go (told (cellOf t .given (k .agent))) (run-
     go (yea g) rest =
         let c : State = cellOf t in
         let d : State = step c (k .agent) (k .wish) .cell in
-        let n = step-keeps c (i .sound) (k .agent) g (k .wish) .within (bounded-within (bounded t z)) in
+        let b : d ≡ cellOf (tableOf d) = sym (step-back t z (i .sound) (k .agent) g (k .wish)) in
         let f = way-follows c (i .sound) (k .agent) g p m (step-way c (i .sound) (k .agent) g (k .wish)) in
         first-call t p k calls (made (step c (k .agent) (k .wish))) (call-made t i (k .agent) (k .wish) g) (f .step)
-        (rest (tableOf d) (sized-table d) (inv-back d n (step-inv c i (k .agent) g (k .wish))) _ (same-back d n _ (f .same)))
+        (rest (tableOf d) (sized-table d) (subst Inv b (step-inv c i (k .agent) g (k .wish))) _ (same-cell b (f .same)))
     go (nay g) rest = first-call t p k calls (turnedAway t 11) (call-refused t i (k .agent) (k .wish) g) unmoved (rest t z i p m)

@@ -19,7 +19,7 @@ use Rattle.demands.specs.Invariant.{Ok, ok0, ok1, ok2, ok3-move, ok3-ope
 use Rattle.demands.specs.Invariant.{Holds, near, far, own, destination, Kept, free, kept}
 use Rattle.demands.specs.Given.{stage-given}
 use Rattle.demands.specs.Actions.{kind-some, unused-none}
-use Rattle.demands.specs.Facts.{second-move, second-open}
+use Rattle.demands.specs.Facts.{link-used, second-move, second-open}
 
 -- ---- the facts of a stage
 
@@ -222,6 +222,15 @@ module _ (c : State) (i : Sound c) (x : ℕ) (g : c .given x ≡ true) where
           → Has (c .lock) (secondPlace (kindOf (c .agent x)) (c .agent x .home) (c .agent x .chosen)) x
       second (inl m) = subst (λ (r : ℕ). Has (c .lock) r x) (sym (second-move _ _ _ (m .kind))) (m .own)
       second (inr m) = subst (λ (r : ℕ). Has (c .lock) r x) (sym (second-open _ _ _ (m .kind))) (m .own)
+
+  -- the second place is in use
+  pub second-used : c .agent x .stage ≡ 3 → c .land .used (secondPlace (kindOf (c .agent x)) (c .agent x .home) (c .agent x .chosen)) ≡ true
+  second-used n = go (ok-at 3 n ok-given .2)
+    where
+      go : BothMove (c .land) (c .lock) x (c .agent x) ⊎ BothOpen (c .land) (c .lock) x (c .agent x)
+          → c .land .used (secondPlace (kindOf (c .agent x)) (c .agent x .home) (c .agent x .chosen)) ≡ true
+      go (inl m) = ap (c .land .used) (second-move _ _ _ (m .kind)) ∙ home-given
+      go (inr m) = ap (c .land .used) (second-open _ _ _ (m .kind)) ∙ link-used (c .land) _ (m .under .link)
 
   -- stage 6 its home and the destination
   pub returned-six : c .agent x .stage ≡ 6 → Returned c x (released (c .lock) (c .agent x .home) (parentIn (c .land) (c .agent x .home)))

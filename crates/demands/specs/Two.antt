@@ -11,7 +11,7 @@ use borrow.Author.Tests.{eqb-true, eqb-false}
 use Rattle.table.specs.Base.{iter}
 use Rattle.table.specs.BaseLaws.{Told, yea, nay, told, eq?, upd-same}
 use Rattle.table.specs.Bounds.{Sized}
-use Rattle.table.specs.Cell.{Land, none, linked, nextAction, kindOf, nameOf, cellOf}
+use Rattle.table.specs.Cell.{Land, State, none, linked, nextAction, kindOf, nameOf, cellOf}
 use Rattle.table.specs.Sound.{secondPlace}
 use Rattle.table.specs.declared.Agent.{Agent}
 use Rattle.table.specs.declared.Cell.{Cell}
@@ -60,8 +60,8 @@ module _ (a : ℕ) where
   from-six : (t : Cell) → Alone t a → own t .stage ≡ 6 → Reaches 1 a t (tree t)
   unfolding arrive
   from-six t p s = one-more 0 0 t _ (omega arith) p (ahead-arrive (cellOf t) a 0 s)
-      (λ v q f. subst (Reaches 0 a v) (f .tree ∙ tree-came (cellOf t) a (p .given) _)
-      (none-more 0 v q (subst (λ (b : Agent). Low (b .stage)) (sym (ap (λ (h : ℕ → Agent). h a) (f .agent) ∙ upd-same _ a _)) (rest-low (own t)))))
+      (λ v q f. subst (Reaches 0 a v) (ap treeOf f ∙ tree-came (cellOf t) a (p .given) _)
+      (none-more 0 v q (subst (λ (b : Agent). Low (b .stage)) (sym (ap (λ (z : State). z .agent a) f ∙ upd-same _ a _)) (rest-low (own t)))))
 
   from-five : (t : Cell) → Alone t a → own t .stage ≡ 5 → Reaches 2 a t (tree t)
   from-five t p s = quiet-more 1 0 t 6 0 0 _ (omega arith) p
@@ -89,15 +89,15 @@ module _ (a : ℕ) where
     leaves : kindOf (own t) ≢ 3 → move (tree t) a (targetOf (own t)) ≡ putInto (tree t) a (destinationOf (land t) (own t)) → Done
     unfolding leave
     leaves k e = one-more 3 0 t _ (omega arith) p (ahead-leave (cellOf t) a 0 s k fire)
-        (λ v q f. subst (Reaches 3 a v) (f .tree ∙ tree-left (cellOf t) a (p .given) _ (own-used t p) ∙ sym e)
-        (from-four v q (ap (λ (b : Agent). b .stage) (ap (λ (h : ℕ → Agent). h a) (f .agent) ∙ upd-same _ a _))))
+        (λ v q f. subst (Reaches 3 a v) (ap treeOf f ∙ tree-left (cellOf t) a (p .given) _ (own-used t p) ∙ sym e)
+        (from-four v q (ap (λ (b : Agent). b .stage) (ap (λ (z : State). z .agent a) f ∙ upd-same _ a _))))
 
     -- opening
     opened : kindOf (own t) ≡ 3 → Under (land t) (own t .chosen) (own t .remembered) → Done
     unfolding dissolve
     opened k u = raise (omega arith) (one-more 0 0 t _ (omega arith) p (ahead-open (cellOf t) a 0 s k fire)
-        (λ v q f. subst (Reaches 0 a v) (f .tree ∙ tree-opened (cellOf t) a (p .given) _ _ mine apart placed ∙ made)
-        (none-more 0 v q (subst (λ (b : Agent). Low (b .stage)) (sym (ap (λ (h : ℕ → Agent). h a) (f .agent) ∙ upd-same _ a _))
+        (λ v q f. subst (Reaches 0 a v) (ap treeOf f ∙ tree-opened (cellOf t) a (p .given) _ _ mine apart placed ∙ made)
+        (none-more 0 v q (subst (λ (b : Agent). Low (b .stage)) (sym (ap (λ (z : State). z .agent a) f ∙ upd-same _ a _))
         (rest-low (useUp (own t)))))))
       where
         mine : own t .remembered ≡ own t .home

@@ -3,13 +3,13 @@
 use mathlib.Core.Path.{_≡_, refl, sym, ap, _∙_, subst}
 use mathlib.Core.Logic.{_≢_, _⊎_, inl, inr}
 use mathlib.Core.List.{[], _∷_}
-use mathlib.Core.Bool.{true}
+use mathlib.Core.Bool.{Bool, true}
 use Prim.Native.Nat.{ℕ, suc, _≤_, _<_, zero-le, suc-le-suc}
 use native.Mathlib.Omega.{arith}
 use Rattle.table.specs.BaseLaws.{eq?, upd-same}
 use Rattle.table.specs.Bounds.{Sized}
 use Rattle.table.specs.Cell.{State, none, cellOf, tableOf}
-use Rattle.table.specs.CellLaws.{bounded, sized-table}
+use Rattle.table.specs.CellLaws.{sized-table}
 use Rattle.table.specs.declared.Agent.{Agent}
 use Rattle.table.specs.declared.Cell.{Cell}
 use Rattle.meaning.specs.declared.Stepped.{Stepped}
@@ -29,9 +29,7 @@ use Rattle.demands.specs.TreeOf.{tree-quiet}
 use Rattle.demands.specs.Permitted.{none-whole}
 use Rattle.demands.specs.TwoSteps.{callsOf, no-wish, one-wish, Answered, no-call, one-call, Reaches}
 use Rattle.demands.specs.TwoAlone.{Low, low-not, low-holds, low-settled, low-after}
-use Rattle.demands.specs.Within.{Within, bounded-within}
-use Rattle.demands.specs.ReadBack.{lockRow, read-back, inv-back}
-use Rattle.demands.specs.Always.{step-keeps}
+use Rattle.demands.specs.Always.{step-keeps, step-back}
 use Rattle.demands.specs.RunKeeps.{call-made}
 
 -- agent a is given, and no other agent holds a lock or is on its way
@@ -40,16 +38,6 @@ pub record Alone (t : Cell) (a : ℕ) : Type 0 where
   pub inv : Inv (cellOf t)
   pub given : cellOf t .given a ≡ true
   pub others : (y : ℕ) → y ≢ a → Low (agentIn (cellOf t) y .stage)
-
--- what the next call finds of the cell d that a step makes: all but locks
-pub record Finds (d : State) (v : Cell) : Type 0 where
-  pub land : cellOf v .land ≡ d .land
-  pub agent : cellOf v .agent ≡ d .agent
-  pub tree : treeOf (cellOf v) ≡ treeOf d
-
-finds : (d : State) (v : Cell) (lock : ℕ → ℕ) → cellOf v ≡ withLocks d lock → Finds d v
-unfolding treeOf
-finds d v lock e = record { land = ap (λ c. c .land) e; agent = ap (λ c. c .agent) e; tree = ap treeOf e }
 
 module _ {a : ℕ} where
   -- ---- calls put together
@@ -75,7 +63,7 @@ module _ {a : ℕ} where
 
   -- one call more at the front, whose step makes d
   pub one-more : (n w : ℕ) (t : Cell) (d : State) {u : Tree} → w < 256 → Alone t a → step (cellOf t) a w .cell ≡ d
-      → ((v : Cell) → Alone v a → Finds d v → Reaches n a v u) → Reaches (suc n) a t u
+      → ((v : Cell) → Alone v a → cellOf v ≡ d → Reaches n a v u) → Reaches (suc n) a t u
   unfolding callsOf run answers made agentIn
   one-more n w t d {u} l p e f = record {
     wishes = w ∷ r .wishes;
@@ -95,22 +83,19 @@ module _ {a : ℕ} where
       kept-by : Keeps (cellOf t) a o
       kept-by = step-keeps (cellOf t) (p .inv .sound) a (p .given) w
 
-      within : Within o
-      within = kept-by .within (bounded-within (bounded t (p .sized)))
-
-      back : cellOf (tableOf o) ≡ withLocks o (lockRow (o .lock))
-      back = read-back o within
+      back : cellOf (tableOf o) ≡ o
+      back = step-back t (p .sized) (p .inv .sound) a (p .given) w
 
       next : Alone (tableOf o) a
       next = record {
         sized = sized-table _;
-        inv = inv-back _ within (keeps-inv kept-by (p .inv));
-        given = ap (λ (z : State). z .given a) back ∙ kept-by .given a ∙ p .given;
+        inv = subst Inv (sym back) (keeps-inv kept-by (p .inv));
+        given = ap (λ (z : State). z .given a) back ∙ ap (λ (f : ℕ → Bool). f a) (kept-by .untouched .given) ∙ p .given;
         others = λ y m. subst (λ (z : State). Low (agentIn z y .stage)) (sym back) (low-after (kept-by .others y m) (p .others y m));
       }
 
       r : Reaches n a (tableOf o) u
-      r = f (tableOf o) next (subst (λ (z : State). Finds z (tableOf o)) e (finds _ _ _ back))
+      r = f (tableOf o) next (back ∙ e)
 
   -- a step that leaves the places alone: the agent is at another stage, the tree is the same
   pub quiet-more : (n w : ℕ) (t : Cell) (stage remembered chosen : ℕ) (locks : ℕ → ℕ) {u : Tree} → w < 256 → Alone t a
@@ -119,8 +104,8 @@ module _ {a : ℕ} where
       → treeOf (cellOf v) ≡ treeOf (cellOf t) → Reaches n a v u)
       → Reaches (suc n) a t u
   quiet-more n w t stage remembered chosen locks l p e f = one-more n w t _ l p e
-      (λ v q s. f v q (s .land) (ap (λ (h : ℕ → Agent). h a) (s .agent) ∙ upd-same (cellOf t .agent) a _)
-      (s .tree ∙ tree-quiet (cellOf t) a (p .given) locks stage remembered chosen))
+      (λ v q s. f v q (ap (λ (z : State). z .land) s) (ap (λ (z : State). z .agent a) s ∙ upd-same (cellOf t .agent) a _)
+      (ap treeOf s ∙ tree-quiet (cellOf t) a (p .given) locks stage remembered chosen))
 
   -- a bound may be raised
   pub raise : {n m : ℕ} {t : Cell} {u : Tree} → n ≤ m → Reaches n a t u → Reaches m a t u

@@ -6,6 +6,7 @@ use Rattle.sets.specs.Word.{countOf, upto, chosenOf}
 use Rattle.table.specs.Base.{upd, anyBelow}
 use Rattle.table.specs.Cell.{Land, State, none, noPlace, linked, linkedTo, travels, hasAction, kindOf, nameOf}
 use Rattle.table.specs.Sound.{secondPlace}
+use Rattle.table.specs.declared.Place.{Place}
 use Rattle.table.specs.declared.Agent.{Agent}
 use Rattle.meaning.specs.declared.Word.{Word}
 use Rattle.meaning.specs.declared.Word.the-variants.{Looked, Took, Held, Back, Slept, Left, Came, Opened, Asleep, Done}
@@ -162,10 +163,14 @@ leave c x a d = record {
   woken = wokenOn c (a .remembered) (a .home) (a .home);
 }
 
--- "children of the chosen place go to p, its number becomes unused": place t is dissolved into p
+-- "children .. of the chosen place go to p": place q, in use, which is x, once t is dissolved into p
+abbrev pub dissolvePlace : ℕ → ℕ → ℕ → Place → Place
+dissolvePlace p t q x = cond (eqb q t) noPlace (cond (eqb (x .parent) t) (withParent x p) x)
+
+-- "its number becomes unused": the places once t is dissolved into p; those that are not in use stay as they are
 abbrev pub dissolveLand : Land → ℕ → ℕ → Land
 dissolveLand l p t = withUsed
-    (withPlaces l (λ q. cond (eqb q t) noPlace (cond (eqb (l .place q .parent) t) (withParent (l .place q) p) (l .place q))))
+    (withPlaces l (λ q. cond (l .used q) (dissolvePlace p t q (l .place q)) (l .place q)))
     (λ q. not (eqb q t) && l .used q)
 
 -- "agents of the chosen place go to p, the moved agents that aren't done go to stage 0"; "wake all asleep on p or on it, and set to
@@ -180,10 +185,13 @@ dissolveAgent p t a =
 unfoldable pub wokenBy : ℕ → ℕ → Agent → Bool
 wokenBy p t a = eqb (a .stage) 7 && (eqb (a .home) t || (eqb (a .remembered) p || eqb (a .remembered) t))
 
--- "a lock that one of them held at stage 2 being released"
+-- "a lock that one of them held at stage 2": agent y is given, lives in t and is at stage 2
+abbrev pub letsGo : State → ℕ → ℕ → Bool
+letsGo c t y = c .given y && (eqb (c .agent y .home) t && eqb (c .agent y .stage) 2)
+
+-- "being released": the lock of q once t is dissolved; that of a number that is not in use stays as it is
 unfoldable pub dissolveLock : State → ℕ → ℕ → ℕ
-dissolveLock c t q =
-    cond (ltb (c .lock q) 64 && (eqb (c .agent (c .lock q) .home) t && eqb (c .agent (c .lock q) .stage) 2)) none (c .lock q)
+dissolveLock c t q = cond (c .land .used q && letsGo c t (c .lock q)) none (c .lock q)
 
 -- "Open: children and agents of the chosen place go to p, .. the action is used up; release both; opened."
 unfoldable pub dissolve : State → ℕ → Agent → ℕ → ℕ → Outcome

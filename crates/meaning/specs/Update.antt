@@ -1,9 +1,9 @@
--- One field of a place, an agent or a cell written anew: the only definitions that write such a record out.
+-- One field of a place, an agent or a cell written anew: by these, and by the empty values of table, the load and the step change a cell.
 use Prim.Native.Nat.{ℕ, _+_}
-use mathlib.Core.Bool.{Bool}
+use mathlib.Core.Bool.{Bool, cond}
 use mathlib.Core.List.{List}
 use Rattle.table.specs.Base.{upd}
-use Rattle.table.specs.Cell.{Land, State, none}
+use Rattle.table.specs.Cell.{Land, State, none, hasAction}
 use Rattle.table.specs.declared.Place.{Place}
 use Rattle.table.specs.declared.Action.{Action}
 use Rattle.table.specs.declared.Agent.{Agent}
@@ -48,9 +48,9 @@ withActions a s = record { home = a .home; stage = a .stage; remembered = a .rem
 abbrev pub atStage : Agent → ℕ → ℕ → ℕ → Agent
 atStage a stage remembered chosen = withChosen (withRemembered (withStage a stage) remembered) chosen
 
--- "the action is used up"
+-- "the action is used up": where none is left there is nothing to use up
 abbrev pub useUp : Agent → Agent
-useUp a = withNext a (a .next + 1)
+useUp a = withNext a (cond (hasAction a) (a .next + 1) (a .next))
 
 -- ---- a cell
 

@@ -1,3 +1,4 @@
 pub mod Motions
+pub mod StoreLaws
 pub mod WakeLaws
 pub mod OpenLaws

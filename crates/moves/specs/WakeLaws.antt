@@ -12,7 +12,6 @@ use Rattle.sets.specs.SetLaws.{emptySet, member-set}
 use Rattle.sets.specs.WalkLaws.{rest-end, rest-lt, rest-member, rest-from, rest-skip, lowestIn}
 use Rattle.sets.specs.declared.Set.{Set}
 use Rattle.table.specs.Base.{tab, upd}
-use Rattle.table.specs.BaseLaws.{set-tab}
 use Rattle.table.specs.SweepLaws.{below, sweep-start, sweep-at, sweep-hit, sweep-miss, sweep-skip, sweep-end}
 use Rattle.table.specs.Cell.{noPlace, noAgent, cellOf}
 use Rattle.table.specs.Bounds.{Sized}
@@ -107,20 +106,20 @@ module _ (t : Cell) (p q r : ℕ) where
 
   -- the table and the answer once the walk is over
   module _ (z : Sized t) {d : Cell} {found rest : Set} (a : Waking d found rest) (e : rest .bits ≡ 0) where
-    all : d .agents ≡ tab woken 64 0
-    all = sweep-end noAgent was woken (d .agents) 64 refl
+    pub waking-all : d .agents ≡ tab woken 64 0
+    waking-all = sweep-end noAgent was woken (d .agents) 64 refl
         (sweep-skip noAgent was woken (d .agents) (a .walk .i) 64 (a .walk .left .end) (λ j h l. skipped j (rest-end (a .walk .left) e j h l)) (a .agents))
 
-    pub waking-end : (x h : ℕ) (y : Place) (b : Agent) (w : Word) (n : ℕ) (ps : List Place) (ls : List ℕ) → x < 64
-        → ps ≡ tab (upd (λ j. getD (d .places) j noPlace) h y) 64 0 → ls ≡ tab (released (λ j. getD (d .locks) j 0) p q) 64 0 → n ≡ countOf 64 (member found)
-        → record { cell = record { places = ps; locks = ls; agents = set (d .agents) x b; used = d .used; given = d .given }; answer = Did w n }
+    pub waking-end : (x h : ℕ) (y : Place) (b : Agent) (w : Word) (n : ℕ) (ps : List Place) (ls : List ℕ) (es : List Agent)
+        → es ≡ tab (upd woken x b) 64 0 → ps ≡ tab (upd (λ j. getD (d .places) j noPlace) h y) 64 0 → ls ≡ tab (released (λ j. getD (d .locks) j 0) p q) 64 0 → n ≡ countOf 64 (member found)
+        → record { cell = record { places = ps; locks = ls; agents = es; used = d .used; given = d .given }; answer = Did w n }
         ≡ made (movePlace (cellOf t) x h y p q r b w)
     unfolding cellOf movePlace wake
-    waking-end x h y b w n ps ls l f g m = did _ w n (movePlace (cellOf t) x h y p q r b w)
+    waking-end x h y b w n ps ls es k f g m = did _ w n (movePlace (cellOf t) x h y p q r b w)
         (cells.made _ _
         (f ∙ ap (λ (s : List Place). tab (upd (λ j. getD s j noPlace) h y) 64 0) (a .places))
         (g ∙ ap (λ (s : List ℕ). tab (released (λ j. getD s j 0) p q) 64 0) (a .locks))
-        (ap (λ (s : List Agent). set s x b) all ∙ set-tab noAgent woken 64 x b l)
+        k
         (ap (λ (s : Set). s .bits) (a .used) ∙ used-are t z)
         (ap (λ (s : Set). s .bits) (a .given) ∙ given-are t z))
         refl

@@ -13,20 +13,18 @@ use updates::at_stage;
 use updates::released;
 ghost use mathlib.Core.Path.{_≡_};
 ghost use mathlib.Core.Bool.{_&&_, cond};
-ghost use Prim.Native.Nat.{_<_};
 ghost use lib.Dec.{eqb};
 ghost use lib.ListN.{getD};
 ghost use Rattle.sets.specs.Set.{member};
 ghost use Rattle.table.specs.Base.{tab};
 ghost use Rattle.table.specs.Cell.{none, noPlace, cellOf};
 ghost use Rattle.meaning.specs.Update.{withHome};
-ghost use Rattle.meaning.specs.Step.{dissolveAgent, wokenBy};
+ghost use Rattle.meaning.specs.Step.{dissolvePlace, dissolveAgent, wokenBy};
 ghost use Rattle.meaning.specs.Run.{made};
-ghost use Rattle.moves.specs.Motions.{adopted};
 
-// Place q once t is dissolved into p: cleared where it is t, and a child of t goes to p.
+// Place q, in use, once t is dissolved into p: cleared where it is t, and a child of t goes to p.
 fn adopt_one(q: u8, x: Place, p: u8, t: u8) -> Place
-    ensures { λ r. ⌜ r ≡ adopted p t q x ⌝ }
+    ensures { λ r. ⌜ r ≡ dissolvePlace p t q x ⌝ }
 {
     if q == t {
         return table::no_place();
@@ -38,18 +36,19 @@ fn adopt_one(q: u8, x: Place, p: u8, t: u8) -> Place
     y
 }
 
-// The places once t is dissolved into p.
-fn adopt(ps: [Place; 64], p: u8, t: u8) -> [Place; 64]
-    ensures { λ r. ⌜ r ≡ tab (λ q. adopted p t q (getD ps q noPlace)) 64 0 ⌝ }
+// The places once t is dissolved into p; only those in use change.
+fn adopt(ps: [Place; 64], used: Set, p: u8, t: u8) -> [Place; 64]
+    ensures { λ r. ⌜ r ≡ tab (λ q. cond (member used q) (dissolvePlace p t q (getD ps q noPlace)) (getD ps q noPlace)) 64 0 ⌝ }
 {
     let mut qs = ps;
-    let mut q: u8 = 0;
-    while q < 64 {
+    let mut rest = used;
+    while rest.bits != 0 {
+        let q = rest.first();
+        rest = rest.rest();
         let k = q as usize;
-        let x = ps[k];
+        let x = qs[k];
         let y = adopt_one(q, x, p, t);
         qs[k] = y;
-        q += 1;
     }
     qs
 }
@@ -61,17 +60,19 @@ fn free_one(l: u8, s: Set) -> u8
     if s.has(l) { 64 } else { l }
 }
 
-// The locks once those of the agents in s are released.
-fn free_held(ls: [u8; 64], s: Set) -> [u8; 64]
-    ensures { λ r. ⌜ r ≡ tab (λ q. cond (member s (getD ls q 0)) none (getD ls q 0)) 64 0 ⌝ }
+// The locks once those of the agents in s are released; only those of places in use change.
+fn free_held(ls: [u8; 64], used: Set, s: Set) -> [u8; 64]
+    ensures { λ r. ⌜ r ≡ tab (λ q. cond (member used q) (cond (member s (getD ls q 0)) none (getD ls q 0)) (getD ls q 0)) 64 0 ⌝ }
 {
     let mut ms = ls;
-    let mut q: usize = 0;
-    while q < 64 {
-        let l = ls[q];
+    let mut rest = used;
+    while rest.bits != 0 {
+        let q = rest.first();
+        rest = rest.rest();
+        let k = q as usize;
+        let l = ms[k];
         let n = free_one(l, s);
-        ms[q] = n;
-        q += 1;
+        ms[k] = n;
     }
     ms
 }
@@ -121,27 +122,18 @@ fn dissolve_agent(a: Agent, p: u8, t: u8) -> Agent
     a
 }
 
-// An agent, given or not, once t is dissolved into p.
-fn after_opening(given: bool, a: Agent, p: u8, t: u8) -> Agent
-    ensures { λ r. ⌜ r ≡ cond given (dissolveAgent p t a) a ⌝ }
+// Whether an agent that is given is woken when t is dissolved into p.
+fn woken_by(a: Agent, p: u8, t: u8) -> bool
+    ensures { λ r. ⌜ r ≡ wokenBy p t a ⌝ }
 {
-    if given { dissolve_agent(a, p, t) } else { a }
-}
-
-// Whether an agent, given or not, is woken when t is dissolved into p.
-fn woken_by(given: bool, a: Agent, p: u8, t: u8) -> bool
-    ensures { λ r. ⌜ r ≡ (given && wokenBy p t a) ⌝ }
-{
-    if given {
-        if a.stage == 7 {
-            if a.home == t {
-                return true;
-            }
-            if a.remembered == p {
-                return true;
-            }
-            return a.remembered == t;
+    if a.stage == 7 {
+        if a.home == t {
+            return true;
         }
+        if a.remembered == p {
+            return true;
+        }
+        return a.remembered == t;
     }
     false
 }
@@ -155,33 +147,30 @@ fn lets_go(a: Agent, t: u8) -> bool
 
 // Stage 3 of open: place t is dissolved into p.
 pub(super) fn dissolve(c: Cell, x: u8, a: Agent, p: u8, t: u8) -> Stepped
-    requires { ⌜ x < 64 ⌝ }
-    requires { ⌜ a .next < 255 ⌝ }
     ensures { λ r. ⌜ r ≡ made (Rattle.meaning.specs.Step.dissolve (cellOf c) x a p t) ⌝ }
 {
-    let given = c.given;
     let used = c.used;
     let ps = c.places;
     let ls = c.locks;
     let mut d = c;
     let mut holders = Set::EMPTY;
     let mut sleepers = Set::EMPTY;
-    let mut j: u8 = 0;
-    while j < 64 {
+    let mut rest = d.given;
+    while rest.bits != 0 {
+        let j = rest.first();
+        rest = rest.rest();
         let k = j as usize;
         let e = d.agents[k];
-        let g = given.has(j);
-        let woken = woken_by(g, e, p, t);
+        let woken = woken_by(e, p, t);
         sleepers = sleepers.insert_if(j, woken);
         let held = lets_go(e, t);
         holders = holders.insert_if(j, held);
-        let f = after_opening(g, e, p, t);
+        let f = dissolve_agent(e, p, t);
         d.agents[k] = f;
-        j += 1;
     }
-    let qs = adopt(ps, p, t);
+    let qs = adopt(ps, used, p, t);
     d.places = qs;
-    let ms = free_held(ls, holders);
+    let ms = free_held(ls, used, holders);
     let ns = released(ms, p, t);
     d.locks = ns;
     let us = used.remove(t);
@@ -189,9 +178,11 @@ pub(super) fn dissolve(c: Cell, x: u8, a: Agent, p: u8, t: u8) -> Stepped
     let u = use_up(a);
     let s = rest_stage(u.next, u.count);
     let b = at_stage(u, s, 0, 0);
-    let i = x as usize;
-    d.agents[i] = b;
     let n = sleepers.count() as u8;
+    if x < 64 {
+        let i = x as usize;
+        d.agents[i] = b;
+    }
     Stepped {
         cell: d,
         answer: Answer::Did(Word::Opened, n),

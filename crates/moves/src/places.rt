@@ -11,7 +11,6 @@ use updates::linked;
 use updates::released;
 ghost use mathlib.Core.Path.{_≡_};
 ghost use mathlib.Core.Bool.{_&&_, cond};
-ghost use Prim.Native.Nat.{_<_};
 ghost use lib.Dec.{eqb, ltb};
 ghost use Rattle.table.specs.Cell.{cellOf};
 ghost use Rattle.meaning.specs.Update.{useUp, withParent, withWay};
@@ -19,13 +18,14 @@ ghost use Rattle.meaning.specs.Step.{asleepOn};
 ghost use Rattle.meaning.specs.Run.{made};
 ghost use Rattle.moves.specs.Motions.{movePlace};
 
-// The agent once its next action is used up.
+// The agent once its next action, if one is left, is used up.
 pub(super) fn use_up(a: Agent) -> Agent
-    requires { ⌜ a .next < 255 ⌝ }
     ensures { λ r. ⌜ r ≡ useUp a ⌝ }
 {
     let mut b = a;
-    b.next = a.next + 1;
+    if a.next < a.count {
+        b.next = a.next + 1;
+    }
     b
 }
 
@@ -71,9 +71,8 @@ pub(super) fn asleep_on(a: Agent, p: u8, q: u8, r: u8) -> bool
     false
 }
 
-// Place h becomes y, the locks of p and q are released, all asleep on p, q or r are woken, agent x becomes b.
+// Place h becomes y, the locks of p and q are released, all asleep on p, q or r are woken, agent x, if there is such a number, becomes b.
 fn move_place(c: Cell, x: u8, h: u8, y: Place, p: u8, q: u8, r: u8, b: Agent, w: Word) -> Stepped
-    requires { ⌜ x < 64 ⌝ }
     ensures { λ z. ⌜ z ≡ made (movePlace (cellOf c) x h y p q r b w) ⌝ }
 {
     let mut d = c;
@@ -96,9 +95,11 @@ fn move_place(c: Cell, x: u8, h: u8, y: Place, p: u8, q: u8, r: u8, b: Agent, w:
     let ls = d.locks;
     let ms = released(ls, p, q);
     d.locks = ms;
-    let k = x as usize;
-    d.agents[k] = b;
     let n = sleepers.count() as u8;
+    if x < 64 {
+        let k = x as usize;
+        d.agents[k] = b;
+    }
     Stepped {
         cell: d,
         answer: Answer::Did(w, n),
@@ -107,8 +108,6 @@ fn move_place(c: Cell, x: u8, h: u8, y: Place, p: u8, q: u8, r: u8, b: Agent, w:
 
 // Stage 3 of enter and exit: its place goes on its way to d.
 pub(super) fn leave(c: Cell, x: u8, a: Agent, d: u8) -> Stepped
-    requires { ⌜ x < 64 ⌝ }
-    requires { ⌜ a .next < 255 ⌝ }
     ensures { λ r. ⌜ r ≡ made (Rattle.meaning.specs.Step.leave (cellOf c) x a d) ⌝ }
 {
     let ps = c.places;
@@ -128,7 +127,6 @@ fn beyond(known: bool, x: Place, d: u8) -> u8
 
 // Stage 6: its place is linked to d.
 pub(super) fn arrive(c: Cell, x: u8, a: Agent, d: u8) -> Stepped
-    requires { ⌜ x < 64 ⌝ }
     ensures { λ r. ⌜ r ≡ made (Rattle.meaning.specs.Step.arrive (cellOf c) x a d) ⌝ }
 {
     let ps = c.places;

@@ -5,5 +5,4 @@ pub mod PassLaws
 pub mod LeadLaws
 pub mod LandLaws
 pub mod SoundLaws
-pub mod SoundUse
 pub mod Seen

@@ -1,6 +1,6 @@
 -- What is decided of what is seen of a table, carried out, is the step call. Assumes nothing.
 -- Idea: a field that is not changed is the table of its own elements, and a changed one has one value stored.
-use mathlib.Core.Path.{_≡_, refl, sym, ap, ap₂, _∙_, subst}
+use mathlib.Core.Path.{_≡_, refl, sym, ap, ap₂, _∙_}
 use mathlib.Core.Bool.{true}
 use mathlib.Core.List.{List}
 use Prim.Native.Nat.{ℕ, _%_, _<_}
@@ -8,7 +8,7 @@ use native.Mathlib.Omega.{arith}
 use lib.Dec.{eqb}
 use lib.ListN.{getD, set}
 use lib.Seq.{set-getD}
-use borrow.Author.Tests.{eq-eqb, ne-eqb, eqb-true, eqb-false, lt-ltb}
+use borrow.Author.Tests.{eq-eqb, ne-eqb, eqb-true, eqb-false}
 use Rattle.sets.specs.Set.{member}
 use Rattle.table.specs.Base.{tab, upd}
 use Rattle.table.specs.BaseLaws.{Told, yea, nay, told}
@@ -26,15 +26,12 @@ use Rattle.meaning.specs.Update.{atStage, released}
 use Rattle.meaning.specs.Step.{still, turn, take, release, stepAt, step}
 use Rattle.meaning.specs.Run.{made, turnedAway, stepOf}
 use Rattle.soundness.specs.Seen.{seenOf}
-use Rattle.soundness.specs.SoundUse.{next-small}
 use Rattle.updates.specs.UpdateLaws.{did}
-use Rattle.moves.specs.Motions.{shifted, moved}
-use Rattle.moves.specs.declared.Motion.{Motion}
 use Rattle.stages.specs.Changes.{landOf, carried, changeAt}
 use Rattle.stages.specs.ChangeLaws.{step-carried}
 use Rattle.stages.specs.declared.Change.{Change}
 use Rattle.stages.specs.declared.Change.the-variants.{Still, Turn, Take, Release, Move}
-use Rattle.step.specs.Decided.{staying, going, settling, decided, settled, carriedOut}
+use Rattle.step.specs.Decided.{staying, settling, decided, settled, carriedOut}
 
 -- ---- the agent's row
 
@@ -81,25 +78,21 @@ module _ (t : Cell) (z : Sized t) (x : ℕ) (l : x < 64) (ls : List ℕ) (e : ls
     carry-release p q w ms f = did _ w 0 (release (cellOf t) x p q b w)
         (cells.made _ _ (places-are t z) (f ∙ ap (λ (ns : List ℕ). tab (released (λ j. getD ns j 0) p q) 64 0) e) stored (used-are t z) (given-are t z)) refl refl
 
--- a place moves
-pub carry-move : (t : Cell) (x : ℕ) (a : Agent) (m : Motion) (ls : List ℕ) → x < 64 → a .next < 255 → carriedOut t x (going m a ls) ≡ made (shifted (cellOf t) x a m)
-unfolding carriedOut moved
-carry-move t x a m ls l n = rw (lt-ltb x 64 l, lt-ltb (a .next) 255 n)
-
 -- ---- the call
 
 -- what a change makes of the agent and the locks of a table, carried out, is what it makes of the cell
-pub settles : (k : Change) (t : Cell) → Sized t → (x : ℕ) → x < 64 → (a : Agent) → a .next < 255 → a ≡ getD (t .agents) x noAgent
+pub settles : (k : Change) (t : Cell) → Sized t → (x : ℕ) → x < 64 → (a : Agent) → a ≡ getD (t .agents) x noAgent
     → carriedOut t x (settling k x a (t .locks)) ≡ made (carried (cellOf t) x a k)
-settles (Still w) t z x l a n f = carry-still t z x l (t .locks) refl a w f
-settles (Turn stage remembered w) t z x l a n f = carry-turn t z x l (t .locks) refl (atStage a stage remembered 0) w
-settles (Take q stage remembered chosen) t z x l a n f = go (told (eqb (getD (t .locks) q 0) none))
+unfolding carriedOut
+settles (Still w) t z x l a f = carry-still t z x l (t .locks) refl a w f
+settles (Turn stage remembered w) t z x l a f = carry-turn t z x l (t .locks) refl (atStage a stage remembered 0) w
+settles (Take q stage remembered chosen) t z x l a f = go (told (eqb (getD (t .locks) q 0) none))
   where
     go : Told (eqb (getD (t .locks) q 0) none) → carriedOut t x (settling (Take q stage remembered chosen) x a (t .locks)) ≡ made (carried (cellOf t) x a (Take q stage remembered chosen))
     go (yea e) = rw e (carry-took t z x l (t .locks) refl (atStage a stage remembered chosen) q _ (eqb-true (getD (t .locks) q 0) none e) refl)
     go (nay e) = rw e (carry-held t z x l (t .locks) refl a q (atStage a stage remembered chosen) f (eqb-false (getD (t .locks) q 0) none e))
-settles (Release p q stage remembered w) t z x l a n f = carry-release t z x l (t .locks) refl (atStage a stage remembered 0) p q w _ refl
-settles (Move m) t z x l a n f = carry-move t x a m (t .locks) l n
+settles (Release p q stage remembered w) t z x l a f = carry-release t z x l (t .locks) refl (atStage a stage remembered 0) p q w _ refl
+settles (Move m) t z x l a f = refl
 
 module _ (t : Cell) (z : Sized t) (x wish : ℕ) where
   -- the agent that the call sees, and the change of its stage
@@ -120,7 +113,7 @@ module _ (t : Cell) (z : Sized t) (x wish : ℕ) where
   stepped s g =
       let low : x < 64 = is-given t z x g in
       let read : a ≡ getD (t .agents) x noAgent = ap (λ (i : ℕ). getD (t .agents) i noAgent) (index x low) in
-      settles change t z x low a (subst (λ (b : Agent). b .next < 255) (sym read) (let n = next-small t z s x g in omega arith)) read
+      settles change t z x low a read
       ∙ ap made (step-carried (cellOf t) x a (a .stage) wish ∙ ap (λ (b : Agent). stepAt (b .stage) (cellOf t) x b wish) read)
 
   -- what is decided of what is seen of a table, carried out, is the step call

@@ -6,18 +6,20 @@ use lib.Dec.{eqb}
 use lib.ListN.{getD, set}
 use Rattle.sets.specs.Set.{member}
 use Rattle.table.specs.Base.{tab, upd}
-use Rattle.table.specs.Cell.{none}
+use Rattle.table.specs.Cell.{none, cellOf}
 use Rattle.table.specs.declared.Agent.{Agent}
 use Rattle.table.specs.declared.Cell.{Cell}
 use Rattle.soundness.specs.declared.sound.Seen.{Seen}
-use Rattle.meaning.specs.declared.Word.the-variants.{Took, Held}
+use Rattle.meaning.specs.declared.Word.{Word}
+use Rattle.meaning.specs.declared.Word.the-variants.{Took, Held, Left, Came, Opened}
 use Rattle.meaning.specs.declared.Answer.{Answer}
 use Rattle.meaning.specs.declared.Answer.the-variants.{Did, Refused}
 use Rattle.meaning.specs.declared.Stepped.{Stepped}
 use Rattle.meaning.specs.Update.{atStage, released}
-use Rattle.moves.specs.Motions.{moved}
+use Rattle.meaning.specs.Run.{made}
+use Rattle.moves.specs.Motions.{shifted}
 use Rattle.moves.specs.declared.Motion.{Motion}
-use Rattle.moves.specs.declared.Motion.the-variants.{Dissolve}
+use Rattle.moves.specs.declared.Motion.the-variants.{Leave, Arrive, Dissolve}
 use Rattle.stages.specs.Changes.{landOf, changeAt}
 use Rattle.stages.specs.declared.Change.{Change}
 use Rattle.stages.specs.declared.Change.the-variants.{Still, Turn, Take, Release, Move}
@@ -29,9 +31,15 @@ use Rattle.step.specs.declared.Decision.{Decision}
 abbrev pub staying : Agent → List ℕ → Answer → Decision
 staying a ls answer = record { moves = false; motion = Dissolve; agent = a; locks = ls; answer = answer }
 
--- a place moves, and the agent and the locks are as they were
+-- the word that a motion answers
+abbrev pub motionWord : Motion → Word
+motionWord (Leave d) = Left
+motionWord (Arrive d) = Came
+motionWord Dissolve = Opened
+
+-- a place moves, and the agent and the locks are as they were; how many agents it wakes is known when it is carried out
 abbrev pub going : Motion → Agent → List ℕ → Decision
-going m a ls = record { moves = true; motion = m; agent = a; locks = ls; answer = Refused 11 }
+going m a ls = record { moves = true; motion = m; agent = a; locks = ls; answer = Did (motionWord m) 0 }
 
 -- what a change of agent x makes of the agent, which is a, and of the locks
 abbrev pub settling : Change → ℕ → Agent → List ℕ → Decision
@@ -60,4 +68,4 @@ settled t x a ls = record { places = t .places; locks = ls; agents = set (t .age
 
 -- what a decision for agent x makes of a table
 unfoldable pub carriedOut : Cell → ℕ → Decision → Stepped
-carriedOut t x d = cond (d .moves) (moved t x (d .agent) (d .motion)) (record { cell = settled t x (d .agent) (d .locks); answer = d .answer })
+carriedOut t x d = cond (d .moves) (made (shifted (cellOf t) x (d .agent) (d .motion))) (record { cell = settled t x (d .agent) (d .locks); answer = d .answer })

@@ -24,6 +24,14 @@ member-upto f j = go (told (ltb j 64))
     go (yea t) = member-set f j (ltb-true j 64 t) ∙ sym (rw t)
     go (nay t) = has-past 64 (setOf f .bits) j (word-lt 64 f) (ltb-false j 64 t) ∙ sym (rw t)
 
+-- a set of those members of another that pass a test has just these, past 63 too
+pub member-among : (s : Set) → s .bits < 2 ^ 64 → (h : ℕ → Bool) (j : ℕ) → member (setOf (λ q. member s q && h q)) j ≡ (member s j && h j)
+member-among s l h j = member-upto (λ q. member s q && h q) j ∙ go (told (ltb j 64))
+  where
+    go : Told (ltb j 64) → upto 64 (λ q. member s q && h q) j ≡ (member s j && h j)
+    go (yea t) = rw t
+    go (nay t) = rw (t, has-past 64 (s .bits) j l (ltb-false j 64 t))
+
 -- ---- gathering
 
 -- what holds before each turn: those below some number that are members of g and pass h are found

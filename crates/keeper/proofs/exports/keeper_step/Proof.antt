@@ -9,16 +9,17 @@ use mir.Syntax.{tyInt}
 use types.Kit.{use0}
 use denote.Builtin.{usize}
 use types.Run.{bin, returns-within}
+use Rattle.table.specs.Cell.{cellOf}
 use Rattle.table.specs.declared.Cell.{Cell}
 use Rattle.meaning.specs.declared.Stepped.{Stepped}
-use Rattle.meaning.specs.Run.{stepOf}
+use Rattle.meaning.specs.Run.{made, stepOf}
 use Rattle.meaning.specs.Codes.{stepNumber}
 use Rattle.meaning.proofs.Stepped as Stepped′
 use Rattle.meaning.proofs.Answer as Answer
 use Rattle.meaning.proofs.Answer.Laws as answer
 use Rattle.soundness.specs.declared.sound.Seen.{Seen}
 use Rattle.step.specs.declared.Decision.{Decision}
-use Rattle.moves.specs.Motions.{moved}
+use Rattle.moves.specs.Motions.{shifted}
 use Rattle.soundness.specs.Seen.{seenOf}
 use Rattle.step.specs.Decided.{decided, carriedOut}
 use Rattle.step.specs.CarryLaws.{decided-step}
@@ -72,7 +73,7 @@ is-false false h = refl
 -- what is carried out of a decision that moves nothing
 unmoved : (c : Cell) (x : ℕ) (d : Decision) → d .moves ≡ false → carriedOut c x d ≡ record { cell = placed c (x % 64) (d .agent) (d .locks); answer = d .answer }
 unfolding carriedOut
-unmoved c x d e = ap (λ (y : Bool). cond y (moved c x (d .agent) (d .motion)) (record { cell = placed c (x % 64) (d .agent) (d .locks); answer = d .answer })) e
+unmoved c x d e = ap (λ (y : Bool). cond y (made (shifted (cellOf c) x (d .agent) (d .motion))) (record { cell = placed c (x % 64) (d .agent) (d .locks); answer = d .answer })) e
 
 module _ {M : Type 1} (𝓤 : URA M) (H : Heap 𝓤) (A : Atoms 𝓤) (W : Given 𝓤 H A) (at-mem : Memory → SProp 𝓤) (run : Routine → Fun 𝓤) where
   abbrev Decide : Contract 𝓤

@@ -1,41 +1,56 @@
--- A sweep that stores every place.
-use mathlib.Core.Path.{_≡_, refl, sym}
-use Prim.Native.Nat.{_-_, _≤_}
+-- Each turn takes the lowest place that is left; what holds before it is `Storing`.
+use native.Mathlib.Nat.{pos-of-ne-zero}
+use mathlib.Core.Path.{sym, ap, _∙_, subst}
+use Prim.Native.Nat.{ℕ, _<_}
 use native.Mathlib.Omega.{arith}
 use lib.ListN.{getD}
-use Rattle.table.specs.Base.{tab}
+use borrow.Author.Needs.{needs}
+use Rattle.sets.specs.WalkLaws.{rest-lt, removed-less, lowestIn}
+use Rattle.sets.specs.declared.Set.{Set}
 use Rattle.table.specs.BaseLaws.{tab-getD}
-use Rattle.table.specs.SweepLaws.{below, sweep-start, sweep-hit, sweep-end}
 use Rattle.table.specs.Cell.{noPlace}
-use Rattle.moves.specs.Motions.{adopted}
+use Rattle.meaning.specs.Step.{dissolvePlace}
+use Rattle.moves.specs.StoreLaws.{Storing, storing-start, storing-at, storing-more, storing-end}
 use Rattle.moves.proofs.open.adopt.Statement.{statement}
 use Rattle.moves.proofs.open.adopt.Tie as tie
 
 abbrev Inv-loop : tie.InvT-loop
-Inv-loop p t ps qs₀ q₀ qs q = (q ≤ 64) × (qs ≡ tab (below noPlace (λ j. getD qs₀ j noPlace) (λ j. adopted p t j (getD ps j noPlace)) q) 64 0)
+Inv-loop p t qs₀ rest₀ qs rest = Storing noPlace rest₀ (λ q. getD qs₀ q noPlace) (λ q. dissolvePlace p t q (getD qs₀ q noPlace)) qs rest
 
 abbrev μ-loop : tie.MeasureT-loop
-μ-loop p t ps qs₀ q₀ qs q = 64 - q
+μ-loop p t qs₀ rest₀ qs rest = rest .bits
+
+-- the place of this turn is below 64
+small : (c : tie.After-rest Inv-loop μ-loop) → c .before .first .result < 64
+small c = let l = c .before .before .before .before in
+    subst (λ (n : ℕ). n < 64) (sym (c .before .first .ensures)) (rest-lt (l .loop .inv .left) (pos-of-ne-zero (c .before .before .if1 .taken)))
+
+loop-less : tie.Need-loop-less Inv-loop μ-loop
+loop-less c = let l = c .before .before .before .before .before .before in
+    subst (λ (z : Set). z .bits < l .loop .rest .bits) (sym (c .before .before .rest .ensures))
+    (removed-less (l .loop .rest) (l .loop .inv .left .small) (pos-of-ne-zero (c .before .before .before .before .if1 .taken)))
 
 loop-again : tie.Need-loop-again Inv-loop μ-loop
 loop-again c =
-    let l = c .before .before .before in
-    let a = l .before .args in (
-      omega arith,
-      rw (c .adopt-one .ensures)
-          (sweep-hit noPlace _ (λ j. adopted (a .p) (a .t) j (getD (a .t1) j noPlace)) (l .loop .qs) (l .loop .q) _ (omega arith) refl (l .loop .inv .1)),
-    )
+    let q = c .before .before .before in
+    let l = q .before .before .before in
+    let a = l .before .args in
+    let k = pos-of-ne-zero (q .before .if1 .taken) in
+    rw (c .before .before .rest .ensures, q .first .ensures)
+    (storing-more noPlace _ _ _ (l .loop .inv) k (c .adopt-one .result)
+    (c .adopt-one .ensures
+    ∙ ap (λ (i : ℕ). dissolvePlace (a .p) (a .t) i (getD (l .loop .qs) i noPlace)) (q .first .ensures)
+    ∙ ap (dissolvePlace (a .p) (a .t) (lowestIn (l .loop .rest))) (storing-at noPlace _ _ _ (l .loop .inv) k)))
 
 returns : tie.Need-returns Inv-loop μ-loop
-returns c =
-    let l = c .before in
-    let a = l .before .args in
-    sweep-end noPlace _ (λ j. adopted (a .p) (a .t) j (getD (a .t1) j noPlace)) (l .loop .qs) (l .loop .q) (omega arith) (l .loop .inv .1)
+returns c = storing-end noPlace _ _ _ (c .before .before .loop .inv) (c .if1 .left)
 
 pub adopt-spec : {M : Type 1} → statement M
 adopt-spec =
     tie.close
     (tie.spec
-    Inv-loop μ-loop (λ c. (omega arith, sweep-start noPlace _ _ _ (sym (tab-getD noPlace _ 64 (c .good .0 .1 .0 .1)))))
-    (λ c. omega arith) (λ c. omega arith) (λ c. omega arith) (λ c κs. tt) (λ c. omega arith) (λ c. omega arith)
-    (λ c. omega arith) (λ c. omega arith) loop-again returns)
+    Inv-loop μ-loop (λ c. storing-start noPlace (c .args .used) _ _ (search needs) _ (sym (tab-getD noPlace _ 64 (c .good .0 .1 .0 .1))))
+    (λ c κs. tt) (λ c κs. tt)
+    (λ c. let h = small c in omega arith) (λ c. let h = small c in omega arith) (λ c. let h = small c in omega arith)
+    (λ c κs. tt)
+    (λ c. let h = small (c .before .before) in omega arith) (λ c. let h = small (c .before .before) in omega arith) loop-less loop-again returns)

@@ -1,42 +1,55 @@
--- A sweep that stores every lock.
-use mathlib.Core.Path.{_≡_, refl, sym}
+-- Each turn takes the lowest place that is left; what holds before it is `Storing`.
+use native.Mathlib.Nat.{pos-of-ne-zero}
+use mathlib.Core.Path.{sym, ap, _∙_, subst}
 use mathlib.Core.Bool.{cond}
-use Prim.Native.Nat.{_-_, _≤_}
+use Prim.Native.Nat.{ℕ, _<_}
 use native.Mathlib.Omega.{arith}
 use lib.ListN.{getD}
+use borrow.Author.Needs.{needs}
 use Rattle.sets.specs.Set.{member}
-use Rattle.table.specs.Base.{tab}
+use Rattle.sets.specs.WalkLaws.{rest-lt, removed-less}
+use Rattle.sets.specs.declared.Set.{Set}
 use Rattle.table.specs.BaseLaws.{tab-getD}
-use Rattle.table.specs.SweepLaws.{below, sweep-start, sweep-hit, sweep-end}
 use Rattle.table.specs.Cell.{none}
+use Rattle.moves.specs.StoreLaws.{Storing, storing-start, storing-at, storing-more, storing-end}
 use Rattle.moves.proofs.open.free_held.Statement.{statement}
 use Rattle.moves.proofs.open.free_held.Tie as tie
 
 abbrev Inv-loop : tie.InvT-loop
-Inv-loop s ls ms₀ q₀ ms q = (q ≤ 64) × (ms ≡ tab (below 0 (λ j. getD ms₀ j 0) (λ j. cond (member s (getD ls j 0)) none (getD ls j 0)) q) 64 0)
+Inv-loop s ms₀ rest₀ ms rest = Storing 0 rest₀ (λ q. getD ms₀ q 0) (λ q. cond (member s (getD ms₀ q 0)) none (getD ms₀ q 0)) ms rest
 
 abbrev μ-loop : tie.MeasureT-loop
-μ-loop s ls ms₀ q₀ ms q = 64 - q
+μ-loop s ms₀ rest₀ ms rest = rest .bits
+
+-- the place of this turn is below 64
+small : (c : tie.After-rest Inv-loop μ-loop) → c .before .first .result < 64
+small c = let l = c .before .before .before .before in
+    subst (λ (n : ℕ). n < 64) (sym (c .before .first .ensures)) (rest-lt (l .loop .inv .left) (pos-of-ne-zero (c .before .before .if1 .taken)))
+
+loop-less : tie.Need-loop-less Inv-loop μ-loop
+loop-less c = let l = c .before .before .before .before .before in
+    subst (λ (z : Set). z .bits < l .loop .rest .bits) (sym (c .before .rest .ensures))
+    (removed-less (l .loop .rest) (l .loop .inv .left .small) (pos-of-ne-zero (c .before .before .before .if1 .taken)))
 
 loop-again : tie.Need-loop-again Inv-loop μ-loop
 loop-again c =
-    let l = c .before .before in
-    let a = l .before .args in (
-      omega arith,
-      rw (c .free-one .ensures)
-          (sweep-hit 0 _ (λ j. cond (member (a .s) (getD (a .t1) j 0)) none (getD (a .t1) j 0)) (l .loop .ms) (l .loop .q) _ (omega arith) refl
-          (l .loop .inv .1)),
-    )
+    let q = c .before .before in
+    let l = q .before .before .before in
+    let a = l .before .args in
+    let k = pos-of-ne-zero (q .before .if1 .taken) in
+    rw (c .before .rest .ensures, q .first .ensures)
+    (storing-more 0 _ _ _ (l .loop .inv) k (c .free-one .result)
+    (c .free-one .ensures
+    ∙ ap (λ (n : ℕ). cond (member (a .s) n) none n)
+    (ap (λ (i : ℕ). getD (l .loop .ms) i 0) (q .first .ensures) ∙ storing-at 0 _ _ _ (l .loop .inv) k)))
 
 returns : tie.Need-returns Inv-loop μ-loop
-returns c =
-    let l = c .before in
-    let a = l .before .args in
-    sweep-end 0 _ (λ j. cond (member (a .s) (getD (a .t1) j 0)) none (getD (a .t1) j 0)) (l .loop .ms) (l .loop .q) (omega arith) (l .loop .inv .1)
+returns c = storing-end 0 _ _ _ (c .before .before .loop .inv) (c .if1 .left)
 
 pub free-held-spec : {M : Type 1} → statement M
 free-held-spec =
     tie.close
     (tie.spec
-    Inv-loop μ-loop (λ c. (omega arith, sweep-start 0 _ _ _ (sym (tab-getD 0 _ 64 (c .good .0 .1 .0 .1)))))
-    (λ c. omega arith) (λ c κs. tt) (λ c. omega arith) (λ c. omega arith) (λ c. omega arith) loop-again returns)
+    Inv-loop μ-loop (λ c. storing-start 0 (c .args .used) _ _ (search needs) _ (sym (tab-getD 0 _ 64 (c .good .0 .1 .0 .1))))
+    (λ c κs. tt) (λ c κs. tt) (λ c. let h = small c in omega arith) (λ c. let h = small c in omega arith) (λ c κs. tt)
+    (λ c. let h = small (c .before) in omega arith) loop-less loop-again returns)

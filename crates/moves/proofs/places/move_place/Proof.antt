@@ -10,7 +10,8 @@ use Rattle.sets.specs.declared.Set.{Set}
 use Rattle.table.specs.Cell.{noAgent}
 use Rattle.table.proofs.Facts.{sized}
 use Rattle.meaning.specs.Step.{asleepOn}
-use Rattle.moves.specs.WakeLaws.{Waking, waking-start, waking-hit, waking-miss, waking-end}
+use Rattle.moves.specs.StoreLaws.{stored-in, stored-past}
+use Rattle.moves.specs.WakeLaws.{Waking, waking-start, waking-hit, waking-miss, waking-all, waking-end}
 use Rattle.sets.specs.WordLaws.{count-most}
 use Rattle.moves.proofs.places.move_place.Statement.{statement}
 use Rattle.moves.proofs.places.move_place.Tie as tie
@@ -59,12 +60,25 @@ loop-again-2 c =
 
 returns : tie.Need-returns Inv-loop μ-loop
 returns c =
-    let l = c .before .before .before .before .before .before .before in
+    let e = c .before .before .before .before .before .before in
+    let l = e .before .before in
     let s = l .before .before in
     let a = s .args in
-    waking-end (a .c) (a .p) (a .q) (a .r) (sized (a .c) (s .good .0)) (l .loop .inv) (c .before .before .before .before .before .if1 .left)
-    (a .x) (a .h) (a .y) (a .b) (a .w) _ _ _ (s .pre) (c .before .before .before .with-place .ensures) (c .before .released .ensures)
-    (c .count .ensures)
+    let z = sized (a .c) (s .good .0) in
+    waking-end (a .c) (a .p) (a .q) (a .r) z (l .loop .inv) (e .if1 .left) (a .x) (a .h) (a .y) (a .b) (a .w) _ _ _ _
+    (stored-in noAgent _ _ (waking-all (a .c) (a .p) (a .q) (a .r) z (l .loop .inv) (e .if1 .left)) (a .x) (a .b) (c .if3 .taken))
+    (c .before .before .before .before .with-place .ensures) (c .before .before .released .ensures) (c .before .count .ensures)
+
+returns-2 : tie.Need-returns-2 Inv-loop μ-loop
+returns-2 c =
+    let e = c .before .before .before .before .before .before in
+    let l = e .before .before in
+    let s = l .before .before in
+    let a = s .args in
+    let z = sized (a .c) (s .good .0) in
+    waking-end (a .c) (a .p) (a .q) (a .r) z (l .loop .inv) (e .if1 .left) (a .x) (a .h) (a .y) (a .b) (a .w) _ _ _ _
+    (stored-past noAgent _ _ (waking-all (a .c) (a .p) (a .q) (a .r) z (l .loop .inv) (e .if1 .left)) (a .x) (a .b) (c .if3 .left))
+    (c .before .before .before .before .with-place .ensures) (c .before .before .released .ensures) (c .before .count .ensures)
 
 pub move-place-spec : {M : Type 1} → statement M
 move-place-spec =
@@ -77,9 +91,7 @@ move-place-spec =
     (λ c. let h = small (c .before .before .before .before) in omega arith)
     (λ c κs. tt)
     (λ c. fewer (c .before .before .before .before .before)) loop-again (λ c. fewer (c .before .before .before)) loop-again-2
-    (λ c κs. tt) (λ c κs. tt)
-    (λ c. let x = c .before .before .before .before .before .before .before .before .pre in omega arith)
-    (λ c. let x = c .before .before .before .before .before .before .before .before .pre in omega arith)
-    (λ c κs. tt)
+    (λ c κs. tt) (λ c κs. tt) (λ c κs. tt)
     (λ c. let n = count-most 64 (member (c .before .before .before .before .before .before .before .loop .sleepers)) in omega (arith, n, c .count .ensures))
-    returns)
+    (λ c. let x = c .if3 .taken in omega arith) (λ c. let x = c .if3 .taken in omega arith)
+    returns returns-2)

@@ -1,0 +1,47 @@
+-- What a call changes, and no more (demand 2): the claim. Definitions only.
+use mathlib.Core.Path.{_≡_}
+use mathlib.Core.Bool.{Bool, true, false, not, _&&_}
+use Prim.Native.Nat.{ℕ}
+use lib.Dec.{eqb}
+use Rattle.table.specs.Cell.{State}
+use Rattle.table.specs.declared.Agent.{Agent}
+use Rattle.meaning.specs.declared.Word.{Word}
+use Rattle.meaning.specs.declared.Word.the-variants.{Looked, Took, Held, Back, Slept, Left, Came, Opened, Asleep, Done}
+use Rattle.meaning.specs.declared.Answer.{Answer}
+use Rattle.meaning.specs.declared.Answer.the-variants.{Did, Refused}
+
+-- from cell c to cell d nothing is changed that is not in use: such a place keeps its name, parent and way, its lock, and stays unused;
+-- an agent that is not given keeps every field, and the same agents are given
+pub record Untouched (c d : State) : Type 0 where
+  pub place : (q : ℕ) → c .land .used q ≡ false → d .land .place q ≡ c .land .place q
+  pub lock : (q : ℕ) → c .land .used q ≡ false → d .lock q ≡ c .lock q
+  pub unused : (q : ℕ) → c .land .used q ≡ false → d .land .used q ≡ false
+  pub agent : (y : ℕ) → c .given y ≡ false → d .agent y ≡ c .agent y
+  pub given : d .given ≡ c .given
+
+-- the word is opened
+abbrev pub isOpened : Word → Bool
+isOpened Looked = false
+isOpened Took = false
+isOpened Held = false
+isOpened Back = false
+isOpened Slept = false
+isOpened Left = false
+isOpened Came = false
+isOpened Opened = true
+isOpened Asleep = false
+isOpened Done = false
+
+-- the answer is
+abbrev pub saysOpened : Answer → Bool
+saysOpened (Did word woken) = isOpened word
+saysOpened (Refused number) = false
+
+-- "its number becomes unused": which numbers are in use after a call of an agent, which is a, with this answer
+abbrev pub usedAfter : Answer → Agent → (ℕ → Bool) → ℕ → Bool
+usedAfter answer a used q = not (saysOpened answer && eqb q (a .chosen)) && used q
+
+-- by a call of agent x with this answer nothing is changed that is not in use, and the places in use are the same but for the one that is opened
+pub record NoMore (c : State) (x : ℕ) (d : State) (answer : Answer) : Type 0 where
+  pub untouched : Untouched c d
+  pub used : (q : ℕ) → d .land .used q ≡ usedAfter answer (c .agent x) (c .land .used) q

@@ -1,0 +1,81 @@
+-- A call changes what its step says, and no more: of every table, every agent and wish, and over every list of calls.
+-- Each way that a step can go leaves alone what is not in use, and only the one that opens makes a number unused.
+use mathlib.Core.Path.{_≡_, refl, sym, subst}
+use mathlib.Core.Bool.{true}
+use mathlib.Core.List.{List, [], _∷_}
+use Prim.Native.Nat.{ℕ}
+use Rattle.table.specs.BaseLaws.{Told, yea, nay, told}
+use Rattle.table.specs.Bounds.{Sized}
+use Rattle.table.specs.Cell.{State, cellOf, tableOf}
+use Rattle.table.specs.CellLaws.{bounded}
+use Rattle.table.specs.Sound.{sound}
+use Rattle.table.specs.declared.Cell.{Cell}
+use Rattle.meaning.specs.declared.Answer.the-variants.{Did}
+use Rattle.meaning.specs.Step.{Outcome, still, leave, dissolve, arrive, step}
+use Rattle.meaning.specs.Run.{Call, stepOf, made, turnedAway, run}
+use Rattle.demands.specs.NoMore.{Untouched, usedAfter, NoMore}
+use Rattle.demands.specs.Invariant.{Sound}
+use Rattle.demands.specs.Ways.{Way, is-done, is-asleep, held-first, held-second, held-own, held-destination, looks-up, looks-home}
+use Rattle.demands.specs.Ways.{sleeps-alone, takes-first, goes-back, sleeps-stuck, takes-second, gives-up, enters, exits, opens}
+use Rattle.demands.specs.Ways.{takes-own, takes-destination, comes}
+use Rattle.demands.specs.StepWays.{step-way}
+use Rattle.demands.specs.Unused.{untouched-none, untouched-more}
+use Rattle.demands.specs.Always.{step-keeps, step-back, sound-bounded, sized-stepped}
+
+-- ---- one step of a cell
+
+-- the places in use after each way
+way-used : {c : State} {x wish : ℕ} {o : Outcome} → Way c x wish o
+    → (q : ℕ) → o .cell .land .used q ≡ usedAfter (Did (o .word) (o .woken)) (c .agent x) (c .land .used) q
+unfolding still leave dissolve arrive
+way-used (is-done _) q = refl
+way-used (is-asleep _) q = refl
+way-used (held-first _ _) q = refl
+way-used (held-second _ _ _ _) q = refl
+way-used (held-own _ _) q = refl
+way-used (held-destination _ _) q = refl
+way-used (looks-up _ _ _) q = refl
+way-used (looks-home _ _) q = refl
+way-used (sleeps-alone _ _ _) q = refl
+way-used (takes-first _ _) q = refl
+way-used (goes-back _ _) q = refl
+way-used (sleeps-stuck _ _ _) q = refl
+way-used (takes-second _ _ _ _ _ _) q = refl
+way-used (gives-up _ _) q = refl
+way-used (enters _ _ _) q = refl
+way-used (exits _ _ _) q = refl
+way-used (opens _ _ _) q = refl
+way-used (takes-own _ _) q = refl
+way-used (takes-destination _ _) q = refl
+way-used (comes _) q = refl
+
+-- a step of a given agent in a sound cell
+pub step-no-more : (c : State) → Sound c → (x : ℕ) → c .given x ≡ true → (wish : ℕ)
+    → NoMore c x (step c x wish .cell) (Did (step c x wish .word) (step c x wish .woken))
+step-no-more c i x g wish = record { untouched = step-keeps c i x g wish .untouched; used = way-used (step-way c i x g wish) }
+
+-- ---- calls on a table
+
+-- the table after a step has the cell that the step makes
+made-no-more : (t : Cell) → Sized t → Sound (cellOf t) → (x : ℕ) → cellOf t .given x ≡ true → (wish : ℕ)
+    → NoMore (cellOf t) x (cellOf (tableOf (step (cellOf t) x wish .cell))) (Did (step (cellOf t) x wish .word) (step (cellOf t) x wish .woken))
+made-no-more t z i x g wish = subst (λ (d : State). NoMore (cellOf t) x d (Did (step (cellOf t) x wish .word) (step (cellOf t) x wish .woken)))
+    (sym (step-back t z i x g wish)) (step-no-more (cellOf t) i x g wish)
+
+-- a call changes nothing that is not in use, and makes no number unused but that of the place that it opens; the table has the sizes of the
+-- struct, as every value of it has
+pub no-more : (t : Cell) (x wish : ℕ) → Sized t → NoMore (cellOf t) x (cellOf (stepOf t x wish .cell)) (stepOf t x wish .answer)
+unfolding stepOf made turnedAway
+no-more t x wish z = go (told (sound (cellOf t))) (told (cellOf t .given x))
+  where
+    go : Told (sound (cellOf t)) → Told (cellOf t .given x) → NoMore (cellOf t) x (cellOf (stepOf t x wish .cell)) (stepOf t x wish .answer)
+    go (yea e) (yea g) = rw (e, g) (made-no-more t z (sound-bounded (cellOf t) (bounded t z) e) x g wish)
+    go (yea e) (nay g) = rw (e, g) (record { untouched = untouched-none (cellOf t); used = λ q. refl })
+    go (nay e) _ = rw e (record { untouched = untouched-none (cellOf t); used = λ q. refl })
+
+-- over a list of calls what was not in use is as it was; what an opening made unused stays so, by the same law from there on
+pub no-more-run : (t : Cell) (calls : List Call) → Sized t → Untouched (cellOf t) (cellOf (run t calls))
+unfolding run
+no-more-run t [] z = untouched-none (cellOf t)
+no-more-run t (k ∷ calls) z = untouched-more (no-more t (k .agent) (k .wish) z .untouched)
+    (no-more-run (stepOf t (k .agent) (k .wish) .cell) calls (sized-stepped t (k .agent) (k .wish) z))

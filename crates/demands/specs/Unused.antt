@@ -1,0 +1,87 @@
+-- What is not in use stays as it is: what a change of agents, locks and places in use leaves alone.
+-- One value changed at a number in use is no change at one that is not.
+use mathlib.Core.Path.{_≡_, refl, ap, _∙_}
+use mathlib.Core.Bool.{Bool, true, false, not, and-false}
+use Prim.Native.Nat.{ℕ}
+use lib.Dec.{eqb}
+use Rattle.table.specs.Base.{upd}
+use Rattle.table.specs.BaseLaws.{clash, upd-other}
+use Rattle.table.specs.Bounds.{Bounded}
+use Rattle.table.specs.Cell.{State, none}
+use Rattle.table.specs.declared.Place.{Place}
+use Rattle.table.specs.declared.Agent.{Agent}
+use Rattle.meaning.specs.Update.{withPlaces, withLand, withLocks, withAgents, withAgent, released}
+use Rattle.meaning.specs.Step.{wake, dissolve, dissolveLock}
+use Rattle.demands.specs.NoMore.{Untouched}
+
+-- ---- one value and another
+
+-- one value changed where P holds: elsewhere a function is as it was
+pub upd-outside : {A : Type 0} (P : ℕ → Bool) (f : ℕ → A) (i : ℕ) (v : A) → P i ≡ true → (j : ℕ) → P j ≡ false → upd f i v j ≡ f j
+upd-outside P f i v u j n = upd-other f i j v (λ e. clash (ap P e ∙ u) n)
+
+-- the locks of p and q released
+pub released-outside : (P : ℕ → Bool) (lock : ℕ → ℕ) (p q : ℕ) → P p ≡ true → P q ≡ true → (j : ℕ) → P j ≡ false → released lock p q j ≡ lock j
+released-outside P lock p q u v j n = upd-outside P (upd lock p none) q none v j n ∙ upd-outside P lock p none u j n
+
+-- ---- nothing, and one change after another
+
+pub untouched-none : (c : State) → Untouched c c
+untouched-none c = record { place = λ q u. refl; lock = λ q u. refl; unused = λ q u. u; agent = λ y n. refl; given = refl }
+
+pub untouched-more : {c d e : State} → Untouched c d → Untouched d e → Untouched c e
+untouched-more m n = record {
+  place = λ q u. n .place q (m .unused q u) ∙ m .place q u;
+  lock = λ q u. n .lock q (m .unused q u) ∙ m .lock q u;
+  unused = λ q u. n .unused q (m .unused q u);
+  agent = λ y g. n .agent y (ap (λ (f : ℕ → Bool). f y) (m .given) ∙ g) ∙ m .agent y g;
+  given = n .given ∙ m .given;
+}
+
+-- what reads nothing at and past 64 reads nothing there after
+pub untouched-bounded : {c d : State} → Untouched c d → Bounded c → Bounded d
+untouched-bounded m b = record {
+  place = λ q l. m .place q (b .used q l) ∙ b .place q l;
+  used = λ q l. m .unused q (b .used q l);
+  lock = λ q l. m .lock q (b .used q l) ∙ b .lock q l;
+  agent = λ y l. m .agent y (b .given y l) ∙ b .agent y l;
+  given = λ y l. ap (λ (f : ℕ → Bool). f y) (m .given) ∙ b .given y l;
+}
+
+-- ---- the changes of a step of agent x
+
+module _ (c : State) (x : ℕ) (g : c .given x ≡ true) where
+  -- one agent and locks of places in use change
+  pub turned-untouched : (a : Agent) (locks : ℕ → ℕ) → ((q : ℕ) → c .land .used q ≡ false → locks q ≡ c .lock q)
+      → Untouched c (withLocks (withAgent c x a) locks)
+  turned-untouched a locks same = record {
+    place = λ q u. refl;
+    lock = same;
+    unused = λ q u. u;
+    agent = upd-outside (c .given) (c .agent) x a g;
+    given = refl;
+  }
+
+  -- sleepers are woken, and place h changes too
+  pub woken-untouched : (p q r h : ℕ) (a : Agent) (locks : ℕ → ℕ) (new : Place) → c .land .used h ≡ true
+      → ((s : ℕ) → c .land .used s ≡ false → locks s ≡ c .lock s)
+      → Untouched c (withLand (withLocks (withAgents c (upd (wake c p q r) x a)) locks) (withPlaces (c .land) (upd (c .land .place) h new)))
+  unfolding wake
+  woken-untouched p q r h a locks new u same = record {
+    place = upd-outside (c .land .used) (c .land .place) h new u;
+    lock = same;
+    unused = λ s v. v;
+    agent = λ y n. upd-outside (c .given) (wake c p q r) x a g y n ∙ rw n;
+    given = refl;
+  }
+
+  -- place t is dissolved into p
+  pub opened-untouched : (p t : ℕ) → c .land .used p ≡ true → c .land .used t ≡ true → Untouched c (dissolve c x (c .agent x) p t .cell)
+  unfolding dissolve dissolveLock
+  opened-untouched p t v w = record {
+    place = λ q u. rw u;
+    lock = λ q u. released-outside (c .land .used) (dissolveLock c t) p t v w q u ∙ rw u;
+    unused = λ q u. rw u (and-false (not (eqb q t)));
+    agent = λ y n. upd-outside (c .given) _ x _ g y n ∙ rw n;
+    given = refl;
+  }
