@@ -9,5 +9,10 @@ pub mod Listing
 pub mod TreeListing
 pub mod Report
 pub mod Codes
+pub mod BenchRow
+pub mod BenchPaper
+pub mod BenchFiles
+pub mod BenchSteps
+pub mod BenchListing
 pub mod Bench
 pub mod FileLaws
