@@ -9,18 +9,23 @@ use lib.Dec.{eqb}
 use Rattle.sets.specs.Word.{has, wordOf, countOf, lowestOf, chosenOf}
 use Rattle.table.specs.Base.{upd, tab, foldUp, allBelow, anyBelow, countBelow, iter}
 use Rattle.table.specs.Cell.{cellOf, tableOf, bareTable, linked, linkedTo, travels, nextAction}
+use Rattle.table.specs.Idle.{idle}
 use Rattle.table.specs.Sound.{actionsFit, ready, holdsBoth, stageFits, firstHeld, secondHeld, lockIs, claims, agentFits, goingFrom, goes, placeFits, sound}
-use Rattle.meaning.specs.File.{placeRecord, agentRecord, actionRecord, recordAt, addPlace, addAgent, withAction, addAction, loadRecord, loadFrom, load}
+use Rattle.meaning.specs.File.{placeRecord, agentRecord, actionRecord, recordAt, addPlace, addAgent, withAction, addAction, loadRecord, loadFrom, load, loaded, loadOf}
 use Rattle.meaning.specs.Step.{onWayTo, awaited, entersAt, exitsFrom, opensAt, qualifies, choose, fires, stays, still, turn, take, release, asleepOn, wake, look, lockFirst, lockSecond, hold, leave, dissolveAgent, wokenBy, dissolveLock, dissolve, act, arrive, travel, stepAt, step}
-use Rattle.meaning.specs.Run.{made, turnedAway, stepOf}
-use Rattle.meaning.specs.Text.{ascii, digits, gap}
-use Rattle.meaning.specs.Listing.{kindText, actionText, agentText, listsIn, agentsText, standsUnder, bracketed, contentsText, listing}
+use Rattle.meaning.specs.Run.{made, turnedAway, stepOf, settled, rests}
+use Rattle.meaning.specs.Text.{ascii, digits, gap, overlay}
+use Rattle.meaning.specs.Listing.{kindText, actionText, agentText, listsIn, agentsText, standsUnder, bracketed, contentsText, listing, listAnswer, listBuffer}
 use Rattle.meaning.specs.Report.{wordText, stepLine, refusedLine, listingLine, callsIn, reportRun, reportOf, report}
+use Rattle.meaning.specs.Codes.{checkOf, idleOf}
 use Rattle.meaning.specs.BenchRow.{Row, hex, file, manyOpens, calls, agents}
 use Rattle.meaning.specs.BenchPaper.{paperRows, slipRows}
 use Rattle.meaning.specs.BenchFiles.{fileRows}
 use Rattle.meaning.specs.BenchSteps.{stepRows}
 use Rattle.meaning.specs.BenchListing.{listingRows}
+use Rattle.meaning.specs.BenchTables.{Computed, sample}
+use Rattle.meaning.specs.BenchSound.{soundRows}
+use Rattle.meaning.specs.BenchCalls.{callRows}
 
 pub rows : List Row
 rows = paperRows ++ (slipRows ++ (fileRows ++ (stepRows ++ listingRows)))
@@ -47,3 +52,14 @@ allSame (r ∷ rest) = same (report (r .cell) (r .order)) (textOf (r .lines)) &&
 pub bench : allSame rows ≡ true
 unfolding allSame rows paperRows slipRows fileRows stepRows listingRows textOf hex file manyOpens calls agents same has wordOf countOf lowestOf chosenOf upd tab foldUp allBelow anyBelow countBelow iter cellOf tableOf bareTable linked linkedTo travels nextAction actionsFit ready holdsBoth stageFits firstHeld secondHeld lockIs claims agentFits goingFrom goes placeFits sound placeRecord agentRecord actionRecord recordAt addPlace addAgent withAction addAction loadRecord loadFrom load onWayTo awaited entersAt exitsFrom opensAt qualifies choose fires stays still turn take release asleepOn wake look lockFirst lockSecond hold leave dissolveAgent wokenBy dissolveLock dissolve act arrive travel stepAt step made turnedAway stepOf digits gap kindText actionText agentText listsIn agentsText standsUnder bracketed contentsText listing wordText stepLine refusedLine listingLine callsIn reportRun reportOf report
 bench = refl
+
+-- every row computes to the numbers that it is to be
+pub allMeant : List Computed → Bool
+unfolding same
+allMeant [] = true
+allMeant (r ∷ rest) = same (r .value) (r .meant) && allMeant rest
+
+-- what walk cannot show: soundness clause by clause, and the calls and answers of a host
+pub numbers : allMeant (soundRows ++ callRows) ≡ true
+unfolding allMeant soundRows callRows sample checkOf idleOf idle loadOf loaded listAnswer listBuffer overlay settled rests hex file manyOpens calls agents same has wordOf countOf lowestOf chosenOf upd tab foldUp allBelow anyBelow countBelow iter cellOf tableOf bareTable linked linkedTo travels nextAction actionsFit ready holdsBoth stageFits firstHeld secondHeld lockIs claims agentFits goingFrom goes placeFits sound placeRecord agentRecord actionRecord recordAt addPlace addAgent withAction addAction loadRecord loadFrom load onWayTo awaited entersAt exitsFrom opensAt qualifies choose fires stays still turn take release asleepOn wake look lockFirst lockSecond hold leave dissolveAgent wokenBy dissolveLock dissolve act arrive travel stepAt step made turnedAway stepOf digits gap kindText actionText agentText listsIn agentsText standsUnder bracketed contentsText listing wordText stepLine refusedLine listingLine callsIn reportRun reportOf report
+numbers = refl

@@ -14,5 +14,8 @@ pub mod BenchPaper
 pub mod BenchFiles
 pub mod BenchSteps
 pub mod BenchListing
+pub mod BenchTables
+pub mod BenchSound
+pub mod BenchCalls
 pub mod Bench
 pub mod FileLaws
