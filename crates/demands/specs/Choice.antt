@@ -1,80 +1,47 @@
--- What a choice says: the chosen place qualifies, where none is chosen none does, and a wish that qualifies is granted.
--- By whether the wish qualifies; else the choice is the lowest member of the set, found by going up from 0.
-use mathlib.Core.Path.{_≡_, sym, subst}
-use Prim.Native.Nat.{ℕ, zero, suc, _≤_, _<_}
+-- What the choice of an agent at stage 2 says: the chosen place qualifies, where none is chosen none does, and a wish that qualifies is granted.
+-- By whether it is the wish, the lowest that qualifies, or none.
+use mathlib.Core.Path.{_≡_, refl, subst}
+use Prim.Native.Nat.{ℕ, _≤_, _<_}
 use mathlib.Core.Bool.{Bool, true, false}
 use native.Mathlib.Omega.{arith}
-use lib.Dec.{ltb}
-use borrow.Author.Tests.{ltb-true, lt-ltb}
-use Rattle.sets.specs.Word.{lowestOf, upto, chosenOf}
-use Rattle.table.specs.BaseLaws.{Told, yea, nay, told, clash, and-left, and-right}
+use Rattle.table.specs.BaseLaws.{clash}
 use Rattle.table.specs.Cell.{Land, kindOf, nameOf}
 use Rattle.table.specs.declared.Agent.{Agent}
-use Rattle.meaning.specs.Step.{qualifies, choose, choice}
-use Rattle.demands.specs.Facts.{not-yes}
+use Rattle.meaning.specs.Step.{qualifies, choice}
+use Rattle.demands.specs.Chosen.{Chosen, the-wish, the-lowest, no-place, choice-lowest}
 
--- ---- the choice from a set
+-- ---- a choice
 
--- the lowest member is one, and where there is none no number is
-lowest-fits : (n : ℕ) (f : ℕ → Bool) → lowestOf n f < n → f (lowestOf n f) ≡ true
-unfolding lowestOf
-lowest-fits zero f l = absurd (omega arith)
-lowest-fits (suc n) f l = go (told (f 0)) (lowest-fits n (λ i. f (suc i)))
-  where
-    go : Told (f 0) → (lowestOf n (λ i. f (suc i)) < n → f (suc (lowestOf n (λ i. f (suc i)))) ≡ true) → f (lowestOf (suc n) f) ≡ true
-    go (yea e) r = rw (e, lowestOf) e
-    go (nay e) r = rw (e, lowestOf) (r (omega (arith, rw (e, lowestOf) at l)))
+module _ {f : ℕ → Bool} {wish : ℕ} where
+  chosen-fits : {q : ℕ} → Chosen f wish q → q < 64 → f q ≡ true
+  chosen-fits (the-wish l e) s = e
+  chosen-fits (the-lowest q u l e h) s = e
+  chosen-fits (no-place h) s = absurd (omega arith)
 
-lowest-none : (n : ℕ) (f : ℕ → Bool) → n ≤ lowestOf n f → (j : ℕ) → j < n → f j ≡ false
-unfolding lowestOf
-lowest-none zero f l j k = absurd (omega arith)
-lowest-none (suc n) f l j k = go (told (f 0)) j k (lowest-none n (λ i. f (suc i)))
-  where
-    go : Told (f 0) → (j : ℕ) → j < suc n → (n ≤ lowestOf n (λ i. f (suc i)) → (i : ℕ) → i < n → f (suc i) ≡ false) → f j ≡ false
-    go (yea e) j k r = absurd (omega (arith, rw (e, lowestOf) at l))
-    go (nay e) zero k r = e
-    go (nay e) (suc j) k r = r (omega (arith, rw (e, lowestOf) at l)) j (omega arith)
+  chosen-none : {q : ℕ} → Chosen f wish q → 64 ≤ q → (r : ℕ) → r < 64 → f r ≡ false
+  chosen-none (the-wish l e) s r k = absurd (omega arith)
+  chosen-none (the-lowest q u l e h) s r k = absurd (omega arith)
+  chosen-none (no-place h) s r k = h r k
 
--- a choice below 64 is a member
-choose-fits : (f : ℕ → Bool) (wish : ℕ) → chosenOf (upto 64 f) wish < 64 → f (chosenOf (upto 64 f) wish) ≡ true
-unfolding chosenOf
-choose-fits f wish l = go (told (upto 64 f wish))
-  where
-    go : Told (upto 64 f wish) → f (chosenOf (upto 64 f) wish) ≡ true
-    go (yea e) = rw (e, chosenOf) (and-right (ltb wish 64) (f wish) e)
-    go (nay e) = rw (e, chosenOf) (and-right (ltb (lowestOf 64 (upto 64 f)) 64) _ (lowest-fits 64 (upto 64 f) (rw (e, chosenOf) at l)))
-
--- where the choice is none, nothing qualifies
-choose-none : (f : ℕ → Bool) (wish : ℕ) → 64 ≤ chosenOf (upto 64 f) wish → (q : ℕ) → q < 64 → f q ≡ false
-unfolding chosenOf
-choose-none f wish l q s = go (told (upto 64 f wish))
-  where
-    go : Told (upto 64 f wish) → f q ≡ false
-    go (yea e) = absurd (omega (arith, ltb-true wish 64 (and-left (ltb wish 64) (f wish) e), rw (e, chosenOf) at l))
-    go (nay e) = not-yes (f q) (λ t. clash (rw (lt-ltb q 64 s) t) (lowest-none 64 (upto 64 f) (rw (e, chosenOf) at l) q s))
-
--- a wish that qualifies is granted
-choose-wish : (f : ℕ → Bool) (wish : ℕ) → wish < 64 → f wish ≡ true → chosenOf (upto 64 f) wish ≡ wish
-unfolding chosenOf
-choose-wish f wish l e = rw (lt-ltb wish 64 l, e)
+  chosen-wish : {q : ℕ} → Chosen f wish q → wish < 64 → f wish ≡ true → q ≡ wish
+  chosen-wish (the-wish l e) k t = refl
+  chosen-wish (the-lowest q u l e h) k t = clash t (u k)
+  chosen-wish (no-place h) k t = clash t (h wish k)
 
 -- ---- the choice of an agent
 
--- the place that an agent chooses qualifies
-pub choice-fits : (l : Land) (a : Agent) (wish q : ℕ) → choice l a wish ≡ q → q < 64
-    → qualifies l (kindOf a) (nameOf a) (a .home) (a .remembered) q ≡ true
-unfolding choose
-choice-fits l a wish q e s = subst (λ r. qualifies l (kindOf a) (nameOf a) (a .home) (a .remembered) r ≡ true) e
-    (choose-fits (qualifies l (kindOf a) (nameOf a) (a .home) (a .remembered)) wish (subst (λ (r : ℕ). r < 64) (sym e) s))
+module _ (l : Land) (a : Agent) (wish : ℕ) where
+  chosen : Chosen (qualifies l (kindOf a) (nameOf a) (a .home) (a .remembered)) wish (choice l a wish)
+  chosen = choice-lowest l (kindOf a) (nameOf a) (a .home) (a .remembered) wish
 
--- where it chooses none, no place below 64 qualifies
-pub choice-none : (l : Land) (a : Agent) (wish : ℕ) → 64 ≤ choice l a wish → (q : ℕ) → q < 64
-    → qualifies l (kindOf a) (nameOf a) (a .home) (a .remembered) q ≡ false
-unfolding choose
-choice-none l a wish = choose-none (qualifies l (kindOf a) (nameOf a) (a .home) (a .remembered)) wish
+  -- the place that it chooses qualifies
+  pub choice-fits : (q : ℕ) → choice l a wish ≡ q → q < 64 → qualifies l (kindOf a) (nameOf a) (a .home) (a .remembered) q ≡ true
+  choice-fits q e = chosen-fits (subst (Chosen _ wish) e chosen)
 
--- a wish that qualifies is its choice
-pub choice-wish : (l : Land) (a : Agent) (wish : ℕ) → wish < 64
-    → qualifies l (kindOf a) (nameOf a) (a .home) (a .remembered) wish ≡ true → choice l a wish ≡ wish
-unfolding choose
-choice-wish l a wish = choose-wish (qualifies l (kindOf a) (nameOf a) (a .home) (a .remembered)) wish
+  -- where it chooses none, no place below 64 qualifies
+  pub choice-none : 64 ≤ choice l a wish → (q : ℕ) → q < 64 → qualifies l (kindOf a) (nameOf a) (a .home) (a .remembered) q ≡ false
+  choice-none = chosen-none chosen
+
+  -- a wish that qualifies is its choice
+  pub choice-wish : wish < 64 → qualifies l (kindOf a) (nameOf a) (a .home) (a .remembered) wish ≡ true → choice l a wish ≡ wish
+  choice-wish = chosen-wish chosen

@@ -19,6 +19,7 @@ pub mod Invariant
 pub mod Ways
 pub mod Given
 pub mod Facts
+pub mod Chosen
 pub mod Choice
 pub mod Actions
 pub mod Stages
@@ -42,6 +43,7 @@ pub mod OpeningAgents
 pub mod OpeningPlaces
 pub mod OpeningLocks
 pub mod Opening
+pub mod Woken
 pub mod Always
 -- an accepted load
 pub mod Fresh
