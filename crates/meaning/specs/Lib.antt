@@ -19,3 +19,4 @@ pub mod BenchSound
 pub mod BenchCalls
 pub mod Bench
 pub mod FileLaws
+pub mod CallLaws
