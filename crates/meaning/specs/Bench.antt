@@ -10,15 +10,20 @@ use Rattle.sets.specs.Word.{has, wordOf, countOf, lowestOf, chosenOf}
 use Rattle.table.specs.Base.{upd, tab, foldUp, allBelow, anyBelow, countBelow, iter}
 use Rattle.table.specs.Cell.{cellOf, tableOf, bareTable, linked, linkedTo, travels, nextAction}
 use Rattle.table.specs.Idle.{idle}
-use Rattle.table.specs.Sound.{actionsFit, ready, holdsBoth, stageFits, firstHeld, secondHeld, lockIs, claims, agentFits, goingFrom, goes, placeFits, sound}
-use Rattle.meaning.specs.File.{placeRecord, agentRecord, actionRecord, recordAt, addPlace, addAgent, withAction, addAction, loadRecord, loadFrom, load, loaded, loadOf}
-use Rattle.meaning.specs.Step.{onWayTo, awaited, entersAt, exitsFrom, opensAt, qualifies, choose, fires, stays, still, turn, take, release, asleepOn, wake, look, lockFirst, lockSecond, hold, leave, dissolveAgent, wokenBy, dissolveLock, dissolve, act, arrive, travel, stepAt, step}
+use Rattle.table.specs.Sound.{actionsFit, ready, holdsBoth, stageFits, firstHeld, secondHeld, lockIs, claims, agentFits, goingFrom, goes, placeFits}
+use Rattle.table.specs.Sound.{sound}
+use Rattle.meaning.specs.File.{placeRecord, agentRecord, actionRecord, recordAt, addPlace, addAgent, withAction, addAction, loadRecord}
+use Rattle.meaning.specs.File.{loadFrom, load, loaded, loadOf}
+use Rattle.meaning.specs.Step.{onWayTo, awaited, entersAt, exitsFrom, opensAt, qualifies, choose, fires, stays, still, turn, take, release}
+use Rattle.meaning.specs.Step.{asleepOn, wake, look, lockFirst, lockSecond, hold, leave, dissolveAgent, wokenBy, dissolveLock, dissolve, act}
+use Rattle.meaning.specs.Step.{arrive, travel, stepAt, step}
 use Rattle.meaning.specs.Run.{made, turnedAway, stepOf, settled, rests}
 use Rattle.meaning.specs.Text.{ascii, digits, gap, overlay}
-use Rattle.meaning.specs.Listing.{kindText, actionText, agentText, listsIn, agentsText, standsUnder, bracketed, contentsText, listing, listAnswer, listBuffer}
+use Rattle.meaning.specs.Listing.{kindText, actionText, agentText, listsIn, agentsText, standsUnder, bracketed, contentsText, listing}
+use Rattle.meaning.specs.Listing.{listAnswer, listBuffer}
 use Rattle.meaning.specs.Report.{wordText, stepLine, refusedLine, listingLine, callsIn, reportRun, reportOf, report}
 use Rattle.meaning.specs.Codes.{checkOf, idleOf}
-use Rattle.meaning.specs.BenchRow.{Row, hex, file, manyOpens, calls, agents}
+use Rattle.meaning.specs.BenchRow.{Row, file, manyOpens, calls}
 use Rattle.meaning.specs.BenchPaper.{paperRows, slipRows}
 use Rattle.meaning.specs.BenchFiles.{fileRows}
 use Rattle.meaning.specs.BenchSteps.{stepRows}
@@ -26,6 +31,7 @@ use Rattle.meaning.specs.BenchListing.{listingRows}
 use Rattle.meaning.specs.BenchTables.{Computed, sample}
 use Rattle.meaning.specs.BenchSound.{soundRows}
 use Rattle.meaning.specs.BenchCalls.{callRows}
+use Rattle.meaning.specs.BenchAfter.{afterRows}
 
 pub rows : List Row
 rows = paperRows ++ (slipRows ++ (fileRows ++ (stepRows ++ listingRows)))
@@ -50,7 +56,13 @@ allSame (r ∷ rest) = same (report (r .cell) (r .order)) (textOf (r .lines)) &&
 
 -- computed by the checker from the definitions alone
 pub bench : allSame rows ≡ true
-unfolding allSame rows paperRows slipRows fileRows stepRows listingRows textOf hex file manyOpens calls agents same has wordOf countOf lowestOf chosenOf upd tab foldUp allBelow anyBelow countBelow iter cellOf tableOf bareTable linked linkedTo travels nextAction actionsFit ready holdsBoth stageFits firstHeld secondHeld lockIs claims agentFits goingFrom goes placeFits sound placeRecord agentRecord actionRecord recordAt addPlace addAgent withAction addAction loadRecord loadFrom load onWayTo awaited entersAt exitsFrom opensAt qualifies choose fires stays still turn take release asleepOn wake look lockFirst lockSecond hold leave dissolveAgent wokenBy dissolveLock dissolve act arrive travel stepAt step made turnedAway stepOf digits gap kindText actionText agentText listsIn agentsText standsUnder bracketed contentsText listing wordText stepLine refusedLine listingLine callsIn reportRun reportOf report
+unfolding allSame rows paperRows slipRows fileRows stepRows listingRows textOf file manyOpens calls same has wordOf countOf lowestOf
+    chosenOf upd tab foldUp allBelow anyBelow countBelow iter cellOf tableOf bareTable linked linkedTo travels nextAction actionsFit ready
+    holdsBoth stageFits firstHeld secondHeld lockIs claims agentFits goingFrom goes placeFits sound placeRecord agentRecord actionRecord
+    recordAt addPlace addAgent withAction addAction loadRecord loadFrom load onWayTo awaited entersAt exitsFrom opensAt qualifies choose
+    fires stays still turn take release asleepOn wake look lockFirst lockSecond hold leave dissolveAgent wokenBy dissolveLock dissolve act
+    arrive travel stepAt step made turnedAway stepOf digits gap kindText actionText agentText listsIn agentsText standsUnder bracketed
+    contentsText listing wordText stepLine refusedLine listingLine callsIn reportRun reportOf report
 bench = refl
 
 -- every row computes to the numbers that it is to be
@@ -59,7 +71,14 @@ unfolding same
 allMeant [] = true
 allMeant (r ∷ rest) = same (r .value) (r .meant) && allMeant rest
 
--- what walk cannot show: soundness clause by clause, and the calls and answers of a host
-pub numbers : allMeant (soundRows ++ callRows) ≡ true
-unfolding allMeant soundRows callRows sample checkOf idleOf idle loadOf loaded listAnswer listBuffer overlay settled rests hex file manyOpens calls agents same has wordOf countOf lowestOf chosenOf upd tab foldUp allBelow anyBelow countBelow iter cellOf tableOf bareTable linked linkedTo travels nextAction actionsFit ready holdsBoth stageFits firstHeld secondHeld lockIs claims agentFits goingFrom goes placeFits sound placeRecord agentRecord actionRecord recordAt addPlace addAgent withAction addAction loadRecord loadFrom load onWayTo awaited entersAt exitsFrom opensAt qualifies choose fires stays still turn take release asleepOn wake look lockFirst lockSecond hold leave dissolveAgent wokenBy dissolveLock dissolve act arrive travel stepAt step made turnedAway stepOf digits gap kindText actionText agentText listsIn agentsText standsUnder bracketed contentsText listing wordText stepLine refusedLine listingLine callsIn reportRun reportOf report
+-- what walk cannot show: soundness clause by clause, the calls and answers of a host, and the table after each kind of step
+pub numbers : allMeant (soundRows ++ (callRows ++ afterRows)) ≡ true
+unfolding allMeant soundRows callRows afterRows sample checkOf idleOf idle loadOf loaded listAnswer listBuffer overlay settled rests file manyOpens
+    calls same has wordOf countOf lowestOf chosenOf upd tab foldUp allBelow anyBelow countBelow iter cellOf tableOf bareTable linked
+    linkedTo travels nextAction actionsFit ready holdsBoth stageFits firstHeld secondHeld lockIs claims agentFits goingFrom goes placeFits
+    sound placeRecord agentRecord actionRecord recordAt addPlace addAgent withAction addAction loadRecord loadFrom load onWayTo awaited
+    entersAt exitsFrom opensAt qualifies choose fires stays still turn take release asleepOn wake look lockFirst lockSecond hold leave
+    dissolveAgent wokenBy dissolveLock dissolve act arrive travel stepAt step made turnedAway stepOf digits gap kindText actionText
+    agentText listsIn agentsText standsUnder bracketed contentsText listing wordText stepLine refusedLine listingLine callsIn reportRun
+    reportOf report
 numbers = refl

@@ -17,7 +17,6 @@ use Rattle.meaning.specs.BenchTables.{Computed, number, bytes, holds, fa
 use Rattle.meaning.specs.BenchTables.{sample, holding, entering, exiting, opening, going}
 
 unfoldable pub callRows : List Computed
-unfolding hex
 callRows =
     -- "0 looked, 1 took, 2 held, 3 back, 4 slept, 5 left, 6 came, 7 opened, 9 asleep, 10 done"
     number 0 (wordNumber Looked)

@@ -17,6 +17,7 @@ pub mod BenchListing
 pub mod BenchTables
 pub mod BenchSound
 pub mod BenchCalls
+pub mod BenchAfter
 pub mod Bench
 pub mod FileLaws
 pub mod CallLaws
