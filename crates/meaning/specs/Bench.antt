@@ -28,7 +28,7 @@ use Rattle.meaning.specs.BenchPaper.{paperRows, slipRows}
 use Rattle.meaning.specs.BenchFiles.{fileRows}
 use Rattle.meaning.specs.BenchSteps.{stepRows}
 use Rattle.meaning.specs.BenchListing.{listingRows}
-use Rattle.meaning.specs.BenchTables.{Computed, sample}
+use Rattle.meaning.specs.BenchTables.{Computed, sample, topmost}
 use Rattle.meaning.specs.BenchSound.{soundRows}
 use Rattle.meaning.specs.BenchCalls.{callRows}
 use Rattle.meaning.specs.BenchAfter.{afterRows}
@@ -73,7 +73,7 @@ allMeant (r ∷ rest) = same (r .value) (r .meant) && allMeant rest
 
 -- what walk cannot show: soundness clause by clause, the calls and answers of a host, and the table after each kind of step
 pub numbers : allMeant (soundRows ++ (callRows ++ afterRows)) ≡ true
-unfolding allMeant soundRows callRows afterRows sample checkOf idleOf idle loadOf loaded listAnswer listBuffer overlay settled rests file manyOpens
+unfolding allMeant soundRows callRows afterRows sample topmost checkOf idleOf idle loadOf loaded listAnswer listBuffer overlay settled rests file manyOpens
     calls same has wordOf countOf lowestOf chosenOf upd tab foldUp allBelow anyBelow countBelow iter cellOf tableOf bareTable linked
     linkedTo travels nextAction actionsFit ready holdsBoth stageFits firstHeld secondHeld lockIs claims agentFits goingFrom goes placeFits
     sound placeRecord agentRecord actionRecord recordAt addPlace addAgent withAction addAction loadRecord loadFrom load onWayTo awaited

@@ -1,8 +1,9 @@
 -- Rows on the table that a load and each kind of step leave: what the agent remembers, where its place stands, and which locks are held.
 use mathlib.Core.List.{List, [], _∷_}
 use Prim.Native.Nat.{ℕ}
+use lib.ListN.{getD}
 use Rattle.table.specs.Base.{tab}
-use Rattle.table.specs.Cell.{State, bareTable, cellOf, tableOf}
+use Rattle.table.specs.Cell.{State, noAction, bareTable, cellOf, tableOf}
 use Rattle.meaning.specs.Run.{stepOf}
 use Rattle.meaning.specs.BenchTables.{Computed, bytes, placed, locked, staged, acting, sample, found, holding, entering, exiting, opening}
 use Rattle.meaning.specs.BenchTables.{going, going5, going6}
@@ -10,6 +11,11 @@ use Rattle.meaning.specs.BenchTables.{going, going5, going6}
 -- an agent's home, stage, remembered and chosen place
 abbrev agentIn : State → ℕ → List ℕ
 agentIn c x = c .agent x .home ∷ c .agent x .stage ∷ c .agent x .remembered ∷ c .agent x .chosen ∷ []
+
+-- the first of its actions that is unused, how many were given, and the kind and name of its action at j
+abbrev actionsIn : State → ℕ → ℕ → List ℕ
+actionsIn c x j =
+    c .agent x .next ∷ c .agent x .count ∷ getD (c .agent x .actions) j noAction .kind ∷ getD (c .agent x .actions) j noAction .name ∷ []
 
 -- a place's name, parent and way
 abbrev placeIn : State → ℕ → List ℕ
@@ -30,10 +36,12 @@ afterRows =
     bytes (0 ∷ 0 ∷ 1 ∷ []) (placeIn (cellOf bareTable) 0)
     ∷ bytes (0 ∷ 0 ∷ 0 ∷ []) (placeIn (cellOf bareTable) 1)
     ∷ bytes (0 ∷ 8 ∷ 0 ∷ 0 ∷ []) (agentIn (cellOf bareTable) 0)
+    ∷ bytes (0 ∷ 0 ∷ 0 ∷ 0 ∷ []) (actionsIn (cellOf bareTable) 0 0)
     ∷ bytes (64 ∷ 64 ∷ 64 ∷ 64 ∷ []) (locksIn (cellOf bareTable))
     -- a loaded place and agent
     ∷ bytes (8 ∷ 1 ∷ 0 ∷ []) (placeIn sample 2)
     ∷ bytes (2 ∷ 0 ∷ 0 ∷ 0 ∷ []) (agentIn sample 2)
+    ∷ bytes (0 ∷ 2 ∷ 2 ∷ 7 ∷ []) (actionsIn sample 2 1)
     -- 0: "Enter or exit: remember the parent; looked, stage 1", "Open: remember its own place"
     ∷ bytes (1 ∷ 1 ∷ 0 ∷ 0 ∷ []) (agentIn (after 0 sample) 0)
     ∷ bytes (1 ∷ 1 ∷ 1 ∷ 0 ∷ []) (agentIn (after 1 sample) 1)

@@ -14,7 +14,7 @@ use Rattle.meaning.specs.Report.{report}
 use Rattle.meaning.specs.Codes.{idleOf, wordNumber, stepNumber, loadNumber, listNumber, checkNumber, idleNumber}
 use Rattle.meaning.specs.BenchRow.{hex}
 use Rattle.meaning.specs.BenchTables.{Computed, number, bytes, holds, fails, loadedFrom, placed, notUsed, locked, staged, counted}
-use Rattle.meaning.specs.BenchTables.{sample, holding, entering, exiting, opening, going}
+use Rattle.meaning.specs.BenchTables.{sample, holding, entering, exiting, opening, going, topmost}
 
 unfoldable pub callRows : List Computed
 callRows =
@@ -80,6 +80,7 @@ callRows =
     ∷ number 0 (idleNumber (idleOf (tableOf (staged 0 7 0 0 (staged 1 7 1 0 sample)))))
     ∷ number 0x0100 (idleNumber (idleOf (tableOf (counted 0 1 1 (staged 0 8 0 0 (staged 1 7 1 0 (staged 2 7 1 0 sample)))))))
     ∷ number 0 (idleNumber (idleOf (tableOf (staged 1 7 1 0 (staged 2 7 1 0 going)))))
+    ∷ number 0 (idleNumber (idleOf (tableOf topmost)))
     ∷ number 10 (idleNumber (idleOf (tableOf (notUsed 0 sample))))
     -- "An agent is asleep, or done, when a step call for it would answer that word"
     ∷ holds (rests (tableOf (staged 0 7 0 0 sample)) 0)
@@ -92,6 +93,7 @@ callRows =
     ∷ holds (settled (locked 9 0 (placed 9 5 0 1 sample)))
     ∷ fails (settled holding)
     ∷ fails (settled going)
+    ∷ fails (settled (locked 63 63 topmost))
     -- the bytes of a text: `start 0` and `end 0`, each with byte 0A
     ∷ bytes (115 ∷ 116 ∷ 97 ∷ 114 ∷ 116 ∷ 32 ∷ 48 ∷ 10 ∷ 101 ∷ 110 ∷ 100 ∷ 32 ∷ 48 ∷ 10 ∷ []) (report (hex "04") [])
     ∷ []

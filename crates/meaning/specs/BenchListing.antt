@@ -4,8 +4,7 @@ use Rattle.meaning.specs.BenchRow.{Row, row, hex, agents, file, place, a
 
 unfoldable pub listingRows : List Row
 listingRows =
-    -- "joined by ` | `"; "An agent is its unused actions, such as `enter 9.exit 9`"; "the agents with unused actions by number, then places by
-    -- number"
+    -- "the agents with unused actions by number, then places by number, joined by ` | `"; "its unused actions, such as `enter 9.exit 9`"
     row (file (place 5 0 1234 ∷ place 4 0 20 ∷ place 6 4 3 ∷ agent 10 4 ∷ enters 10 9 ∷ exits 10 9 ∷ agent 7 4 ∷ opens 7 65535 ∷ agent 9 4 ∷ []))
     []
     ("start 20[open 65535 | enter 9.exit 9 | 3[]] | 1234[]" ∷ "end 20[open 65535 | enter 9.exit 9 | 3[]] | 1234[]" ∷ [])

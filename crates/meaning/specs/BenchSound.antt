@@ -1,7 +1,7 @@
 -- Rows on soundness (document 01, refusal 10): each clause of "A table is sound when", broken once, and what soundness does not ask.
 use mathlib.Core.List.{List, [], _∷_}
 use Rattle.meaning.specs.BenchTables.{Computed, number, placed, notUsed, locked, staged, lives, counted, acting, sample, found, holding}
-use Rattle.meaning.specs.BenchTables.{entering, exiting, opening, going, going5, going6, checked}
+use Rattle.meaning.specs.BenchTables.{entering, exiting, opening, going, going5, going6, topmost, checked}
 
 unfoldable pub soundRows : List Computed
 soundRows =
@@ -75,6 +75,14 @@ soundRows =
     ∷ number 10 (checked (staged 1 1 0 0 sample))
     ∷ number 10 (checked (locked 0 1 (staged 1 2 0 0 sample)))
     ∷ number 10 (checked (locked 0 1 (locked 3 1 (staged 1 3 0 3 sample))))
+    -- of agent 63 and place 63 too
+    ∷ number 0 (checked topmost)
+    ∷ number 10 (checked (staged 63 9 0 0 topmost))
+    ∷ number 10 (checked (placed 63 0 0 0 topmost))
+    ∷ number 10 (checked (placed 63 7 63 0 topmost))
+    ∷ number 10 (checked (locked 63 63 topmost))
+    ∷ number 0 (checked (locked 0 63 (staged 63 2 0 0 topmost)))
+    ∷ number 0 (checked (placed 63 7 0 1 (staged 63 4 0 0 topmost)))
     -- nothing is asked of what is not in use
     ∷ number 0 (checked (locked 9 200 (placed 9 0 200 3 (staged 9 200 200 200 sample))))
     ∷ []

@@ -88,4 +88,13 @@ stepRows =
     ∷ row (file (place 1 0 1 ∷ place 2 1 2 ∷ agent 0 2 ∷ exits 0 1 ∷ agent 1 0 ∷ opens 1 2 ∷ [])) (agents "0 0 0 0 1 1 1 0 0 0 1 1 1 1")
     ("start open 2 | 1[2[exit 1]]" ∷ "0 looked 0" ∷ "0 took 0" ∷ "0 took 0" ∷ "0 left 0" ∷ "1 looked 0" ∷ "1 took 0" ∷ "1 slept 0" ∷ "0 took 0" ∷
     "0 took 0" ∷ "0 came 1" ∷ "1 looked 0" ∷ "1 took 0" ∷ "1 took 0" ∷ "1 opened 0" ∷ "end 1[]" ∷ [])
+    -- the highest numbers: place 63 is on its way to 61, which agent 63 is to open: back, slept, woken when it comes
+    ∷ row (file (place 61 0 1 ∷ place 62 61 2 ∷ place 63 62 3 ∷ agent 63 0 ∷ opens 63 1 ∷ agent 62 63 ∷ exits 62 2 ∷ []))
+    (hex "3f ff 3f ff 3f ff 3e ff 3e ff 3e ff 3e ff 3f ff 3f ff 3f ff 3f ff 3e ff 3e ff 3e ff 3f ff 3f ff 3f ff 3f ff")
+    ("start open 1 | 1[2[3[exit 2]]]" ∷ "63 looked 0" ∷ "63 took 0" ∷ "63 took 0" ∷ "62 looked 0" ∷ "62 took 0" ∷ "62 took 0" ∷ "62 left 0" ∷
+    "63 back 0" ∷ "63 looked 0" ∷ "63 took 0" ∷ "63 slept 0" ∷ "62 took 0" ∷ "62 took 0" ∷ "62 came 1" ∷ "63 looked 0" ∷ "63 took 0" ∷ "63 took 0" ∷
+    "63 opened 0" ∷ "end 2[] | 3[]" ∷ [])
+    -- and place 63 is entered
+    ∷ row (file (place 1 0 7 ∷ place 63 0 9 ∷ agent 0 1 ∷ enters 0 9 ∷ [])) (agents "0 0 0 0")
+    ("start 7[enter 9] | 9[]" ∷ "0 looked 0" ∷ "0 took 0" ∷ "0 took 0" ∷ "0 left 0" ∷ "end 9[7[]]" ∷ [])
     ∷ []

@@ -98,6 +98,11 @@ going5 = locked 1 0 (staged 0 5 0 0 going)
 abbrev pub going6 : State
 going6 = locked 3 0 (locked 1 0 (staged 0 6 0 0 going))
 
+-- `7[exit 9]`: agent 63 lives in place 63
+unfoldable pub topmost : State
+unfolding file
+topmost = cellOf (loadedFrom (file (place 63 0 7 ∷ agent 63 63 ∷ exits 63 9 ∷ [])))
+
 -- what the check answers
 abbrev pub checked : State → ℕ
 checked c = checkNumber (checkOf (tableOf c))
