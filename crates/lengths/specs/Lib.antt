@@ -4,3 +4,4 @@ pub mod Parts
 pub mod Levels
 pub mod ListingLength
 pub mod ReportLength
+pub mod Prefix

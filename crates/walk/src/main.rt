@@ -1,49 +1,145 @@
 // Level A, the program: reads a cell and an order and writes the report of the run.
 //
-// It reads the files `cell` and `order` of its working folder, or two paths given as arguments. An absent file reads as
-// empty. The first 8,192 bytes of a cell file decide its answer (the law `prefix` asks for 5,633), the first 32,768 bytes
-// of an order are its 16,384 pairs, and no report is longer than 304,468 bytes (`report-longest`).
+// With no argument it reads the files `cell` and `order` of its working folder, with two the files that they name. An absent
+// file reads as empty. Where anything else keeps it from reading, it writes why to standard error, and nothing to standard output.
+// What it reads of the files decides their report, and the text holds every report whole (`buffers::write_whole`).
+use buffers::CELL_BYTES;
+use buffers::ORDER_BYTES;
+use buffers::TEXT_BYTES;
+use libc::ENOENT;
+use libc::STDERR_FILENO;
 use libc::STDOUT_FILENO;
-ghost use Prim.Native.Nat.{_≤_};
+ghost use mathlib.Core.Path.{_≡_};
 ghost use lib.ListN.{length};
+ghost use Rattle.walk.specs.Inputs.{namingBy, Within};
 
-// The bytes of a file at the start of buf, as many as it holds; none where the file is absent.
-fn read_file(path: &[u8], buf: &mut [u8]) -> usize
-    ensures { λ r. ⌜ r ≤ length (now (buf .exit)) ⌝ }
+// Where the two files' names come from.
+enum Naming {
+    Standing,
+    Given,
+    Unclear,
+}
+
+// What was read of a file: so many bytes, or nothing that could be used.
+enum Input {
+    Bytes(usize),
+    Failed,
+}
+
+// Without arguments the names are `cell` and `order`; two arguments are the names; any other number is not understood. The
+// program's own name is counted among its arguments.
+fn naming_by(count: usize) -> Naming
+    ensures { λ r. ⌜ r ≡ namingBy count ⌝ }
+{
+    if count < 2 {
+        Naming::Standing
+    } else if count == 3 {
+        Naming::Given
+    } else {
+        Naming::Unclear
+    }
+}
+
+// A line on standard error: what failed, and the system's reason.
+fn complain(what: &[u8]) {
+    io::write_all(STDERR_FILENO, b"walk: ");
+    os::fail(what);
+}
+
+fn usage() {
+    io::write_all(
+        STDERR_FILENO,
+        b"usage: walk [CELL ORDER]   (without paths: the files cell and order of the working folder)\n",
+    );
+}
+
+// Whether the input has ended. Where a read before failed, the next fails too or finds more.
+fn has_ended(fd: i32) -> bool {
+    let mut more = [0u8; 1];
+    let got = libc::read(fd, &mut more);
+    got == 0
+}
+
+// The bytes of an open file at the start of buf, as many as it holds.
+fn read_open(fd: i32, path: &[u8], buf: &mut [u8]) -> Input
+    ensures { λ r. ⌜ Within r (length (now (buf .exit))) ⌝ }
+{
+    let n = io::read_full(fd, buf);
+    if n < buf.len() {
+        if !has_ended(fd) {
+            complain(path);
+            return Input::Failed;
+        }
+    }
+    Input::Bytes(n)
+}
+
+// The bytes of a file at the start of buf; none where the file is absent.
+fn read_file(path: &[u8], buf: &mut [u8]) -> Input
+    ensures { λ r. ⌜ Within r (length (now (buf .exit))) ⌝ }
 {
     let fd = os::open_read(path);
     if fd < 0 {
-        return 0;
+        if os::errno() == ENOENT {
+            return Input::Bytes(0);
+        }
+        complain(path);
+        return Input::Failed;
     }
-    let n = io::read_full(fd, buf);
+    let input = read_open(fd, path, buf);
     libc::close(fd);
-    n
+    input
 }
 
-// The bytes of the file that argument i names, or of the file with this name where there are not two arguments.
-fn read_input(i: usize, name: &[u8], buf: &mut [u8]) -> usize
-    ensures { λ r. ⌜ r ≤ length (now (buf .exit)) ⌝ }
+// The bytes of the file that argument i names. A path that is too long is not cut: it would name another file.
+fn read_argument(i: usize, name: &[u8], buf: &mut [u8]) -> Input
+    ensures { λ r. ⌜ Within r (length (now (buf .exit))) ⌝ }
 {
-    if os::arg_count() < 3 {
-        return read_file(name, buf);
-    }
     let mut path = io::buffer();
     let n = os::arg(i, &mut path);
+    if os::errno() != 0 {
+        complain(name);
+        return Input::Failed;
+    }
+    if n == 0 {
+        usage();
+        return Input::Failed;
+    }
     read_file(&path[..n], buf)
 }
 
-// Writes the first k bytes of a text in one piece, or all of it where it is shorter.
-fn show(text: &[u8], k: usize) {
-    let n = text::least(k, text.len());
-    io::write_all(STDOUT_FILENO, &text[..n]);
+// The bytes of the file with this name, or of the file that argument i names.
+fn read_input(names: Naming, i: usize, name: &[u8], buf: &mut [u8]) -> Input
+    ensures { λ r. ⌜ Within r (length (now (buf .exit))) ⌝ }
+{
+    match names {
+        Naming::Standing => read_file(name, buf),
+        Naming::Given => read_argument(i, name, buf),
+        Naming::Unclear => {
+            usage();
+            Input::Failed
+        }
+    }
+}
+
+// Writes the report in one piece.
+fn show(report: &[u8]) {
+    if !io::write_all(STDOUT_FILENO, report) {
+        complain(b"standard output");
+    }
 }
 
 fn main() {
-    let mut cell = [0u8; 8192];
-    let mut order = [0u8; 32768];
-    let mut text = [0u8; 524288];
-    let n = read_input(1, b"cell", &mut cell);
-    let m = read_input(2, b"order", &mut order);
-    let k = report::write_report(&cell[..n], &order[..m], &mut text);
-    show(&text, k);
+    let mut cell = [0u8; CELL_BYTES];
+    let mut order = [0u8; ORDER_BYTES];
+    let mut text = [0u8; TEXT_BYTES];
+    let names = naming_by(os::arg_count());
+    let Input::Bytes(n) = read_input(names, 1, b"cell", &mut cell) else {
+        return;
+    };
+    let Input::Bytes(m) = read_input(names, 2, b"order", &mut order) else {
+        return;
+    };
+    let k = buffers::write_whole(&cell, n, &order, m, &mut text);
+    show(&text[..k]);
 }

@@ -1,6 +1,7 @@
--- Each part that is lent of a buffer is as long as what was read into it, which the buffer holds.
+-- The part of the text that is shown is the report, which the text holds.
 use mathlib.Core.Path.{sym}
 use lib.Seq.{length-take-le}
+use Rattle.buffers.specs.HeldLaws.{whole-within}
 use borrow.Author.Needs.{needs}
 use Rattle.walk.proofs.main.Statement.{statement}
 use Rattle.walk.proofs.main.Tie as tie
@@ -9,9 +10,12 @@ pub main-spec : {M : Type 1} → statement M
 main-spec =
     tie.close
     (tie.spec
+    (λ c κs. search needs) (λ c κs. search needs)
     (λ c. search needs) (λ c. search needs) (λ c κs. search needs)
+    (λ c. search needs) (λ c. search needs) (λ c. search needs)
     (λ c. search needs) (λ c. search needs) (λ c κs. search needs)
-    (λ c. search needs) (λ c. sym (length-take-le _ _ (c .before .before .before .before .before .before .read-input .ensures)))
-    (λ c. search needs) (λ c. sym (length-take-le _ _ (c .before .before .before .read-input2 .ensures)))
-    (λ c. search needs) (λ c κs. search needs)
-    (λ c. search needs) (λ c κs. search needs) (λ c. search needs))
+    (λ c. search needs) (λ c. search needs) (λ c. search needs)
+    (λ c κs. search needs)
+    (λ c. whole-within _ _ _ _ (c .write-whole .ensures .0))
+    (λ c. sym (length-take-le _ _ (whole-within _ _ _ _ (c .before .write-whole .ensures .0))))
+    (λ c κs. search needs) (λ c. search needs))

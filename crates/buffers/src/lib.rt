@@ -1,0 +1,42 @@
+// The report of the files of which walk's buffers hold the first bytes: none of it is cut, and nothing that was not read could change it.
+ghost use mathlib.Core.Path.{_≡_};
+ghost use mathlib.Core.List.{List};
+ghost use Prim.Native.Nat.{ℕ};
+ghost use lib.ListN.{take};
+ghost use Rattle.text.specs.Wrote.{Wrote};
+ghost use Rattle.meaning.specs.Report.{report as reportOf};
+ghost use Rattle.buffers.specs.Held.{Bytes, Holds, Whole};
+
+// How many bytes walk reads of a cell file. The first 5,633 decide its answer.
+pub const CELL_BYTES: usize = 8192;
+
+// How many bytes walk reads of an order: its 16,384 pairs.
+pub const ORDER_BYTES: usize = 32768;
+
+// How long a report can be for walk to hold it. None is longer than 304,468 bytes.
+pub const TEXT_BYTES: usize = 524288;
+
+// The report of the first n bytes of one buffer and the first m of another, or of all where there are fewer.
+fn write_read(cell: &[u8], n: usize, order: &[u8], m: usize, text: &mut [u8]) -> usize
+    ensures { λ r. ⌜ Wrote (reportOf (take n (now (cell .entry))) (take m (now (order .entry)))) (now (text .entry)) (now (text .exit)) r ⌝ }
+    ensures { λ r. ⌜ Bytes (now (order .entry)) ⌝ }
+{
+    let i = text::least(n, cell.len());
+    let j = text::least(m, order.len());
+    report::write_report(&cell[..i], &order[..j], text)
+}
+
+// The report of the cell file and the order of which n and m bytes were read, whole, at the text's start; answers its length.
+pub fn write_whole(
+    cell: &[u8; CELL_BYTES],
+    n: usize,
+    order: &[u8; ORDER_BYTES],
+    m: usize,
+    text: &mut [u8; TEXT_BYTES],
+) -> usize
+    ensures { λ r. ⌜ Whole (reportOf (take n (now (cell .entry))) (take m (now (order .entry)))) (now (text .entry)) (now (text .exit)) r ⌝ }
+    ensures { λ r. ⌜ ((file list : List ℕ) → Holds file (now (cell .entry)) n → Holds list (now (order .entry)) m
+        → take r (now (text .exit)) ≡ reportOf file list) ⌝ }
+{
+    write_read(cell, n, order, m, text)
+}

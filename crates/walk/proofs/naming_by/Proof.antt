@@ -1,0 +1,20 @@
+-- By the two tests, which are the definition's.
+use borrow.Author.Tests.{lt-ltb, le-ltb, eq-eqb, ne-eqb}
+use Rattle.walk.specs.Inputs.{namingBy}
+use Rattle.walk.proofs.naming_by.Statement.{statement}
+use Rattle.walk.proofs.naming_by.Tie as tie
+
+returns : tie.Need-returns
+unfolding namingBy
+returns c = rw (lt-ltb _ _ (c .if1 .taken))
+
+returns-2 : tie.Need-returns-2
+unfolding namingBy
+returns-2 c = rw (le-ltb _ _ (c .before .if1 .left), eq-eqb _ _ (c .if2 .taken))
+
+returns-3 : tie.Need-returns-3
+unfolding namingBy
+returns-3 c = rw (le-ltb _ _ (c .before .if1 .left), ne-eqb _ _ (c .if2 .left))
+
+pub naming-by-spec : {M : Type 1} → statement M
+naming-by-spec = tie.close (tie.spec returns returns-2 returns-3)
