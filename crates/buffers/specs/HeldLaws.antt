@@ -48,7 +48,7 @@ over-fits [] b l = refl
 over-fits (x ∷ t) [] l = absurd (not-suc-le-zero l)
 over-fits (x ∷ t) (y ∷ b) l = ap (λ (s : List ℕ). x ∷ s) (over-fits t b (le-of-suc-le-suc l))
 
--- a report of what was read fits into 304,468 bytes
+-- with room for 304,468 bytes the report of what was read is written whole
 pub read-whole : (cell order before after : List ℕ) (n m answer : ℕ) → Bytes order → 304468 ≤ length before
     → Wrote (report (take n cell) (take m order)) before after answer → Whole (report (take n cell) (take m order)) before after answer
 read-whole cell order before after n m answer bytes room w = record {
@@ -68,10 +68,10 @@ read-whole cell order before after n m answer bytes room w = record {
 -- and it is the report of every cell file and every order of which the buffers hold the first bytes
 pub files-whole : (cell order before after : List ℕ) (n m answer : ℕ) → 5633 ≤ length cell → 32768 ≤ length order
     → Whole (report (take n cell) (take m order)) before after answer
-    → (file list : List ℕ) → Holds file cell n → Holds list order m → take answer after ≡ report file list
-files-whole cell order before after n m answer wide long w file list h k =
+    → (file pairs : List ℕ) → Holds file cell n → Holds pairs order m → take answer after ≡ report file pairs
+files-whole cell order before after n m answer wide long w file pairs h k =
     ap₂ take (w .count) (w .bytes) ∙ take-append-seam (report (take n cell) (take m order)) (drop answer before)
-    ∙ ap₂ report (held-start file cell n h) (held-start list order m k) ∙ report-prefix file list (length cell) (length order) wide long
+    ∙ ap₂ report (held-start file cell n h) (held-start pairs order m k) ∙ report-prefix file pairs (length cell) (length order) wide long
 
 -- the answer counts bytes of the buffer
 pub whole-within : (text before after : List ℕ) (answer : ℕ) → Whole text before after answer → answer ≤ length after

@@ -1,4 +1,5 @@
-// The report of the files of which walk's buffers hold the first bytes: none of it is cut, and nothing that was not read could change it.
+// The report of the files of which walk's buffers hold the first bytes. Nothing that was not read could change it, and none of
+// it is cut.
 ghost use mathlib.Core.Path.{_≡_};
 ghost use mathlib.Core.List.{List};
 ghost use Prim.Native.Nat.{ℕ};
@@ -13,11 +14,11 @@ pub const CELL_BYTES: usize = 8192;
 // How many bytes walk reads of an order: its 16,384 pairs.
 pub const ORDER_BYTES: usize = 32768;
 
-// How long a report can be for walk to hold it. None is longer than 304,468 bytes.
+// How much room walk has for a report. None is longer than 304,468 bytes.
 pub const TEXT_BYTES: usize = 524288;
 
-// The report of the first n bytes of one buffer and the first m of another, or of all where there are fewer.
-fn write_read(cell: &[u8], n: usize, order: &[u8], m: usize, text: &mut [u8]) -> usize
+// The report of the first n bytes of a cell file's buffer and the first m of an order's, or of all where there are fewer.
+fn write_first(cell: &[u8], n: usize, order: &[u8], m: usize, text: &mut [u8]) -> usize
     ensures { λ r. ⌜ Wrote (reportOf (take n (now (cell .entry))) (take m (now (order .entry)))) (now (text .entry)) (now (text .exit)) r ⌝ }
     ensures { λ r. ⌜ Bytes (now (order .entry)) ⌝ }
 {
@@ -35,8 +36,8 @@ pub fn write_whole(
     text: &mut [u8; TEXT_BYTES],
 ) -> usize
     ensures { λ r. ⌜ Whole (reportOf (take n (now (cell .entry))) (take m (now (order .entry)))) (now (text .entry)) (now (text .exit)) r ⌝ }
-    ensures { λ r. ⌜ ((file list : List ℕ) → Holds file (now (cell .entry)) n → Holds list (now (order .entry)) m
-        → take r (now (text .exit)) ≡ reportOf file list) ⌝ }
+    ensures { λ r. ⌜ ((file pairs : List ℕ) → Holds file (now (cell .entry)) n → Holds pairs (now (order .entry)) m
+        → take r (now (text .exit)) ≡ reportOf file pairs) ⌝ }
 {
-    write_read(cell, n, order, m, text)
+    write_first(cell, n, order, m, text)
 }

@@ -15,7 +15,7 @@ ghost use Rattle.walk.specs.Inputs.{namingBy, Within};
 
 // Where the two files' names come from.
 enum Naming {
-    Standing,
+    Usual,
     Given,
     Unclear,
 }
@@ -32,7 +32,7 @@ fn naming_by(count: usize) -> Naming
     ensures { λ r. ⌜ r ≡ namingBy count ⌝ }
 {
     if count < 2 {
-        Naming::Standing
+        Naming::Usual
     } else if count == 3 {
         Naming::Given
     } else {
@@ -113,7 +113,7 @@ fn read_input(names: Naming, i: usize, name: &[u8], buf: &mut [u8]) -> Input
     ensures { λ r. ⌜ Within r (length (now (buf .exit))) ⌝ }
 {
     match names {
-        Naming::Standing => read_file(name, buf),
+        Naming::Usual => read_file(name, buf),
         Naming::Given => read_argument(i, name, buf),
         Naming::Unclear => {
             usage();

@@ -8,7 +8,7 @@ use Rattle.buffers.proofs.write_whole.Tie as tie
 returns : tie.Need-returns
 returns c =
     let a = c .before .before .before .before .args in
-    let w = read-whole (a .cell .now) (a .order .now) (a .text .now) _ (a .n) (a .m) _ (c .write-read .ensures .1) (omega arith) (c .write-read .ensures .0) in
+    let w = read-whole (a .cell .now) (a .order .now) (a .text .now) _ (a .n) (a .m) _ (c .write-first .ensures .1) (omega arith) (c .write-first .ensures .0) in
     (w, files-whole (a .cell .now) (a .order .now) (a .text .now) _ (a .n) (a .m) _ (omega arith) (omega arith) w)
 
 pub write-whole-spec : {M : Type 1} → statement M

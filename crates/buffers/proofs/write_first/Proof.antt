@@ -5,8 +5,8 @@ use Rattle.meaning.specs.Report.{report}
 use Rattle.text.specs.TextLaws.{least-le, wrote-as}
 use Rattle.buffers.specs.HeldLaws.{taken}
 use borrow.Author.Needs.{needs}
-use Rattle.buffers.proofs.write_read.Statement.{statement}
-use Rattle.buffers.proofs.write_read.Tie as tie
+use Rattle.buffers.proofs.write_first.Statement.{statement}
+use Rattle.buffers.proofs.write_first.Tie as tie
 
 returns : tie.Need-returns
 returns c =
@@ -15,8 +15,8 @@ returns c =
       λ j. l .before .before .before .shared-slice-known2 .given j .fits,
     )
 
-pub write-read-spec : {M : Type 1} → statement M
-write-read-spec =
+pub write-first-spec : {M : Type 1} → statement M
+write-first-spec =
     tie.close
     (tie.spec
     (λ c κs. search needs) (λ c κs. search needs)
