@@ -1,5 +1,6 @@
 // What hosts call (Level B): by value here, over a lent cell in `exports`. No call asks anything of its caller.
 mod exports;
+mod version;
 
 use meaning::Checked;
 use meaning::Idled;
