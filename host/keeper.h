@@ -1,16 +1,18 @@
 /*
-** keeper.h: the cell keeper, for hosts in C11 and C++11.
+** keeper.h: the cell keeper, for hosts in C11 and C++11 on x86-64 Linux.
 **
 ** A cell holds places nested in each other and agents that move them, one lock step at a time. The host lends the memory of a cell and
 ** calls the keeper once per lock step. The keeper allocates nothing, keeps nothing between calls, reads no clock and no file, and calls
-** nothing outside itself. Every call ends, and every input is accepted or refused with a number; a refused call leaves the cell and
-** every lent buffer as they were.
+** memcpy and memset and nothing else outside itself. Every call ends, and every input is accepted or refused with a number; a refused
+** call leaves the cell and every lent buffer as they were.
 **
 ** In short:
 **
 **     keeper_cell cell;
-**     uint64_t answer;
+**     keeper_answer answer;
 **
+**     if (!keeper_fits())
+**         return 1;
 **     keeper_bare(&cell);
 **     answer = keeper_load(&cell, file, length);
 **     if (keeper_refusal(answer) != 0)
@@ -23,8 +25,8 @@
 **
 **   - A pointer is not null, also where the length given with it is 0, and stays valid for the whole call. A cell is aligned as its type
 **     asks; files and texts may stand anywhere.
-**   - A cell has been written before it is first lent, by keeper_bare or in any other way (all zeros will do): the keeper takes every
-**     bit pattern, and refuses one that is not a sound table with 10, but it does read it.
+**   - A cell has been written before any call but keeper_bare, by that call or in any other way (all zeros will do): the keeper takes
+**     every bit pattern, and refuses one that is not a sound table with 10, but it does read it.
 **   - A file or text lent together with a cell does not overlap it.
 **   - No other thread touches what is lent during the call. Calls that lend different memory may run at the same time.
 **   - The stack has room for KEEPER_STACK bytes.
@@ -41,6 +43,16 @@ extern "C" {
 #else
 #define KEEPER_ASSERT(holds, text) _Static_assert(holds, text)
 #endif
+
+/*
+** The version of this header. A library says its own by keeper_version. The major number changes when a host has to be changed or compiled
+** anew: another layout of a cell, other arguments, another meaning of an answer. The minor number changes when something is added: a
+** call, a word, a refusal. The patch number changes with anything else.
+*/
+#define KEEPER_MAJOR 1
+#define KEEPER_MINOR 0
+#define KEEPER_PATCH 0
+#define KEEPER_VERSION (KEEPER_MAJOR * 65536 + KEEPER_MINOR * 256 + KEEPER_PATCH)
 
 /* Places are numbered 0 to 63, and 0 is the floor; agents are numbered 0 to 63; an agent carries sixteen actions at most. */
 #define KEEPER_PLACES 64
@@ -61,13 +73,14 @@ extern "C" {
 /* The longest listing: with a buffer of this size, keeper_list never answers 12 (proved: crates/lengths, `listing-longest`, `enough-room`). */
 #define KEEPER_LISTING_LONGEST 13043
 
-/* The stack that a call uses, in bytes, at most: the bound promised. host/c/stack.c measures it on the library at hand: 35 KB for
-** keeper_list on 63 nested places, 17 KB for keeper_step, 15 KB or less for the others. */
+/* The stack that a call uses, in bytes, at most. This is measured and not proved: host/c/stack.c measures it on the library at hand and
+** fails where it is more. It found 34 KB for keeper_list on 63 nested places, 16 KB for keeper_step, 14 KB or less for the others. */
 #define KEEPER_STACK 65536
 
 /*
-** The memory of a cell. It is plain data: a host may copy it, keep it in a file for the same kind of machine, and read its fields. A host
-** that writes the fields itself can make the table unsound; keeper_check tells. Fields of numbers that are not in use mean nothing.
+** The memory of a cell. It is plain data: a host may copy it, keep it in a file for the same kind of machine and the same KEEPER_MAJOR, and
+** read its fields. A host that writes the fields itself can make the table unsound; keeper_check tells. Fields of numbers that are not in
+** use mean nothing, nor does the byte between an action's kind and its name.
 */
 
 /* A place: `way` is 0 where it is linked to `parent`, else it is on its way to `parent`. The floor has name 0, parent 0 and way 1. */
@@ -147,11 +160,34 @@ enum {
 };
 
 /*
+** What a call answers, in one number: bits 0 to 7 are 0, or the number with which the call was refused. The bits above are, for
+** keeper_load, the offset of a refusal; for keeper_step, the word (bits 8 to 15) and the number woken (bits 16 to 23); for keeper_list, the
+** length; for keeper_idle, 1 if all agents are asleep or done. The functions at the end of this file take it apart.
+*/
+typedef uint64_t keeper_answer;
+
+/* keeper_version: the library's version, as KEEPER_VERSION is written. */
+uint64_t keeper_version(void);
+
+/* keeper_cell_bytes: the size of a cell in bytes, as the library keeps it. */
+uint64_t keeper_cell_bytes(void);
+
+/*
+** keeper_fits: 1 if the linked library is one that this header describes, else 0. It has the same major number, this minor number or a
+** later one, and a cell of this size. A host asks it once, before the first call; where it is 0, no other call may be made.
+*/
+static inline int keeper_fits(void)
+{
+    return keeper_version() >> 16 == KEEPER_MAJOR && keeper_version() >> 8 >= KEEPER_VERSION >> 8
+        && keeper_cell_bytes() == sizeof(keeper_cell);
+}
+
+/*
 ** keeper_bare: makes the cell a bare floor, with no other place and no agent.
 **
 ** Answers 0; it is never refused.
 */
-uint64_t keeper_bare(keeper_cell *cell);
+keeper_answer keeper_bare(keeper_cell *cell);
 
 /*
 ** keeper_load: makes the cell what the cell file in file[0] to file[len - 1] says.
@@ -160,28 +196,30 @@ uint64_t keeper_bare(keeper_cell *cell);
 ** first faulty record (for a missing end record, the file's length; for 9, the first byte after the end record), and the cell is as it
 ** was. What the cell held before plays no part in the answer, so it is never 10. The file is only read.
 */
-uint64_t keeper_load(keeper_cell *cell, const uint8_t *file, size_t len);
+keeper_answer keeper_load(keeper_cell *cell, const uint8_t *file, size_t len);
 
 /*
-** keeper_step: one lock step of an agent. `wish` is the number of the place that an enter or open should choose where several qualify; a
-** wish for any other place, such as 255, is passed over, and the lowest qualifying number is chosen.
+** keeper_step: one lock step of an agent. `wish` is the number of the place that an enter or open should choose where several qualify. It
+** counts in the call in which the agent, holding its first lock, chooses. A wish for a place that does not qualify, or for none, such as
+** 255, is passed over, and the lowest qualifying number is chosen.
 **
 ** Answers, in keeper_word(answer), what the agent did, and in keeper_woken(answer) how many sleeping agents that woke:
 **
 **     looked   it found the place that it will lock first
 **     took     it took a lock
 **     held     the lock that it needs is held by another agent; nothing changed
-**     back     it let go of its locks, because the place has moved meanwhile, and will look again
-**     slept    its action cannot fire; it sleeps until another agent's step wakes it
+**     back     its action no longer fires, or its place has moved: it gave its locks back and will look again
+**     slept    its action cannot fire; it holds no lock and sleeps until another agent's step wakes it
 **     left     its place left and is on its way; the action is used up
 **     came     its place came to its destination
-**     opened   it opened a place: what was inside stands around it now, and the place's number is unused; the action is used up
+**     opened   it opened a place: what was inside stands in the agent's own place now, and the opened place's number is unused; the
+**              action is used up
 **     asleep   it sleeps; nothing changed
 **     done     it has no action left; nothing changed
 **
 ** Refused with 10 where the table is unsound, else with 11 where no such agent is in the cell; then the cell is as it was.
 */
-uint64_t keeper_step(keeper_cell *cell, uint8_t agent, uint8_t wish);
+keeper_answer keeper_step(keeper_cell *cell, uint8_t agent, uint8_t wish);
 
 /*
 ** keeper_list: writes the listing of the cell, in ASCII and without a closing zero byte, to text[0] and on. `room` is how many bytes may
@@ -190,7 +228,7 @@ uint64_t keeper_step(keeper_cell *cell, uint8_t agent, uint8_t wish);
 ** Answers the listing's length in keeper_length(answer); bytes past it are as they were. Refused with 10 where the table is unsound, else
 ** with 12 where the listing is longer than `room`; then the whole text is as it was. The cell is only read.
 */
-uint64_t keeper_list(const keeper_cell *cell, uint8_t *text, size_t room);
+keeper_answer keeper_list(const keeper_cell *cell, uint8_t *text, size_t room);
 
 /*
 ** keeper_check: whether the table is sound. A cell that keeper_bare or an accepted keeper_load wrote, and that only keeper_step has
@@ -198,38 +236,32 @@ uint64_t keeper_list(const keeper_cell *cell, uint8_t *text, size_t room);
 **
 ** Answers 0 if it is sound; refused with 10 if it is not. The cell is only read.
 */
-uint64_t keeper_check(const keeper_cell *cell);
+keeper_answer keeper_check(const keeper_cell *cell);
 
 /*
 ** keeper_idle: whether all agents are asleep or done, so that no step changes the cell any more.
 **
 ** Answers it in keeper_all_rest(answer). Refused with 10 where the table is unsound. The cell is only read.
 */
-uint64_t keeper_idle(const keeper_cell *cell);
-
-/*
-** An answer: bits 0 to 7 are 0, or the number with which the call was refused. The bits above are, for keeper_load, the offset of a
-** refusal; for keeper_step, the word (bits 8 to 15) and the number woken (bits 16 to 23); for keeper_list, the length; for keeper_idle, 1
-** if all agents are asleep or done.
-*/
+keeper_answer keeper_idle(const keeper_cell *cell);
 
 /* The number with which the call was refused, or 0. */
-static inline unsigned keeper_refusal(uint64_t answer) { return (unsigned)(answer & 255); }
+static inline unsigned keeper_refusal(keeper_answer answer) { return (unsigned)(answer & 255); }
 
 /* The offset at which keeper_load refused the file. */
-static inline size_t keeper_offset(uint64_t answer) { return (size_t)(answer >> 8); }
+static inline size_t keeper_offset(keeper_answer answer) { return (size_t)(answer >> 8); }
 
 /* The word that keeper_step answers. */
-static inline unsigned keeper_word(uint64_t answer) { return (unsigned)(answer >> 8 & 255); }
+static inline unsigned keeper_word(keeper_answer answer) { return (unsigned)(answer >> 8 & 255); }
 
 /* How many agents the step woke. */
-static inline unsigned keeper_woken(uint64_t answer) { return (unsigned)(answer >> 16 & 255); }
+static inline unsigned keeper_woken(keeper_answer answer) { return (unsigned)(answer >> 16 & 255); }
 
 /* The length of the listing that keeper_list wrote. */
-static inline size_t keeper_length(uint64_t answer) { return (size_t)(answer >> 8); }
+static inline size_t keeper_length(keeper_answer answer) { return (size_t)(answer >> 8); }
 
 /* 1 if keeper_idle found all agents asleep or done, else 0. */
-static inline int keeper_all_rest(uint64_t answer) { return (int)(answer >> 8 & 1); }
+static inline int keeper_all_rest(keeper_answer answer) { return (int)(answer >> 8 & 1); }
 
 /* The word's name, as `walk` prints it; "unknown" for a number that is no word. */
 static inline const char *keeper_word_name(unsigned word)

@@ -34,11 +34,11 @@ static uint8_t *exactly(const void *bytes, size_t length)
 }
 
 /* The answer to a file that must be refused, after which the cell must be as it was. */
-static uint64_t refused(keeper_cell *cell, const uint8_t *bytes, size_t length)
+static keeper_answer refused(keeper_cell *cell, const uint8_t *bytes, size_t length)
 {
     keeper_cell *before = (keeper_cell *)(void *)exactly(cell, sizeof *cell);
     uint8_t *file = exactly(bytes, length);
-    uint64_t answer = keeper_load(cell, file, length);
+    keeper_answer answer = keeper_load(cell, file, length);
 
     HOLDS(keeper_refusal(answer) != 0);
     HOLDS(memcmp(cell, before, sizeof *cell) == 0);
@@ -54,7 +54,7 @@ static void loads(keeper_cell *cell)
     static const uint8_t no_parent[6] = {1, 5, 5, 7, 0, 4};
     static const uint8_t too_large[6] = {1, 64, 0, 7, 0, 4};
     static const uint8_t largest[6] = {1, 63, 0, 7, 0, 4};
-    uint64_t answer;
+    keeper_answer answer;
 
     HOLDS(keeper_load(cell, example, sizeof example) == 0);
     answer = refused(cell, example, 0);
@@ -83,7 +83,7 @@ static void steps(keeper_cell *cell)
 
     HOLDS(keeper_load(cell, example, sizeof example) == 0);
     for (int at = 0; at < 13; at++) {
-        uint64_t answer = keeper_step(cell, agents[at], 255);
+        keeper_answer answer = keeper_step(cell, agents[at], 255);
         HOLDS(keeper_refusal(answer) == 0);
         HOLDS(strcmp(keeper_word_name(keeper_word(answer)), words[at]) == 0);
         HOLDS(keeper_woken(answer) == (keeper_word(answer) == KEEPER_CAME ? 1 : 0));
@@ -106,7 +106,7 @@ static void listings(keeper_cell *cell)
     for (size_t room = 0; room < 40; room++) {
         uint8_t dots[40];
         uint8_t *text;
-        uint64_t answer;
+        keeper_answer answer;
         size_t length = room < 22 ? 0 : 22;
 
         memset(dots, '.', sizeof dots);
@@ -137,6 +137,13 @@ static void unsound(keeper_cell *cell)
     HOLDS(keeper_length(keeper_list(cell, text, 1)) == 1 && text[0] == '0' && text[1] == 2);
 }
 
+static void library(void)
+{
+    HOLDS(keeper_version() == KEEPER_VERSION);
+    HOLDS(keeper_cell_bytes() == sizeof(keeper_cell) && sizeof(keeper_cell) == KEEPER_CELL_BYTES);
+    HOLDS(keeper_fits());
+}
+
 static void texts(void)
 {
     HOLDS(strcmp(keeper_refusal_text(KEEPER_NO_SUCH_AGENT), "no such agent") == 0);
@@ -150,6 +157,7 @@ int main(void)
 {
     static keeper_cell cell;
 
+    library();
     HOLDS(keeper_bare(&cell) == 0);
     loads(&cell);
     steps(&cell);

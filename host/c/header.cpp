@@ -11,9 +11,11 @@ int main()
     const uint8_t file[] = {1, 1, 0, 7, 0, 4};
     uint8_t text[KEEPER_LISTING_LONGEST];
 
+    if (!keeper_fits() || keeper_version() != KEEPER_VERSION)
+        return 1;
     if (keeper_bare(&cell) != 0 || keeper_load(&cell, file, sizeof file) != 0 || keeper_check(&cell) != 0)
         return 1;
-    const uint64_t answer = keeper_list(&cell, text, sizeof text);
+    const keeper_answer answer = keeper_list(&cell, text, sizeof text);
     if (keeper_refusal(answer) != 0 || keeper_length(answer) != 3 || std::memcmp(text, "7[]", 3) != 0)
         return 1;
     if (!keeper_all_rest(keeper_idle(&cell)) || keeper_refusal(keeper_step(&cell, 0, 0)) != KEEPER_NO_SUCH_AGENT)

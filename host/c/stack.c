@@ -94,6 +94,8 @@ int main(void)
     const char *const names[6] = {"bare", "load", "check", "idle", "list", "step"};
     size_t most = 0;
 
+    if (!keeper_fits())
+        return 1;
     for (uint8_t kind = 1; kind <= 3; kind++) {
         for (int nested = 0; nested < 2; nested++) {
             make_file(nested, kind);

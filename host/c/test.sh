@@ -35,6 +35,16 @@ case_of 'empty cell' '' "$order" 'refused 1 0\n'
 case_of 'after the end' '\004\004' "$order" 'refused 9 1\n'
 case_of 'no end' '\001\001\000\007\000' "$order" 'refused 1 5\n'
 
+# a library that does not fit: the host says so and makes no call
+printf "$cell" > "$folder/cell"
+status=0
+target/walk-other "$folder/cell" "$folder/order" > "$folder/printed" 2> "$folder/said" || status=$?
+if [ "$status" -ne 1 ] || [ -s "$folder/printed" ]; then
+    echo "target/walk-other ended with $status"
+    exit 1
+fi
+passed=$((passed + 1))
+
 for program in calls calls-sanitized header; do
     printf '%s: ' "$program"
     "target/$program"

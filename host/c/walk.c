@@ -7,6 +7,7 @@
 */
 #include "../keeper.h"
 
+#include <inttypes.h>
 #include <stdio.h>
 
 /* How many pairs of an order are taken. */
@@ -29,7 +30,7 @@ static size_t read_file(const char *name, uint8_t *bytes, size_t room)
 static void print_listing(const char *word, const keeper_cell *cell)
 {
     static uint8_t text[KEEPER_LISTING_LONGEST];
-    uint64_t answer = keeper_list(cell, text, sizeof text);
+    keeper_answer answer = keeper_list(cell, text, sizeof text);
 
     printf("%s %.*s\n", word, (int)keeper_length(answer), (const char *)text);
 }
@@ -37,7 +38,7 @@ static void print_listing(const char *word, const keeper_cell *cell)
 /* Makes the step and prints a line of the agent, the answer and the number woken. */
 static void print_step(keeper_cell *cell, uint8_t agent, uint8_t wish)
 {
-    uint64_t answer = keeper_step(cell, agent, wish);
+    keeper_answer answer = keeper_step(cell, agent, wish);
 
     if (keeper_refusal(answer) != 0)
         printf("%d refused %u\n", agent, keeper_refusal(answer));
@@ -52,8 +53,13 @@ int main(int count, char **names)
     static uint8_t order[2 * PAIRS];
     size_t file_length = read_file(count > 1 ? names[1] : "cell", file, sizeof file);
     size_t order_length = read_file(count > 2 ? names[2] : "order", order, sizeof order);
-    uint64_t answer;
+    keeper_answer answer;
 
+    if (!keeper_fits()) {
+        fprintf(stderr, "libkeeper.a has version %#" PRIx64 " and cells of %" PRIu64 " bytes; this host was made for %#x and %d\n",
+                keeper_version(), keeper_cell_bytes(), (unsigned)KEEPER_VERSION, KEEPER_CELL_BYTES);
+        return 1;
+    }
     keeper_bare(&cell);
     answer = keeper_load(&cell, file, file_length);
     if (keeper_refusal(answer) != 0) {

@@ -4,19 +4,25 @@
 //!
 //! The files are `cell` and `order` unless named. An absent file reads as empty; an odd last byte and pairs past the limit are passed over.
 
-use keeper::Cell;
+use keeper::{check_library, Cell};
 use std::io::{self, BufWriter, Write};
+use std::process::ExitCode;
 
 /// How many pairs of an order are taken.
 const PAIRS: usize = 16_384;
 
-fn main() -> io::Result<()> {
+fn main() -> io::Result<ExitCode> {
+    if let Err(refused) = check_library() {
+        eprintln!("libkeeper.a: {refused}");
+        return Ok(ExitCode::FAILURE);
+    }
     let mut names = std::env::args_os().skip(1);
     let cell = names.next().unwrap_or("cell".into());
     let order = names.next().unwrap_or("order".into());
     let file = std::fs::read(cell).unwrap_or_default();
     let order = std::fs::read(order).unwrap_or_default();
-    walk(&file, &order, &mut BufWriter::new(io::stdout().lock()))
+    walk(&file, &order, &mut BufWriter::new(io::stdout().lock()))?;
+    Ok(ExitCode::SUCCESS)
 }
 
 /// Writes the first and the last listing and, between them, a line for each step.

@@ -1,10 +1,11 @@
-//! Words and refusals, with the texts of the paper.
+//! Words and refusals, with the library's numbers and texts.
 
-use std::error::Error;
-use std::fmt;
+use core::error::Error;
+use core::fmt;
 
-/// What a step did.
+/// What a step did. A later library may answer words that are not named here.
 #[derive(Clone, Copy, PartialEq, Eq, Hash, Debug)]
+#[non_exhaustive]
 pub enum Word {
     /// The agent found the place that it will lock first.
     Looked,
@@ -12,58 +13,81 @@ pub enum Word {
     Took,
     /// The lock that it needs is held by another agent; nothing changed.
     Held,
-    /// It let go of its locks, because the place has moved meanwhile, and will look again.
+    /// Its action no longer fires, or its place has moved: it gave its locks back and will look again.
     Back,
-    /// Its action cannot fire; it sleeps until another agent's step wakes it.
+    /// Its action cannot fire; it holds no lock and sleeps until another agent's step wakes it.
     Slept,
     /// Its place left and is on its way; the action is used up.
     Left,
     /// Its place came to its destination.
     Came,
-    /// It opened a place: what was inside stands around it now; the action is used up.
+    /// It opened a place: what was inside stands in the agent's own place now, and the opened place's number is unused; the action is used up.
     Opened,
     /// It sleeps; nothing changed.
     Asleep,
     /// It has no action left; nothing changed.
     Done,
+    /// A word of a later library, by its number.
+    Unknown(u8),
 }
 
-/// Why a call was refused; the numbers are those of the library.
+/// Why a call was refused. A later library may refuse for reasons that are not named here.
 #[derive(Clone, Copy, PartialEq, Eq, Hash, Debug)]
-#[repr(u8)]
+#[non_exhaustive]
 pub enum Refusal {
-    CutShort = 1,
-    UnknownKind = 2,
-    TooLarge = 3,
-    GivenTwice = 4,
-    NotYetGiven = 5,
-    NameZero = 6,
-    ActionKind = 7,
-    SeventeenthAction = 8,
-    AfterTheEnd = 9,
-    Unsound = 10,
-    NoSuchAgent = 11,
-    ListingTooLong = 12,
+    /// 1: the file is cut short: a body incomplete, or no end record.
+    CutShort,
+    /// 2: a record of unknown kind, not 1 to 4.
+    UnknownKind,
+    /// 3: a number too large, or place number 0.
+    TooLarge,
+    /// 4: a number given twice.
+    GivenTwice,
+    /// 5: a parent, home or agent not yet given.
+    NotYetGiven,
+    /// 6: name 0 in a place or action.
+    NameZero,
+    /// 7: an action kind that is not 1 to 3.
+    ActionKind,
+    /// 8: an agent's seventeenth action.
+    SeventeenthAction,
+    /// 9: bytes after the end record.
+    AfterTheEnd,
+    /// 10: an unsound table.
+    Unsound,
+    /// 11: no such agent in the cell.
+    NoSuchAgent,
+    /// 12: the listing is longer than the text lent for it.
+    ListingTooLong,
+    /// 255, which no library answers: the linked library is not one that this crate was made for, and was not called.
+    OtherLibrary,
+    /// A refusal of a later library, by its number.
+    Unknown(u8),
 }
 
-/// A refused call: why, and for a load the byte offset of the faulty record.
+/// A refused call: it changed nothing.
 #[derive(Clone, Copy, PartialEq, Eq, Hash, Debug)]
 pub struct Refused {
+    /// Why.
     pub refusal: Refusal,
+    /// For a file that the library refused, the byte offset of the faulty record: of a missing end record, the file's length; of bytes
+    /// after the end record, the first of them.
     pub offset: Option<usize>,
 }
 
-/// What a step did and how many sleeping agents that woke.
+/// What a step did.
 #[derive(Clone, Copy, PartialEq, Eq, Hash, Debug)]
 pub struct Stepped {
+    /// What the agent did.
     pub word: Word,
+    /// How many sleeping agents that woke.
     pub woken: u8,
 }
 
 impl Word {
     /// The word with the library's number.
-    pub(crate) fn of(number: u8) -> Option<Word> {
-        Some(match number {
+    pub(crate) fn of(number: u8) -> Word {
+        match number {
             0 => Word::Looked,
             1 => Word::Took,
             2 => Word::Held,
@@ -74,11 +98,11 @@ impl Word {
             7 => Word::Opened,
             9 => Word::Asleep,
             10 => Word::Done,
-            _ => return None,
-        })
+            _ => Word::Unknown(number),
+        }
     }
 
-    /// The word as `walk` prints it.
+    /// The word as `walk` prints it; "unknown" for one that is not named here.
     pub fn name(self) -> &'static str {
         match self {
             Word::Looked => "looked",
@@ -91,12 +115,13 @@ impl Word {
             Word::Opened => "opened",
             Word::Asleep => "asleep",
             Word::Done => "done",
+            Word::Unknown(_) => "unknown",
         }
     }
 }
 
 impl Refusal {
-    /// All refusals, in the order of their numbers.
+    /// The library's refusals, 1 to 12, in the order of their numbers.
     pub const ALL: [Refusal; 12] = [
         Refusal::CutShort,
         Refusal::UnknownKind,
@@ -112,17 +137,50 @@ impl Refusal {
         Refusal::ListingTooLong,
     ];
 
-    /// The refusal with this number.
-    pub(crate) fn of(number: u8) -> Option<Refusal> {
-        Refusal::ALL.into_iter().find(|refusal| refusal.number() == number)
+    /// The number of [`Refusal::OtherLibrary`].
+    pub(crate) const OTHER_LIBRARY: u8 = 255;
+
+    /// The refusal with this number, which is not 0.
+    pub(crate) fn of(number: u8) -> Refusal {
+        match number {
+            1 => Refusal::CutShort,
+            2 => Refusal::UnknownKind,
+            3 => Refusal::TooLarge,
+            4 => Refusal::GivenTwice,
+            5 => Refusal::NotYetGiven,
+            6 => Refusal::NameZero,
+            7 => Refusal::ActionKind,
+            8 => Refusal::SeventeenthAction,
+            9 => Refusal::AfterTheEnd,
+            10 => Refusal::Unsound,
+            11 => Refusal::NoSuchAgent,
+            12 => Refusal::ListingTooLong,
+            Refusal::OTHER_LIBRARY => Refusal::OtherLibrary,
+            _ => Refusal::Unknown(number),
+        }
     }
 
-    /// The refusal's number, 1 to 12.
+    /// The refusal's number.
     pub fn number(self) -> u8 {
-        self as u8
+        match self {
+            Refusal::CutShort => 1,
+            Refusal::UnknownKind => 2,
+            Refusal::TooLarge => 3,
+            Refusal::GivenTwice => 4,
+            Refusal::NotYetGiven => 5,
+            Refusal::NameZero => 6,
+            Refusal::ActionKind => 7,
+            Refusal::SeventeenthAction => 8,
+            Refusal::AfterTheEnd => 9,
+            Refusal::Unsound => 10,
+            Refusal::NoSuchAgent => 11,
+            Refusal::ListingTooLong => 12,
+            Refusal::OtherLibrary => Refusal::OTHER_LIBRARY,
+            Refusal::Unknown(number) => number,
+        }
     }
 
-    /// What the number means.
+    /// What the number means; "unknown" for one that is not named here.
     pub fn text(self) -> &'static str {
         match self {
             Refusal::CutShort => "cut short: a body incomplete, or no end record",
@@ -137,6 +195,8 @@ impl Refusal {
             Refusal::Unsound => "unsound table",
             Refusal::NoSuchAgent => "no such agent",
             Refusal::ListingTooLong => "listing longer than the buffer",
+            Refusal::OtherLibrary => "not the library that this crate was made for",
+            Refusal::Unknown(_) => "unknown",
         }
     }
 }
@@ -166,3 +226,23 @@ impl fmt::Display for Refused {
 impl Error for Refusal {}
 
 impl Error for Refused {}
+
+#[cfg(test)]
+mod tests {
+    use super::{Refusal, Word};
+
+    #[test]
+    fn every_number_has_a_refusal_and_a_word() {
+        for number in 1..=255 {
+            assert_eq!(Refusal::of(number).number(), number);
+        }
+        assert!((0..=255).all(|number| (Word::of(number) == Word::Unknown(number)) == (number == 8 || number > 10)));
+    }
+
+    #[test]
+    fn unknown_numbers_have_texts() {
+        assert_eq!(Refusal::of(13), Refusal::Unknown(13));
+        assert_eq!(Refusal::of(13).text(), "unknown");
+        assert_eq!(Word::of(8).name(), "unknown");
+    }
+}

@@ -1,52 +1,84 @@
 //! The memory that a host lends, and the exports of the library: the only unsafe code of the crate.
 //!
-//! Each function answers the library's number as it is; the bits are described in `keeper.h`. [`crate::Cell`] takes them apart.
+//! Each function answers the library's number as it is; the bits are described in `keeper.h`. [`crate::Cell`] takes them apart. Where the
+//! library does not fit ([`fits`]), it is not called: the answer is 255 and nothing changes.
 
-use std::mem::{offset_of, size_of};
+use crate::answer::Refusal;
+use crate::VERSION;
+use core::mem::{offset_of, size_of};
 
 /// The size of a cell in bytes.
-pub const SIZE: usize = 4816;
+pub const SIZE: usize = 4_816;
 
-/// A place: `way` is 0 where it is linked to `parent`, else it is on its way to `parent`. The floor has name 0, parent 0 and way 1.
+/// The number of places that a cell has room for; place 0 is the floor.
+pub const PLACES: usize = 64;
+
+/// The number of agents that a cell has room for.
+pub const AGENTS: usize = 64;
+
+/// The number of actions that an agent has room for.
+pub const ACTIONS: usize = 16;
+
+/// The lock of a place that no agent holds.
+pub const FREE: u8 = 64;
+
+/// A place.
 #[repr(C)]
 #[derive(Clone, Copy, PartialEq, Eq, Debug)]
 pub struct Place {
+    /// Its name, from 1 on; the floor's is 0.
     pub name: u16,
+    /// The place that it is linked to, or on its way to; the floor's is 0.
     pub parent: u8,
+    /// 0 where it is linked, else it is on its way; the floor's is 1.
     pub way: u8,
 }
 
-/// An action: 1 enter, 2 exit, 3 open; and the name of the place that it acts on. `padding` means nothing.
+/// An action.
 #[repr(C)]
 #[derive(Clone, Copy, PartialEq, Eq, Debug)]
 pub struct Action {
+    /// 1 enter, 2 exit, 3 open.
     pub kind: u8,
+    /// Means nothing.
     pub padding: u8,
+    /// The name of the place that it acts on, from 1 on.
     pub name: u16,
 }
 
-/// An agent: `actions[next]` to before `actions[count]` are its unused actions.
+/// An agent.
 #[repr(C)]
 #[derive(Clone, Copy, PartialEq, Eq, Debug)]
 pub struct Agent {
+    /// The place that it lives in.
     pub home: u8,
+    /// Its stage, 0 to 8.
     pub stage: u8,
+    /// The place that it remembers at stages 1 to 3 and 7.
     pub remembered: u8,
+    /// The place that it has chosen, at stage 3 of enter and open.
     pub chosen: u8,
+    /// The index of its next action; those before it are used up.
     pub next: u8,
+    /// How many actions it was loaded with.
     pub count: u8,
-    pub actions: [Action; 16],
+    /// Its actions.
+    pub actions: [Action; ACTIONS],
 }
 
-/// A cell as the library keeps it: a lock of 64 is free; bit i of `used` and `given` is set where place i and agent i are in use. Two are
-/// equal where all their bytes are, also those that mean nothing.
+/// A cell as the library keeps it. Two are equal where all their bytes are, also those that mean nothing.
 #[repr(C)]
 #[derive(Clone, PartialEq, Eq, Debug)]
 pub struct Lent {
-    pub places: [Place; 64],
-    pub locks: [u8; 64],
-    pub agents: [Agent; 64],
+    /// The places.
+    pub places: [Place; PLACES],
+    /// For each place the agent that holds its lock, or [`FREE`].
+    pub locks: [u8; PLACES],
+    /// The agents.
+    pub agents: [Agent; AGENTS],
+    /// Bit i is set where place i is in use.
     pub used: u64,
+    /// Bit i is set where agent i is in use.
     pub given: u64,
 }
 
@@ -59,6 +91,8 @@ const _: () = assert!(offset_of!(Lent, locks) == 256 && offset_of!(Lent, agents)
 const _: () = assert!(offset_of!(Lent, used) == 4800 && offset_of!(Lent, given) == 4808);
 
 extern "C" {
+    fn keeper_version() -> u64;
+    fn keeper_cell_bytes() -> u64;
     fn keeper_bare(cell: *mut Lent) -> u64;
     fn keeper_load(cell: *mut Lent, file: *const u8, len: usize) -> u64;
     fn keeper_step(cell: *mut Lent, agent: u8, wish: u8) -> u64;
@@ -67,7 +101,39 @@ extern "C" {
     fn keeper_idle(cell: *const Lent) -> u64;
 }
 
-// SAFETY of every call below: a reference is not null, is aligned, is initialised and is not shared with a writer for as long as the
+/// The version of the linked library: the major number from bit 16 on, the minor one in bits 8 to 15, the patch in bits 0 to 7.
+pub fn version() -> u64 {
+    // SAFETY: it takes nothing and touches no memory.
+    unsafe { keeper_version() }
+}
+
+/// The size of a cell in bytes, as the linked library keeps it.
+pub fn cell_bytes() -> u64 {
+    // SAFETY: it takes nothing and touches no memory.
+    unsafe { keeper_cell_bytes() }
+}
+
+/// Whether the linked library is one that this crate was made for: the same major number, the same minor number or a later one, and a
+/// cell of [`SIZE`] bytes.
+pub fn fits() -> bool {
+    fitting(version(), cell_bytes())
+}
+
+/// Whether a library of this version, with cells of this size, is one that this crate was made for.
+fn fitting(version: u64, cell_bytes: u64) -> bool {
+    version >> 16 == VERSION >> 16 && version >> 8 >= VERSION >> 8 && cell_bytes == SIZE as u64
+}
+
+/// The answer of a call, which is made only where the library fits.
+fn asked(call: impl FnOnce() -> u64) -> u64 {
+    if fits() {
+        call()
+    } else {
+        Refusal::OTHER_LIBRARY.into()
+    }
+}
+
+// SAFETY of every call below: the library fits, so it takes a cell for what `Lent` says; a reference is not null, is aligned, is initialised and is not shared with a writer for as long as the
 // call runs, and references that are lent together do not overlap. The library keeps no pointer after a call, and writes only values
 // for which every bit pattern is allowed. All fields are integers without gaps between them, so a cell can be read and written as bytes.
 
@@ -75,38 +141,38 @@ impl Lent {
     /// A cell of zeros, which is no sound table yet.
     pub fn zeros() -> Lent {
         let action = Action { kind: 0, padding: 0, name: 0 };
-        let agent = Agent { home: 0, stage: 0, remembered: 0, chosen: 0, next: 0, count: 0, actions: [action; 16] };
-        Lent { places: [Place { name: 0, parent: 0, way: 0 }; 64], locks: [0; 64], agents: [agent; 64], used: 0, given: 0 }
+        let agent = Agent { home: 0, stage: 0, remembered: 0, chosen: 0, next: 0, count: 0, actions: [action; ACTIONS] };
+        Lent { places: [Place { name: 0, parent: 0, way: 0 }; PLACES], locks: [0; PLACES], agents: [agent; AGENTS], used: 0, given: 0 }
     }
 
     /// Makes the cell a bare floor.
     pub fn bare(&mut self) -> u64 {
-        unsafe { keeper_bare(self) }
+        asked(|| unsafe { keeper_bare(self) })
     }
 
     /// Makes the cell what the cell file says.
     pub fn load(&mut self, file: &[u8]) -> u64 {
-        unsafe { keeper_load(self, file.as_ptr(), file.len()) }
+        asked(|| unsafe { keeper_load(self, file.as_ptr(), file.len()) })
     }
 
     /// One lock step of an agent.
     pub fn step(&mut self, agent: u8, wish: u8) -> u64 {
-        unsafe { keeper_step(self, agent, wish) }
+        asked(|| unsafe { keeper_step(self, agent, wish) })
     }
 
     /// Writes the listing to the start of the text.
     pub fn list(&self, text: &mut [u8]) -> u64 {
-        unsafe { keeper_list(self, text.as_mut_ptr(), text.len()) }
+        asked(|| unsafe { keeper_list(self, text.as_mut_ptr(), text.len()) })
     }
 
     /// Whether the table is sound.
     pub fn check(&self) -> u64 {
-        unsafe { keeper_check(self) }
+        asked(|| unsafe { keeper_check(self) })
     }
 
     /// Whether all agents are asleep or done.
     pub fn idle(&self) -> u64 {
-        unsafe { keeper_idle(self) }
+        asked(|| unsafe { keeper_idle(self) })
     }
 
     /// The bytes of the cell.
@@ -117,5 +183,19 @@ impl Lent {
     /// The bytes of the cell, to write.
     pub fn bytes_mut(&mut self) -> &mut [u8; SIZE] {
         unsafe { &mut *(self as *mut Lent).cast() }
+    }
+}
+
+#[cfg(test)]
+mod tests {
+    use super::{fits, fitting, SIZE, VERSION};
+
+    #[test]
+    fn libraries_that_fit() {
+        let size = SIZE as u64;
+        assert!(fits());
+        assert!(fitting(VERSION, size) && fitting(VERSION + 1, size) && fitting(VERSION + 256, size));
+        assert!(!fitting(VERSION + 65_536, size) && !fitting(VERSION - 65_536, size));
+        assert!(!fitting(VERSION, size + 8) && !fitting(VERSION, 0));
     }
 }

@@ -4,7 +4,8 @@
 //! stepped once per lock step. Every call ends, every input is accepted or refused with a number, and a refused call changes nothing.
 //!
 //! The crate is a thin safe layer over the C exports of libkeeper.a, which it links from the folder that the environment variable
-//! KEEPER_LIB_DIR names (or from the repository's target/staticlib). It allocates only in [`Cell::listing`].
+//! KEEPER_LIB_DIR names (or from the repository's target/staticlib). It needs no `std`. It allocates only in `Cell::listing`, which the
+//! feature `alloc`, on by default, adds. No function of it panics.
 //!
 //! ```
 //! use keeper::{Cell, Refusal, Word};
@@ -12,17 +13,35 @@
 //! // Place 1, named 7, and place 2, named 9, stand on the floor; agent 0 lives in place 1 and has one action: enter 9.
 //! let file = [1, 1, 0, 7, 0, 1, 2, 0, 9, 0, 2, 0, 1, 3, 0, 1, 9, 0, 4];
 //! let mut cell = Cell::load(&file)?;
-//! assert_eq!(cell.listing()?, "7[enter 9] | 9[]");
+//! let mut text = [0; keeper::LISTING_LONGEST];
+//! let length = cell.list(&mut text)?;
+//! assert_eq!(&text[..length], b"7[enter 9] | 9[]");
 //!
 //! while !cell.idle()? {
 //!     let stepped = cell.step(0, 255)?;
 //!     println!("{} {}", stepped.word, stepped.woken);
 //! }
-//! assert_eq!(cell.listing()?, "9[7[]]");
+//! let length = cell.list(&mut text)?;
+//! assert_eq!(&text[..length], b"9[7[]]");
 //! assert_eq!(cell.step(0, 255)?.word, Word::Done);
 //! assert_eq!(cell.step(1, 255).unwrap_err().refusal, Refusal::NoSuchAgent);
 //! # Ok::<(), keeper::Refused>(())
 //! ```
+//!
+//! # What a host owes
+//!
+//! The thread that calls has [`STACK`] bytes of stack left. Rust's own threads have 2 MiB unless they are given less.
+//!
+//! # The library
+//!
+//! Before each call of the library the crate asks for its version and the size of its cells ([`lent::fits`]). One that it was not made for is not
+//! called: everything is refused with [`Refusal::OtherLibrary`]. [`check_library`] asks for nothing but that.
+
+#![no_std]
+#![deny(missing_docs)]
+
+#[cfg(feature = "alloc")]
+extern crate alloc;
 
 mod answer;
 pub mod lent;
@@ -30,11 +49,21 @@ pub mod lent;
 pub use answer::{Refusal, Refused, Stepped, Word};
 use lent::Lent;
 
+/// The version of the library that this crate was made for: the major number from bit 16 on, the minor one in bits 8 to 15, the patch in
+/// bits 0 to 7.
+pub const VERSION: u64 = 65_536;
+
 /// The longest cell file that can be accepted.
 pub const FILE_LONGEST: usize = 5_628;
 
-/// The longest listing: with a buffer of this size, [`Cell::list`] is never refused with 12.
+/// How many bytes of a file, at its start, always decide the answer to it: of a longer file a host may read and load those.
+pub const FILE_DECIDING: usize = 5_633;
+
+/// The longest listing: with a text of this size, [`Cell::list`] is never refused with 12.
 pub const LISTING_LONGEST: usize = 13_043;
+
+/// The stack that a call uses, in bytes, at most: measured by `host/c/stack.c`, not proved.
+pub const STACK: usize = 65_536;
 
 /// A cell. One that came from [`Cell::bare`] or [`Cell::load`] stays sound, so its calls are never refused with 10.
 #[derive(Clone, Debug)]
@@ -49,37 +78,55 @@ impl Default for Cell {
 }
 
 impl Cell {
-    /// A bare floor, with no other place and no agent.
+    /// A bare floor, with no other place and no agent. Where the library does not fit, nothing is written, and each call of the cell is refused.
     pub fn bare() -> Cell {
         let mut lent = Lent::zeros();
         lent.bare();
         Cell { lent }
     }
 
-    /// The cell that the cell file says, or why it was refused and at which byte.
+    /// The cell that the cell file says.
+    ///
+    /// # Errors
+    ///
+    /// Refused with 1 to 9 where the file is faulty, with the byte offset of the first faulty record.
     pub fn load(file: &[u8]) -> Result<Cell, Refused> {
         let mut cell = Cell::bare();
         cell.reload(file)?;
         Ok(cell)
     }
 
-    /// Makes the cell what the cell file says; if the file is refused, the cell is as it was.
+    /// Makes the cell what the cell file says. What it held before plays no part.
+    ///
+    /// # Errors
+    ///
+    /// As for [`Cell::load`]; the cell is then as it was.
     pub fn reload(&mut self, file: &[u8]) -> Result<(), Refused> {
         let answer = self.lent.load(file);
-        accepted(answer).map_err(|refused| Refused { offset: Some((answer >> 8) as usize), ..refused })
+        accepted(answer).map_err(|refused| match refused.refusal {
+            Refusal::OtherLibrary => refused,
+            _ => Refused { offset: Some((answer >> 8) as usize), ..refused },
+        })
     }
 
-    /// One lock step of an agent. `wish` is the number of the place that an enter or open should choose where several qualify; a wish for
-    /// any other place, such as 255, is passed over. Refused with 11 where no such agent is in the cell.
+    /// One lock step of an agent. `wish` is the number of the place that an enter or open should choose where several qualify. It counts
+    /// in the call in which the agent, holding its first lock, chooses. A wish for a place that does not qualify, or for none, such as 255,
+    /// is passed over, and the lowest qualifying number is chosen.
+    ///
+    /// # Errors
+    ///
+    /// Refused with 10 where the table is unsound, else with 11 where no such agent is in the cell; the cell is then as it was.
     pub fn step(&mut self, agent: u8, wish: u8) -> Result<Stepped, Refused> {
         let answer = self.lent.step(agent, wish);
         accepted(answer)?;
-        let word = Word::of((answer >> 8) as u8).expect("libkeeper.a answers a word that this crate does not know");
-        Ok(Stepped { word, woken: (answer >> 16) as u8 })
+        Ok(Stepped { word: Word::of((answer >> 8) as u8), woken: (answer >> 16) as u8 })
     }
 
-    /// Writes the listing, in ASCII, to the start of the text and answers its length; bytes past it are as they were. Refused with 12 where
-    /// the listing is longer than the text; then the whole text is as it was.
+    /// Writes the listing, in ASCII, to the start of the text and answers its length; bytes past it are as they were.
+    ///
+    /// # Errors
+    ///
+    /// Refused with 10 where the table is unsound, else with 12 where the listing is longer than the text; the whole text is then as it was.
     pub fn list(&self, text: &mut [u8]) -> Result<usize, Refused> {
         let answer = self.lent.list(text);
         accepted(answer)?;
@@ -87,19 +134,31 @@ impl Cell {
     }
 
     /// The listing as a string.
-    pub fn listing(&self) -> Result<String, Refused> {
-        let mut text = vec![0; LISTING_LONGEST];
+    ///
+    /// # Errors
+    ///
+    /// Refused with 10 where the table is unsound.
+    #[cfg(feature = "alloc")]
+    pub fn listing(&self) -> Result<alloc::string::String, Refused> {
+        let mut text = alloc::vec![0; LISTING_LONGEST];
         let length = self.list(&mut text)?;
-        text.truncate(length);
-        Ok(String::from_utf8(text).expect("a listing is in ASCII"))
+        Ok(text.into_iter().take(length).map(char::from).collect())
     }
 
-    /// Refused with 10 where the table is unsound, which only a cell from [`Cell::from_lent`] can be.
+    /// Whether the table is sound: only a cell from [`Cell::from_lent`] can be unsound.
+    ///
+    /// # Errors
+    ///
+    /// Refused with 10 where it is unsound.
     pub fn check(&self) -> Result<(), Refused> {
         accepted(self.lent.check())
     }
 
     /// Whether all agents are asleep or done, so that no step changes the cell any more.
+    ///
+    /// # Errors
+    ///
+    /// Refused with 10 where the table is unsound.
     pub fn idle(&self) -> Result<bool, Refused> {
         let answer = self.lent.idle();
         accepted(answer)?;
@@ -117,13 +176,23 @@ impl Cell {
     }
 }
 
+/// Whether the linked library is one that this crate was made for.
+///
+/// # Errors
+///
+/// [`Refusal::OtherLibrary`] where it is not; then every other call is refused with it too.
+pub fn check_library() -> Result<(), Refused> {
+    if lent::fits() {
+        Ok(())
+    } else {
+        Err(Refused { refusal: Refusal::OtherLibrary, offset: None })
+    }
+}
+
 /// The number in bits 0 to 7 of an answer: 0, or why the call was refused.
 fn accepted(answer: u64) -> Result<(), Refused> {
     match answer as u8 {
         0 => Ok(()),
-        number => {
-            let refusal = Refusal::of(number).expect("libkeeper.a answers a refusal that this crate does not know");
-            Err(Refused { refusal, offset: None })
-        }
+        number => Err(Refused { refusal: Refusal::of(number), offset: None }),
     }
 }

@@ -1,7 +1,7 @@
 //! Each call of the crate: what it answers, and that a refusal changes nothing.
 
-use keeper::lent::Lent;
-use keeper::{Cell, Refusal, Refused, Stepped, Word, FILE_LONGEST, LISTING_LONGEST};
+use keeper::lent::{cell_bytes, fits, version, Lent, SIZE};
+use keeper::{check_library, Cell, Refusal, Refused, Stepped, Word, FILE_DECIDING, FILE_LONGEST, LISTING_LONGEST, VERSION};
 
 /// The paper's cell: `7[enter 9] | 9[exit 7]`.
 const FILE: [u8; 27] = [1, 1, 0, 7, 0, 1, 2, 0, 9, 0, 2, 0, 1, 3, 0, 1, 9, 0, 2, 1, 2, 3, 1, 2, 7, 0, 4];
@@ -20,6 +20,13 @@ fn the_worked_example() {
     }
     assert_eq!(cell.listing().unwrap(), "9[exit 7 | 7[]]");
     assert_eq!(cell.idle(), Ok(false));
+}
+
+#[test]
+fn the_library() {
+    assert_eq!((version(), cell_bytes()), (VERSION, SIZE as u64));
+    assert!(fits());
+    assert_eq!(check_library(), Ok(()));
 }
 
 #[test]
@@ -91,6 +98,8 @@ fn the_longest() {
     file.push(4);
     assert_eq!(file.len(), FILE_LONGEST);
     assert_eq!(Cell::load(&file).unwrap().listing().unwrap().len(), LISTING_LONGEST);
+    file.resize(FILE_DECIDING, 4);
+    assert_eq!(Cell::load(&file).unwrap_err(), Refused { refusal: Refusal::AfterTheEnd, offset: Some(FILE_LONGEST) });
 }
 
 #[test]
