@@ -64,7 +64,9 @@ fn table(workloads: &[Workload], pace: &Pace) {
     }
 }
 
+/// What a ratio says of its limits; it is judged as it is printed, with two digits.
 fn verdict(ratio: f64, limits: Limits) -> &'static str {
+    let ratio = (ratio * 100.0).round() / 100.0;
     if ratio <= limits.goal {
         "met"
     } else if limits.bar.is_some_and(|bar| ratio > bar) {
