@@ -19,7 +19,7 @@ static void holds(int test, const char *text, int line)
     }
 }
 
-/* The paper's cell, `7[enter 9] | 9[exit 7]`. */
+/* The worked example's cell, `7[enter 9] | 9[exit 7]`. */
 static const uint8_t example[27] = {1, 1, 0, 7, 0, 1, 2, 0, 9, 0, 2, 0, 1, 3, 0, 1, 9, 0, 2, 1, 2, 3, 1, 2, 7, 0, 4};
 
 /* A copy of these bytes in memory of exactly their size, so that a sanitizer sees a byte too many. */

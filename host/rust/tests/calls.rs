@@ -3,7 +3,7 @@
 use keeper::lent::{cell_bytes, fits, version, Lent, SIZE};
 use keeper::{check_library, Cell, Refusal, Refused, Stepped, Word, FILE_DECIDING, FILE_LONGEST, LISTING_LONGEST, VERSION};
 
-/// The paper's cell: `7[enter 9] | 9[exit 7]`.
+/// The worked example's cell: `7[enter 9] | 9[exit 7]`.
 const FILE: [u8; 27] = [1, 1, 0, 7, 0, 1, 2, 0, 9, 0, 2, 0, 1, 3, 0, 1, 9, 0, 2, 1, 2, 3, 1, 2, 7, 0, 4];
 
 #[test]
