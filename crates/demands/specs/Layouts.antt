@@ -25,8 +25,7 @@ use Rattle.meaning.specs.Listing.{placeTurn, contentsText, listing, Alike}
 use Rattle.meaning.specs.TreeListing.{rowText, actsIn, rowTurn, treeAgents, standTurn, treeContents, treeListing}
 use Rattle.demands.specs.Invariant.{Sound}
 use Rattle.demands.specs.Stages.{fit-given}
-use Rattle.demands.specs.Within.{bounded-within}
-use Rattle.demands.specs.ReadBack.{sound-within}
+use Rattle.demands.specs.Always.{sound-bounded}
 
 -- ---- an agent's text is its row of unused actions
 
@@ -145,7 +144,7 @@ same-tree-alike c d i j e = tree-listing c i ∙ ap treeListing e ∙ sym (tree-
 pub sound-tables-alike : (t u : Cell) → Sized t → Sized u → sound (cellOf t) ≡ true → sound (cellOf u) ≡ true
     → treeOf (cellOf t) ≡ treeOf (cellOf u) → Alike (cellOf t) (cellOf u)
 sound-tables-alike t u y z e f = same-tree-alike (cellOf t) (cellOf u)
-    (sound-within (cellOf t) (bounded-within (bounded t y)) e) (sound-within (cellOf u) (bounded-within (bounded u z)) f)
+    (sound-bounded (cellOf t) (bounded t y) e) (sound-bounded (cellOf u) (bounded u z) f)
 
 -- ---- alike is an equivalence
 

@@ -27,8 +27,7 @@ use Rattle.demands.specs.Ways.{Way, is-done, is-asleep, held-first, held
 use Rattle.demands.specs.Ways.{sleeps-alone, takes-first, goes-back, sleeps-stuck, takes-second, gives-up, enters, exits, opens}
 use Rattle.demands.specs.Ways.{takes-own, takes-destination, comes}
 use Rattle.demands.specs.StepWays.{step-way}
-use Rattle.demands.specs.Within.{bounded-within}
-use Rattle.demands.specs.ReadBack.{sound-within}
+use Rattle.demands.specs.Always.{sound-bounded}
 
 -- ---- the claim
 
@@ -189,7 +188,7 @@ woken-counted t z x wish = go (told (sound (cellOf t))) (told (cellOf t .given x
   where
     after : sound (cellOf t) ≡ true → cellOf t .given x ≡ true
         → step (cellOf t) x wish .woken ≡ countOf 64 (wokeUp (cellOf t) (cellOf (tableOf (step (cellOf t) x wish .cell))))
-    after e g = step-counts (cellOf t) (sound-within (cellOf t) (bounded-within (bounded t z)) e) x g wish ∙ count-ext 64 _ _ (λ y l.
+    after e g = step-counts (cellOf t) (sound-bounded (cellOf t) (bounded t z) e) x g wish ∙ count-ext 64 _ _ (λ y l.
         ap (λ (a : Agent). cellOf t .given y && (eqb (cellOf t .agent y .stage) 7 && eqb (a .stage) 0)) (read-agent _ y l))
 
     go : Told (sound (cellOf t)) → Told (cellOf t .given x)

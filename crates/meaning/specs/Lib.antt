@@ -20,4 +20,4 @@ pub mod BenchCalls
 pub mod BenchAfter
 pub mod Bench
 pub mod FileLaws
-pub mod CallLaws
+pub mod OrderLaws

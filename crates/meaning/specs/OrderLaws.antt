@@ -1,55 +1,12 @@
--- A refused call changes nothing, and which calls of an order walk makes. By the tests of each call, and by the order two bytes at a time.
-use mathlib.Core.Path.{_≡_, refl, ap, sym, subst}
-use mathlib.Core.Bool.{Bool, true, false}
+-- Which calls of an order `walk` makes. By the order, two bytes at a time.
+use mathlib.Core.Path.{_≡_, refl, subst}
 use mathlib.Core.List.{List, [], _∷_}
 use Prim.Native.Nat.{ℕ, zero, suc, _+_, _*_, _≤_, _<_}
 use native.Mathlib.Omega.{arith}
-use lib.Dec.{leb}
 use lib.ListN.{length, getD}
-use Rattle.table.specs.BaseLaws.{Told, yea, nay, told, clash}
-use Rattle.table.specs.Cell.{State, cellOf}
-use Rattle.table.specs.Sound.{sound}
-use Rattle.table.specs.declared.Cell.{Cell}
-use Rattle.meaning.specs.declared.Answer.{Answer}
-use Rattle.meaning.specs.declared.Answer.the-variants.{Did, Refused}
-use Rattle.meaning.specs.declared.Listed.{Listed}
-use Rattle.meaning.specs.declared.Listed.the-variants.{Length, Unlisted}
 use Rattle.meaning.specs.File.{load}
-use Rattle.meaning.specs.Run.{Call, stepOf, made, turnedAway}
-use Rattle.meaning.specs.Listing.{listing, listAnswer, listBuffer}
+use Rattle.meaning.specs.Run.{Call}
 use Rattle.meaning.specs.Report.{callsIn, reportOf, report}
-
--- ---- refusals
-
-abbrev did : Answer → Bool
-did (Did word woken) = true
-did (Refused number) = false
-
-abbrev isLength : Listed → Bool
-isLength (Length n) = true
-isLength (Unlisted number) = false
-
--- a refused step leaves the cell
-pub refused-step : (t : Cell) (x wish number : ℕ) → stepOf t x wish .answer ≡ Refused number → stepOf t x wish .cell ≡ t
-unfolding stepOf made turnedAway
-refused-step t x wish number = go (told (sound (cellOf t))) (told (cellOf t .given x))
-  where
-    go : Told (sound (cellOf t)) → Told (cellOf t .given x) → stepOf t x wish .answer ≡ Refused number → stepOf t x wish .cell ≡ t
-    go (yea e) (yea g) r = clash refl (ap did (rw (e, g) at r))
-    go (yea e) (nay g) r = rw (e, g)
-    go (nay e) _ r = rw e
-
--- a refused listing leaves the buffer
-pub refused-listing : (c : State) (buffer : List ℕ) (number : ℕ) → listAnswer c buffer ≡ Unlisted number → listBuffer c buffer ≡ buffer
-unfolding listAnswer listBuffer
-refused-listing c buffer number = go (told (sound c)) (told (leb (length (listing c)) (length buffer)))
-  where
-    go : Told (sound c) → Told (leb (length (listing c)) (length buffer)) → listAnswer c buffer ≡ Unlisted number → listBuffer c buffer ≡ buffer
-    go (yea e) (yea f) r = clash refl (ap isLength (rw (e, f) at r))
-    go (yea e) (nay f) r = rw (e, f)
-    go (nay e) _ r = rw e
-
--- ---- the calls of an order
 
 -- "pairs agent, wish; at most 16,384"; "An odd last byte and pairs past the limit are passed over": the calls that walk makes of an order
 pub record Reported (cell order : List ℕ) : Type 0 where
