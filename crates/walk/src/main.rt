@@ -53,14 +53,14 @@ fn usage() {
     );
 }
 
-// Whether the input has ended. Where a read before failed, the next fails too or finds more.
+// Whether the next read finds the input's end. After a read that failed it fails too or finds more, unless all had been read.
 fn has_ended(fd: i32) -> bool {
     let mut more = [0u8; 1];
     let got = libc::read(fd, &mut more);
     got == 0
 }
 
-// The bytes of an open file at the start of buf, as many as it holds.
+// The bytes of an open file at the start of buf, as many as it holds; the path is for the line where a read fails.
 fn read_open(fd: i32, path: &[u8], buf: &mut [u8]) -> Input
     ensures { λ r. ⌜ Within r (length (now (buf .exit))) ⌝ }
 {
@@ -91,7 +91,8 @@ fn read_file(path: &[u8], buf: &mut [u8]) -> Input
     input
 }
 
-// The bytes of the file that argument i names. A path that is too long is not cut: it would name another file.
+// The bytes of the file that argument i names. A path that is too long is not cut, since the cut one would name another file, and
+// an empty path names none.
 fn read_argument(i: usize, name: &[u8], buf: &mut [u8]) -> Input
     ensures { λ r. ⌜ Within r (length (now (buf .exit))) ⌝ }
 {
