@@ -1,8 +1,7 @@
 -- Tables that no file loads, for the rows on calls: a cell with one thing written anew, and what a call answers of it.
-use mathlib.Core.Bool.{Bool}
+use mathlib.Core.Bool.{Bool, false}
 use mathlib.Core.List.{List, [], _∷_}
 use Prim.Native.Nat.{ℕ}
-use lib.Dec.{eqb}
 use lib.ListN.{set}
 use Rattle.sets.specs.Word.{bit}
 use Rattle.table.specs.Base.{upd}
@@ -28,6 +27,7 @@ number meant value = bytes (meant ∷ []) (value ∷ [])
 abbrev pub holds : Bool → Computed
 holds b = number 1 (bit b)
 
+-- 0 where it does not
 abbrev pub fails : Bool → Computed
 fails b = number 0 (bit b)
 
@@ -37,8 +37,9 @@ fails b = number 0 (bit b)
 abbrev pub placed : ℕ → ℕ → ℕ → ℕ → State → State
 placed q name parent way c = withLand c (withPlaces (c .land) (upd (c .land .place) q (record { name = name; parent = parent; way = way })))
 
+-- place q is not in use
 abbrev pub notUsed : ℕ → State → State
-notUsed q c = withLand c (withUsed (c .land) (λ r. upd (c .land .used) q (eqb 0 1) r))
+notUsed q c = withLand c (withUsed (c .land) (upd (c .land .used) q false))
 
 -- the lock of q is x's
 abbrev pub locked : ℕ → ℕ → State → State
@@ -48,6 +49,7 @@ locked q x c = withLocks c (upd (c .lock) q x)
 abbrev pub staged : ℕ → ℕ → ℕ → ℕ → State → State
 staged x stage remembered chosen c = withAgent c x (atStage (c .agent x) stage remembered chosen)
 
+-- agent x lives in another place
 abbrev pub lives : ℕ → ℕ → State → State
 lives x home c = withAgent c x (withHome (c .agent x) home)
 
