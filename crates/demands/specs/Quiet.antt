@@ -100,7 +100,8 @@ module _ (c : State) (i : Sound c) (x : ℕ) (g : c .given x ≡ true) where
       → ((q : ℕ) → Holds (c .land) (c .agent x) q → Holds (c .land) (next stage remembered chosen) q)
       → Holds (c .land) (next stage remembered chosen) p → Pace stage remembered chosen → stage ≢ 7
       → Keeps c x (takesLock c x p stage remembered chosen)
-  take-on p stage remembered chosen u f ok old add pace up = quiet stage remembered chosen lock′ (upd-outside (c .land .used) (c .lock) p x u) (ok (has x) mine) (λ y q n h. has y q h)
+  take-on p stage remembered chosen u f ok old add pace up = quiet stage remembered chosen lock′
+      (upd-outside (c .land .used) (c .lock) p x u) (ok (has x) mine) (λ y q n h. has y q h)
       (λ q u. go q (eq? q p)) pace
       (λ e. absurd (up e))
     where
@@ -254,7 +255,8 @@ module _ (c : State) (i : Sound c) (x : ℕ) (g : c .given x ≡ true) where
   pub keep-give-up : c .agent x .stage ≡ 3
       → Keeps c x (givesBack c x (c .agent x .remembered) (secondPlace (kindOf (c .agent x)) (c .agent x .home) (c .agent x .chosen)) 0 0)
   unfolding nextAction
-  keep-give-up e = give-on _ _ 0 0 (ok-at 3 e (ok-given c i x g) .0 .known) (second-used c i x g e) (returned-three c i x g e) (ok0 refl (ok-at 3 e (ok-given c i x g) .0 .some))
+  keep-give-up e = give-on _ _ 0 0 (ok-at 3 e (ok-given c i x g) .0 .known) (second-used c i x g e) (returned-three c i x g e)
+      (ok0 refl (ok-at 3 e (ok-given c i x g) .0 .some))
       (stay 0 0 0 (omega arith) (inl (omega arith))) (λ z. absurd (omega arith))
 
   -- stage 4 with its own lock free
