@@ -13,8 +13,8 @@ use Rattle.meaning.specs.Listing.{listing, listAnswer, listBuffer}
 use Rattle.meaning.specs.Report.{report}
 use Rattle.meaning.specs.Codes.{idleOf, wordNumber, stepNumber, loadNumber, listNumber, checkNumber, idleNumber}
 use Rattle.meaning.specs.BenchRow.{hex}
-use Rattle.meaning.specs.BenchTables.{Computed, number, bytes, holds, fails, loadedFrom, placed, notUsed, locked, staged, counted}
-use Rattle.meaning.specs.BenchTables.{sample, holding, entering, exiting, opening, going, topmost}
+use Rattle.meaning.specs.BenchTables.{Computed, number, bytes, holds, fails, loadedFrom, placed, notUsed, locked, staged, counted, acting}
+use Rattle.meaning.specs.BenchTables.{sample, holding, entering, exiting, opening, going, going6, topmost}
 
 unfoldable pub callRows : List Computed
 callRows =
@@ -82,11 +82,17 @@ callRows =
     ∷ number 0 (idleNumber (idleOf (tableOf (staged 1 7 1 0 (staged 2 7 1 0 going)))))
     ∷ number 0 (idleNumber (idleOf (tableOf topmost)))
     ∷ number 10 (idleNumber (idleOf (tableOf (notUsed 0 sample))))
-    -- "An agent is asleep, or done, when a step call for it would answer that word"
+    -- "An agent is asleep, or done, when a step call for it would answer that word": not by looked, took, held, back, slept, left, came, opened
     ∷ holds (rests (tableOf (staged 0 7 0 0 sample)) 0)
     ∷ holds (rests (tableOf (counted 0 1 1 (staged 0 8 0 0 sample))) 0)
     ∷ fails (rests (tableOf sample) 0)
     ∷ fails (rests (tableOf going) 0)
+    ∷ fails (rests (tableOf (locked 1 1 (staged 1 2 1 0 (staged 2 1 1 0 sample)))) 2)
+    ∷ fails (rests (tableOf (placed 1 7 3 0 holding)) 0)
+    ∷ fails (rests (tableOf (acting 0 0 1 5 holding)) 0)
+    ∷ fails (rests (tableOf entering) 0)
+    ∷ fails (rests (tableOf going6) 0)
+    ∷ fails (rests (tableOf opening) 1)
     ∷ fails (rests (tableOf sample) 9)
     -- "A cell is settled when no lock is held and nothing is on its way": read on what is in use
     ∷ holds (settled sample)
