@@ -38,6 +38,7 @@ callRows =
     ∷ number 0 (loadNumber Accepted)
     ∷ number 0x0a05 (loadNumber (Rejected 5 10))
     ∷ number 0x123409 (loadNumber (Rejected 9 0x1234))
+    ∷ number 0x8000000000000001 (loadNumber (Rejected 1 0x80000000000000))
     ∷ number 0x0301 (loadNumber (Rejected 1 0x100000000000003))
     -- a listing's answer: the length from bit 8 on, or the refusal's number
     ∷ number 0x32f300 (listNumber (Length 13043))
