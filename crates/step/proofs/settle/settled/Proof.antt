@@ -20,7 +20,7 @@ returns-2 c = rw (c .before .before .before .change2 .given .1) (c .stays2 .ensu
 returns-3 : tie.Need-returns-3
 returns-3 c =
     let lock = c .before .before .before .before in
-    rw (lock .before .before .change3 .given .1, eq-eqb _ _ (sym (lock .lock-at .ensures) ∙ c .before .before .before .if1 .taken))
+    rw (lock .before .before .change3 .given .1, eq-eqb _ 64 (sym (lock .lock-at .ensures) ∙ c .before .before .before .if1 .taken))
     (c .stays3 .ensures ∙ agreed _ (c .before .before .at-stage2 .ensures) (c .before .with-lock .ensures))
 
 returns-4 : tie.Need-returns-4
