@@ -61,6 +61,9 @@ afterRows =
     ∷ bytes (64 ∷ 64 ∷ 64 ∷ 64 ∷ []) (locksIn (after 0 (acting 0 0 1 5 holding)))
     ∷ bytes (1 ∷ 0 ∷ 0 ∷ 0 ∷ []) (agentIn (after 0 (placed 1 7 3 0 holding)) 0)
     ∷ bytes (64 ∷ 64 ∷ 64 ∷ 64 ∷ []) (locksIn (after 0 (placed 1 7 3 0 holding)))
+    -- a place that is not in use is not entered, and is not on its way to the one to be opened
+    ∷ bytes (1 ∷ 7 ∷ 0 ∷ 0 ∷ []) (agentIn (after 0 (placed 9 5 0 0 (acting 0 0 1 5 holding))) 0)
+    ∷ bytes (1 ∷ 8 ∷ 0 ∷ 0 ∷ []) (agentIn (after 1 (placed 9 5 2 1 opening)) 1)
     -- 3: "unlink its place; the destination is the chosen place, or p's parent", "release both", "left, stage 4"
     ∷ bytes (1 ∷ 4 ∷ 0 ∷ 0 ∷ []) (agentIn (after 0 entering) 0)
     ∷ bytes (7 ∷ 3 ∷ 1 ∷ []) (placeIn (after 0 entering) 1)

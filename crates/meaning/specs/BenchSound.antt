@@ -34,9 +34,9 @@ soundRows =
     ∷ number 10 (checked (acting 0 0 4 9 sample))
     ∷ number 10 (checked (acting 2 1 0 9 sample))
     ∷ number 10 (checked (acting 2 1 2 0 sample))
-    ∷ number 10 (checked (counted 0 0 17 sample))
+    ∷ number 10 (checked (counted 0 16 17 sample))
     ∷ number 10 (checked (counted 0 2 1 (staged 0 8 0 0 sample)))
-    ∷ number 10 (checked (staged 0 9 0 0 sample))
+    ∷ number 10 (checked (counted 0 1 1 (staged 0 9 0 0 sample)))
     -- a used-up action is not asked
     ∷ number 0 (checked (counted 2 1 2 (acting 2 0 0 0 sample)))
     -- "following parents or destinations leads each place to the floor"
@@ -47,6 +47,9 @@ soundRows =
     ∷ number 10 (checked (staged 1 4 0 0 going))
     ∷ number 10 (checked (placed 1 7 3 0 going))
     ∷ number 10 (checked (lives 2 0 (staged 2 4 0 0 sample)))
+    -- an agent that is not given does not count
+    ∷ number 10 (checked (placed 3 9 0 1 (lives 9 3 (staged 9 4 0 0 sample))))
+    ∷ number 10 (checked (locked 1 9 (staged 9 2 1 0 sample)))
     -- "each lock is held just by the agent whose stage says so": by no stage, and by none or another than the stage's
     ∷ number 10 (checked (locked 2 0 sample))
     ∷ number 10 (checked (locked 0 64 holding))
