@@ -75,12 +75,13 @@ callRows =
     -- "10 first, then .. 12"
     ∷ number 10 (listNumber (listAnswer (notUsed 0 sample) (1 ∷ [])))
     ∷ bytes (1 ∷ []) (listBuffer (notUsed 0 sample) (1 ∷ []))
-    -- "whether all agents are asleep or done": with no agents; at stages 0, 7 and 8; on its way; 10 first
+    -- "whether all agents are asleep or done": with no agents; at stages 0, 7 and 8; on its way; one not given; 10 first
     ∷ number 0x0100 (idleNumber (idleOf bareTable))
     ∷ number 0 (idleNumber (idleOf (tableOf sample)))
     ∷ number 0 (idleNumber (idleOf (tableOf (staged 0 7 0 0 (staged 1 7 1 0 sample)))))
     ∷ number 0x0100 (idleNumber (idleOf (tableOf (counted 0 1 1 (staged 0 8 0 0 (staged 1 7 1 0 (staged 2 7 1 0 sample)))))))
-    ∷ number 0 (idleNumber (idleOf (tableOf (staged 1 7 1 0 (staged 2 7 1 0 going)))))
+    ∷ number 0 (idleNumber (idleOf (tableOf (staged 1 7 1 0 (staged 2 7 1 0 going6)))))
+    ∷ number 0x0100 (idleNumber (idleOf (tableOf (staged 9 0 0 0 (cellOf bareTable)))))
     ∷ number 0 (idleNumber (idleOf (tableOf topmost)))
     ∷ number 10 (idleNumber (idleOf (tableOf (notUsed 0 sample))))
     -- "An agent is asleep, or done, when a step call for it would answer that word": not by looked, took, held, back, slept, left, came, opened
