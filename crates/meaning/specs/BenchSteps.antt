@@ -19,9 +19,10 @@ stepRows =
     -- open: the wished place
     ∷ row (file (place 1 0 4 ∷ place 2 0 4 ∷ agent 0 0 ∷ opens 0 4 ∷ opens 0 4 ∷ place 3 2 6 ∷ [])) (hex "00 ff 00 ff 00 02 00 ff")
     ("start open 4.open 4 | 4[] | 4[6[]]" ∷ "0 looked 0" ∷ "0 took 0" ∷ "0 took 0" ∷ "0 opened 0" ∷ "end open 4 | 4[] | 6[]" ∷ [])
-    -- open: the lowest
-    ∷ row (file (place 1 0 4 ∷ place 2 0 4 ∷ agent 0 0 ∷ opens 0 4 ∷ opens 0 4 ∷ place 3 2 6 ∷ [])) (agents "0 0 0 0")
-    ("start open 4.open 4 | 4[] | 4[6[]]" ∷ "0 looked 0" ∷ "0 took 0" ∷ "0 took 0" ∷ "0 opened 0" ∷ "end open 4 | 4[6[]]" ∷ [])
+    -- open: the lowest, and then "only an agent's next action counts"
+    ∷ row (file (place 1 0 4 ∷ place 2 0 4 ∷ agent 0 0 ∷ opens 0 4 ∷ opens 0 6 ∷ place 3 2 6 ∷ [])) (agents "0 0 0 0 0 0 0")
+    ("start open 4.open 6 | 4[] | 4[6[]]" ∷ "0 looked 0" ∷ "0 took 0" ∷ "0 took 0" ∷ "0 opened 0" ∷ "0 looked 0" ∷ "0 took 0" ∷ "0 slept 0" ∷
+    "end open 6 | 4[6[]]" ∷ [])
     -- left: "wake all asleep on p or its own place", agents 1 and 2; came: ".. its own place, the destination, or the place that the destination
     -- is linked to", agents 1 to 4
     ∷ row (file (place 1 0 7 ∷ place 2 0 9 ∷ place 3 2 4 ∷ agent 0 1 ∷ enters 0 9 ∷ agent 1 2 ∷ enters 1 5 ∷ agent 2 1 ∷ opens 2 5 ∷ agent 3 2 ∷
