@@ -5,6 +5,7 @@ use mathlib.Core.Path.{_≡_}
 use mathlib.Core.List.{List}
 use mathlib.Core.Bool.{true}
 use Prim.Native.Nat.{ℕ}
+use native.Mathlib.Omega.{arith}
 use Rattle.table.specs.Cell.{State, cellOf}
 use Rattle.meaning.specs.File.{load, accepted}
 use Rattle.meaning.specs.Run.{Call, settled}
@@ -13,9 +14,10 @@ use Rattle.meaning.specs.Plain.{treeOf}
 use Rattle.demands.specs.AfterCalls.{reached}
 use Rattle.demands.specs.DemandThree.{reached-sized, reached-inv}
 use Rattle.demands.specs.TwoSteps.{Reaches}
+use Rattle.demands.specs.TwoChain.{raise}
 use Rattle.demands.specs.Two.{reach}
 
 -- demand 2, of the cell c that a file s gives, a list of calls, an agent a and a tree u
 pub demand-two : (s : List ℕ) (c : State) → load s ≡ accepted c → (calls : List Call) → settled (cellOf (reached c calls)) ≡ true
     → (a : ℕ) (u : Tree) → Move (treeOf (cellOf (reached c calls))) a u → Reaches 9 a (reached c calls) u
-demand-two s c e calls f a u v = reach a (reached c calls) (reached-sized s c e calls) (reached-inv s c e calls) f v
+demand-two s c e calls f a u v = raise (omega arith) (reach a (reached c calls) (reached-sized s c e calls) (reached-inv s c e calls) f v)

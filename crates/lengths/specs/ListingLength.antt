@@ -106,10 +106,13 @@ listing-any c = listing-length 20 c (record { place = λ q. digits-most 20 _; ac
 -- the longest listing of a table has 13,043 bytes
 pub listing-longest : (t : Cell) → Names16 t → length (listing (cellOf t)) ≤ 13043
 unfolding cellOf
-listing-longest t n = listing-length 5 (cellOf t) (record {
-  place = λ q. digits-short 20 4 _ (omega (arith, n .place q));
-  action = λ x j. digits-short 20 4 _ (omega (arith, n .action x j));
-})
+listing-longest t n = omega (
+  arith,
+  listing-length 5 (cellOf t) (record {
+    place = λ q. digits-short 20 4 _ (omega (arith, n .place q));
+    action = λ x j. digits-short 20 4 _ (omega (arith, n .action x j));
+  }),
+)
 
 -- a listing call that is lent 13,043 bytes is never refused by 12
 pub enough-room : (t : Cell) → Names16 t → (b : List ℕ) → 13043 ≤ length b

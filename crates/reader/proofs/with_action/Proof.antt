@@ -1,5 +1,5 @@
 -- The action at the count, the count one higher, and looking.
-use Rattle.table.proofs.Rules.{tests}
+use mathlib.Core.Path.{refl}
 use Rattle.meaning.specs.File.{withAction}
 use borrow.Author.Needs.{needs}
 use Rattle.reader.proofs.with_action.Statement.{statement}
@@ -10,4 +10,4 @@ unfolding withAction
 with-action-spec =
     tie.close
     (tie.spec
-    (λ c. search needs) (λ c. search needs) (λ c. search needs) (λ c. search needs) (λ c. search tests))
+    (λ c. search needs) (λ c. search needs) (λ c. search needs) (λ c. search needs) (λ c. refl))
