@@ -4,11 +4,17 @@ mod version;
 
 use meaning::Checked;
 use meaning::Idled;
+use step::Decision;
 use table::Cell;
 ghost use mathlib.Core.Path.{_≡_};
 ghost use mathlib.Core.Bool.{cond};
-ghost use Rattle.meaning.specs.Codes.{checkOf, idleOf};
+ghost use Rattle.table.specs.Cell.{cellOf};
+ghost use Rattle.meaning.specs.File.{loadOf};
+ghost use Rattle.meaning.specs.Codes.{checkOf, idleOf, listNumber};
+ghost use Rattle.step.specs.Decided.{carriedOut};
+ghost use Rattle.listing.specs.Known.{knownAnswer, knownBuffer};
 ghost use Rattle.keeper.specs.Known.{knownIdle};
+ghost use Rattle.keeper.specs.Numbered.{numberedLoad, numberedStep};
 
 // A bare floor: `bareTable`.
 pub use table::bare;
@@ -29,6 +35,48 @@ pub use numbers::list_number;
 pub use numbers::load_number;
 pub use numbers::step_number;
 pub use numbers::word_number;
+
+// A cell, and the number of an answer.
+struct Numbered {
+    cell: Cell,
+    number: u64,
+}
+
+// A load, with the number of its answer.
+fn numbered_load(c: Cell, file: &[u8]) -> Numbered
+    ensures { λ r. ⌜ r ≡ numberedLoad (loadOf c (now (file .entry))) ⌝ }
+{
+    let l = load(c, file);
+    let d = l.cell;
+    let verdict = l.verdict;
+    let number = load_number(verdict);
+    Numbered {
+        cell: d,
+        number: number,
+    }
+}
+
+// A decision, carried out, with the number of its answer.
+fn numbered_step(c: Cell, agent: u8, d: Decision) -> Numbered
+    ensures { λ r. ⌜ r ≡ numberedStep (carriedOut c agent d) ⌝ }
+{
+    let s = step::carry_out(c, agent, d);
+    let e = s.cell;
+    let answer = s.answer;
+    let number = step_number(answer);
+    Numbered {
+        cell: e,
+        number: number,
+    }
+}
+
+// The number that a listing answers, told whether the cell is sound.
+fn numbered_list(known: bool, c: Cell, text: &mut [u8]) -> u64
+    ensures { λ r. ⌜ (now (text .exit) ≡ knownBuffer known (cellOf c) (now (text .entry)))
+        × (r ≡ listNumber (knownAnswer known (cellOf c) (now (text .entry)))) ⌝ }
+{
+    list_number(listing::list_known(known, c, text))
+}
 
 // What a check answers: 10 is its one refusal.
 fn checked(sound: bool) -> Checked

@@ -8,28 +8,22 @@ use types.Kit.{use2}
 use denote.Builtin.{bool}
 use denote.Plain.{bool-makes}
 use denote.Struct.Laws as LL
-use denote.Enum.Laws as EL
 use Rattle.table.specs.declared.Cell.{Cell}
 use Rattle.table.specs.Cell.{cellOf}
 use Rattle.soundness.specs.declared.sound.Seen.{Seen}
 use Rattle.soundness.proofs.sound.Seen as Seen′
 use Rattle.soundness.proofs.sound.Seen.Laws as seen-laws
-use Rattle.meaning.specs.declared.Listed.{Listed}
 use Rattle.meaning.specs.Listing.{listAnswer, listBuffer}
 use Rattle.meaning.specs.Codes.{listNumber}
-use Rattle.meaning.proofs.Listed as Listed′
-use Rattle.meaning.proofs.Listed.Laws as listed
 use Rattle.listing.specs.Known.{knownAnswer, knownBuffer}
 use Rattle.listing.specs.CallLaws.{told-truly}
-use Rattle.listing.proofs.list_known as lists
-use Rattle.listing.proofs.list_known.Symbol as list-def
-use Rattle.listing.proofs.list_known.Met as list-thm
-use Rattle.numbers.proofs.list_number.Symbol as number
-use Rattle.numbers.proofs.list_number.Met as number-thm
 use Rattle.lending.proofs.Walk.{_≡_, refl, ap, _∙_, ℕ, List, [], _∷_, URA, fullShare, named, w64, Val, vptr, SProp, ent, id⊢, GName, Lft, Share, Fml, ftrue, fat, flft, fres, fshr-bor, Memory, Routine, Heap, Calls, Loops, WpFn, Atoms, Fun, AllOutlive, givenOf, tables, Given, ‵, raw, _⊛_, ⋆, _$_, _∵_, !, qed, by, move, keep, drop, split, join, rewrite, fsplit, fsplit3, fjoin, fjoin3, feqI, feqL, suffices, frame, done, look, look-raw, init, forget, stop, hop, fld, from, load, lit, addr, of-opd, and-then, no-more, assigns, land, returns, enter, alloc1, alloc0, params1, pass1, pass0, agg, whole, sub, look-in, FmC, owns, Is, partAt, uint-lawful, u8, u64, RefT, ShrRef, ptr-vals, shr-tells, MutSlice, Room, finally, slice-vals, mut-slice-tells, plain, only, owned, nothing, Contract, Triple, onEntry, tripleOf, cited, says, Stays, stay-none-ref, gave-slice, walkOf, goes-none-ref, goes-gave-slice, ends-at, yes, exported}
-use Rattle.lending.proofs.Lent.{R, mach, is-typed, had, looked, shut, called, Equates, applied}
+use Rattle.lending.proofs.Lent.{R, mach, is-typed, had, looked, shut, called}
 use Rattle.lending.proofs.Freed.{freed}
 use Rattle.lending.proofs.Seeing.{Sees, seeing-lent}
+use Rattle.keeper.proofs.numbered_list as lists
+use Rattle.keeper.proofs.numbered_list.Symbol as list-def
+use Rattle.keeper.proofs.numbered_list.Met as list-thm
 use Rattle.keeper.proofs.exports.seen.Symbol as seen-def
 use Rattle.keeper.proofs.exports.seen.Met as seen-thm
 use Rattle.keeper.proofs.exports.keeper_list.Key.{name}
@@ -71,37 +65,35 @@ module _ {M : Type 1} (𝓤 : URA M) (H : Heap 𝓤) (A : Atoms 𝓤) (W : Given
     goes-list z was = qed W ((‵ (flft κ′ q′) ⊛ ‵ ftrue) ∷ ‵ text ∷ []) ∵
         nothing ! $ move ! (2 ∷ 0 ∷ []) $ fjoin ! $ had ! h was $ fjoin ! $ owned ! bool (Is bool) (bool-makes 𝓤 H A W) z (vbool z ∷ []) refl $ fjoin ! $ move ! (1 ∷ 0 ∷ []) $ join ! $ nothing ! $ move ! (1 ∷ 0 ∷ []) $ join ! $ done !
 
-    -- what the call of `list_known` says
-    abbrev Says : Bool → Listed → List ℕ → Type 0
-    Says z r zs = (r ≡ knownAnswer z (cellOf h) (s .now)) × (zs ≡ knownBuffer z (cellOf h) (s .now))
+    -- what the call of `numbered_list` says
+    abbrev Says : Bool → ℕ → List ℕ → Type 0
+    Says z y zs = (zs ≡ knownBuffer z (cellOf h) (s .now)) × (y ≡ listNumber (knownAnswer z (cellOf h) (s .now)))
 
-    module _ (C : Calls 𝓤 H) (Λ : Loops 𝓤 H) (fm : FmC 𝓤 H (W .laws) C) (known-seen : Triple 𝓤 (C seen-def.name) (Sees 𝓤 H A)) (known : Triple 𝓤 (C list-def.name) Lists) (known-number : Triple 𝓤 (C number.name) (Equates 𝓤 H A Listed′.the-row u64 listNumber)) where
+    module _ (C : Calls 𝓤 H) (Λ : Loops 𝓤 H) (fm : FmC 𝓤 H (W .laws) C) (known-seen : Triple 𝓤 (C seen-def.name) (Sees 𝓤 H A)) (known : Triple 𝓤 (C list-def.name) Lists) where
       walk : ent 𝓤 (onEntry 𝓤 H A f.signature (κ, (κ′, tt)) (q, (q′, tt)) x at) (WpFn 𝓤 H C Λ code.function (vptr b o ∷ only (slice-vals s) ∷ []) Post)
       walk =
           qed W ((‵ (flft κ q) ⊛ (‵ (flft κ′ q′) ⊛ ‵ ftrue)) ∷ ‵ (owns (ShrRef (named 0) κ R ∷ MutSlice (named 1) κ′ u8 ∷ []) x at) ∷ []) ∵ enter ! C Λ code.function (vptr b o ∷ only (slice-vals s) ∷ []) _ $
-          alloc1 ! (λ l₀. alloc1 ! (λ l₁. alloc1 ! (λ l₂. alloc1 ! (λ l₃. alloc1 ! (λ l₄. alloc1 ! (λ l₅. alloc1 ! (λ l₆. alloc1 ! (λ l₇. alloc0 ! $ params1 ! $ pass1 ! (init ! 12 refl (tt, tt)) $ pass1 ! (init ! 10 refl (tt, (tt, (record { fits = room .0 }, tt)))) $ pass0 ! $
-          move ! (17 ∷ []) $ fsplit ! $ fsplit3 ! $ drop ! $ move ! (2 ∷ []) $ fsplit ! $ move ! (20 ∷ []) $ split ! $ move ! (3 ∷ []) $ drop ! $ move ! (0 ∷ 3 ∷ 4 ∷ []) $
-          -- [the token; res; the fractured borrow; the slice's token; the slice; _7 at 5; _6; _5; _4; _3; _2; _1; _0 at 19]
-          seeing-lent ! fm known-seen h b o 0 (lit< tt) (λ y. and-then ! (load ! (from ! (stop !)) (look ! 17 refl)) (and-then ! (lit ! tt) (no-more !))) (λ w p e is.
-          land ! (from ! (stop !)) (init ! 13 refl (LL.lawful Seen′.the-type seen-laws.the-laws 𝓤 H A W .typed p _ is .0)) $ rewrite ! 13 (λ (z : Val). ‵ (fat fullShare seen-laws.mir l₃ 0 z)) (ap only (LL.tells Seen′.the-type seen-laws.the-laws p _ is)) refl $
+          alloc1 ! (λ l₀. alloc1 ! (λ l₁. alloc1 ! (λ l₂. alloc1 ! (λ l₃. alloc1 ! (λ l₄. alloc1 ! (λ l₅. alloc1 ! (λ l₆. alloc0 ! $ params1 ! $ pass1 ! (init ! 10 refl (tt, tt)) $ pass1 ! (init ! 8 refl (tt, (tt, (record { fits = room .0 }, tt)))) $ pass0 ! $
+          move ! (15 ∷ []) $ fsplit ! $ fsplit3 ! $ drop ! $ move ! (2 ∷ []) $ fsplit ! $ move ! (18 ∷ []) $ split ! $ move ! (3 ∷ []) $ drop ! $ move ! (0 ∷ 3 ∷ 4 ∷ []) $
+          -- [the token; res; the fractured borrow; the slice's token; the slice; _6 at 5; _5; _4; _3; _2; _1; _0 at 17]
+          seeing-lent ! fm known-seen h b o 0 (lit< tt) (λ y. and-then ! (load ! (from ! (stop !)) (look ! 15 refl)) (and-then ! (lit ! tt) (no-more !))) (λ w p e is.
+          land ! (from ! (stop !)) (init ! 11 refl (LL.lawful Seen′.the-type seen-laws.the-laws 𝓤 H A W .typed p _ is .0)) $ rewrite ! 11 (λ (z : Val). ‵ (fat fullShare seen-laws.mir l₃ 0 z)) (ap only (LL.tells Seen′.the-type seen-laws.the-laws p _ is)) refl $
           move ! (2 ∷ 0 ∷ []) $ looked ! tt h b o (λ t was.
-          -- [a share of the cell; the open borrow; the fractured borrow; res; the slice's token; the slice; _7 at 6; _6; _5; _4; _3; _2; _1; _0 at 20]
-          assigns ! (of-opd ! (load ! (from ! (hop ! (look ! 18 refl) (stop !))) (look-raw ! 0 refl))) (from ! (stop !)) (init ! 10 refl (is-typed 𝓤 H A W h was .0)) $
+          -- [a share of the cell; the open borrow; the fractured borrow; res; the slice's token; the slice; _6 at 6; _5; _4; _3; _2; _1; _0 at 18]
+          assigns ! (of-opd ! (load ! (from ! (hop ! (look ! 16 refl) (stop !))) (look-raw ! 0 refl))) (from ! (stop !)) (init ! 10 refl (is-typed 𝓤 H A W h was .0)) $
           shut ! tt t h was b o $
-          -- [the token; the fractured borrow; res; the slice's token; the slice; _7 at 5; _6; _5; _4; _3; _2; _1; _0 at 19]
-          assigns ! (addr ! (from ! (fld ! refl (hop ! (look-in ! 15 (sub ! 0 refl (whole !))) (stop !))))) (from ! (stop !)) (init ! 7 refl (tt, tt)) $
-          assigns ! (agg ! (and-then ! (load ! (from ! (stop !)) (look ! 7 refl)) (and-then ! (load ! (from ! (fld ! refl (stop !))) (look-in ! 15 (sub ! 1 refl (whole !)))) (no-more !)))) (from ! (stop !)) (init ! 5 refl (tt, (tt, (record { fits = room .0 }, tt)))) $
+          -- [the token; the fractured borrow; res; the slice's token; the slice; _6 at 5; _5; _4; _3; _2; _1; _0 at 17]
+          assigns ! (addr ! (from ! (fld ! refl (hop ! (look-in ! 13 (sub ! 0 refl (whole !))) (stop !))))) (from ! (stop !)) (init ! 7 refl (tt, tt)) $
+          assigns ! (agg ! (and-then ! (load ! (from ! (stop !)) (look ! 7 refl)) (and-then ! (load ! (from ! (fld ! refl (stop !))) (look-in ! 13 (sub ! 1 refl (whole !)))) (no-more !)))) (from ! (stop !)) (init ! 5 refl (tt, (tt, (record { fits = room .0 }, tt)))) $
           move ! (3 ∷ 4 ∷ []) $ use2 W (raw (Lists .pre (to-list (p .sound)))) (goes-list (p .sound) was) $
-          called ! fm lists.ended (lists.clauses 𝓤 H A at-mem run) known (to-list (p .sound)) (λ r ws. Says (p .sound) r (ws .1 .1 .0)) (λ r ws. id⊢ 𝓤 _)
-          (and-then ! (load ! (from ! (fld ! refl (stop !))) (look-in ! 12 (sub ! 0 refl (whole !)))) (and-then ! (load ! (from ! (stop !)) (look ! 8 refl)) (and-then ! (load ! (from ! (stop !)) (look ! 4 refl)) (no-more !)))) (λ v r ws e′ is′.
-          -- [what r owns; the slice's token; the last list; the token; the fractured borrow; res; _7 at 6; _6; _5; _4; _3; _2; _1; _0 at 20]
-          land ! (from ! (stop !)) (init ! 12 refl (EL.lawful Listed′.the-type listed.the-laws 𝓤 H A W tt .typed r _ is′ .0)) $
-          applied ! fm Listed′.the-row u64 listNumber known-number r v (and-then ! (load ! (from ! (stop !)) (look ! 12 refl)) (no-more !)) (λ v′ y e″ is″.
-          land ! (from ! (stop !)) (init ! 20 refl (uint-lawful 𝓤 H A W w64 .typed y _ is″ .0)) $ move ! (2 ∷ []) $ fsplit ! $ move ! (1 ∷ []) $ fsplit ! $ move ! (1 ∷ []) $ fsplit ! $ fsplit ! $ move ! (1 ∷ []) $ feqL ! (λ l.
-          -- [the last list; …; …; …; what y owns; the slice's token; the token; the fractured borrow; res; _7 at 9; _6; _5; _4; _3; _2; _1; _0 at 23]
-          returns ! (look ! 23 refl) $ forget ! 9 refl $ forget ! 11 refl $ forget ! 13 refl $ forget ! 15 refl $ forget ! 17 refl $ forget ! 19 refl $ forget ! 21 refl $ forget ! 23 refl $
-          move ! (23 ∷ 24 ∷ 21 ∷ 22 ∷ 19 ∷ 20 ∷ 17 ∷ 18 ∷ 15 ∷ 16 ∷ 13 ∷ 14 ∷ 11 ∷ 12 ∷ 9 ∷ 10 ∷ []) $ freed ! $
-          keep ! (6 ∷ 5 ∷ 8 ∷ 7 ∷ 0 ∷ 4 ∷ []) $ by ! (let told = told-truly (cellOf h) (s .now) (ws .1 .1 .0) r (p .sound) (ap (λ (z : Seen). z .sound) e) e′ in exits y v′ (ws .1 .1 .0) (told .1) (e″ ∙ ap listNumber (told .0)) l))))))))))))))
+          called ! fm lists.ended (lists.clauses 𝓤 H A at-mem run) known (to-list (p .sound)) (λ y ws. Says (p .sound) y (ws .1 .1 .0)) (λ y ws. id⊢ 𝓤 _)
+          (and-then ! (load ! (from ! (fld ! refl (stop !))) (look-in ! 10 (sub ! 0 refl (whole !)))) (and-then ! (load ! (from ! (stop !)) (look ! 8 refl)) (and-then ! (load ! (from ! (stop !)) (look ! 4 refl)) (no-more !)))) (λ v y ws e′ is′.
+          -- [what y owns; the slice's token; the last list; the token; the fractured borrow; res; _6 at 6; _5; _4; _3; _2; _1; _0 at 18]
+          land ! (from ! (stop !)) (init ! 18 refl (uint-lawful 𝓤 H A W w64 .typed y _ is′ .0)) $ move ! (2 ∷ []) $ fsplit ! $ move ! (1 ∷ []) $ fsplit ! $ move ! (1 ∷ []) $ fsplit ! $ fsplit ! $ move ! (1 ∷ []) $ feqL ! (λ l.
+          -- [the last list; …; …; …; what y owns; the slice's token; the token; the fractured borrow; res; _6 at 9; _5; _4; _3; _2; _1; _0 at 21]
+          returns ! (look ! 21 refl) $ forget ! 9 refl $ forget ! 11 refl $ forget ! 13 refl $ forget ! 15 refl $ forget ! 17 refl $ forget ! 19 refl $ forget ! 21 refl $
+          move ! (21 ∷ 22 ∷ 19 ∷ 20 ∷ 17 ∷ 18 ∷ 15 ∷ 16 ∷ 13 ∷ 14 ∷ 11 ∷ 12 ∷ 9 ∷ 10 ∷ []) $ freed ! $ keep ! (6 ∷ 5 ∷ 8 ∷ 7 ∷ 0 ∷ 4 ∷ []) $
+          by ! (let told = told-truly (cellOf h) (s .now) (ws .1 .1 .0) _ (p .sound) (ap (λ (z : Seen). z .sound) e) (refl, e′ .0) in exits y v (ws .1 .1 .0) (told .1) (e′ .1 ∙ ap listNumber (told .0)) l))))))))))))
 
 pub keeper-list-spec : {M : Type 1} → statement M
 unfolding code.routine
@@ -111,5 +103,4 @@ keeper-list-spec 𝓤 H 𝓜 𝓖 𝓡 =
     (λ κs. (ptr-vals, (slice-vals, tt))) (λ κs. (shr-tells (named 0) (κs .0) R, (mut-slice-tells (named 1) (κs .1 .0) u8, tt)))
     (λ fm κs qs bounds a _ are. walk 𝓤 H (𝓖 .A) (givenOf 𝓤 H 𝓜 𝓖) (𝓜 .mem) (𝓡 .run) (κs .0) (κs .1 .0) bounds (qs .0) (qs .1 .0) (a .0 .ptr .0) (a .0 .ptr .1) (a .0 .name) (a .0 .now) (a .1 .0) (are .1 .0 .0 .1) (tables 𝓤 H 𝓜 𝓡 code.env .C) (tables 𝓤 H 𝓜 𝓡 code.env .Λ) fm
     (cited 𝓤 H (Sees 𝓤 H (𝓖 .A)) 𝓜 𝓡 code.env seen-def.name seen-def.routine code.calls-keeper·exports·seen (seen-thm.met 𝓤 H 𝓜 𝓖 𝓡))
-    (cited 𝓤 H (Lists 𝓤 H (𝓖 .A) (givenOf 𝓤 H 𝓜 𝓖) (𝓜 .mem) (𝓡 .run)) 𝓜 𝓡 code.env list-def.name list-def.routine code.calls-listing·list-known (list-thm.met 𝓤 H 𝓜 𝓖 𝓡))
-    (cited 𝓤 H (Equates 𝓤 H (𝓖 .A) Listed′.the-row u64 listNumber) 𝓜 𝓡 code.env number.name number.routine code.calls-numbers·list-number (number-thm.met 𝓤 H 𝓜 𝓖 𝓡)))
+    (cited 𝓤 H (Lists 𝓤 H (𝓖 .A) (givenOf 𝓤 H 𝓜 𝓖) (𝓜 .mem) (𝓡 .run)) 𝓜 𝓡 code.env list-def.name list-def.routine code.calls-keeper·numbered-list (list-thm.met 𝓤 H 𝓜 𝓖 𝓡)))
