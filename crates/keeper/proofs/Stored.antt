@@ -10,7 +10,7 @@ use denote.Struct.Laws as LL
 use Rattle.table.proofs.Cell.Laws as T′
 use Rattle.lending.proofs.Walk.{_≡_, refl, ap, ℕ, List, [], _∷_, URA, fullShare, w64, Val, vint, vptr, GName, Lft, Share, fat, flft, fobs, fbor, Heap, Calls, Loops, Atoms, Given, ‵, _$_, move, rewrite, look, init, store-raw, stop, hop, fld, from, load, of-opd, assigns, land, whole, sub, look-in, Body, Is, mem, uint-makes, u64, only, owned}
 use Rattle.lending.proofs.Lent.{R, is-typed, closed}
-use Rattle.lending.proofs.Settled.{find}
+use Rattle.lending.proofs.Stored.{find}
 use Rattle.keeper.specs.declared.Numbered.{Numbered}
 use Rattle.keeper.proofs.Numbered as Numbered′
 use Rattle.keeper.proofs.Numbered.Laws as numbered-laws

@@ -4,17 +4,15 @@ mod version;
 
 use meaning::Checked;
 use meaning::Idled;
-use step::Decision;
 use table::Cell;
 ghost use mathlib.Core.Path.{_≡_};
 ghost use mathlib.Core.Bool.{cond};
 ghost use Rattle.table.specs.Cell.{cellOf};
 ghost use Rattle.meaning.specs.File.{loadOf};
 ghost use Rattle.meaning.specs.Codes.{checkOf, idleOf, listNumber};
-ghost use Rattle.step.specs.Decided.{carriedOut};
 ghost use Rattle.listing.specs.Known.{knownAnswer, knownBuffer};
 ghost use Rattle.keeper.specs.Known.{knownIdle};
-ghost use Rattle.keeper.specs.Numbered.{numberedLoad, numberedStep};
+ghost use Rattle.keeper.specs.Numbered.{numberedLoad};
 
 // A bare floor: `bareTable`.
 pub use table::bare;
@@ -52,20 +50,6 @@ fn numbered_load(c: Cell, file: &[u8]) -> Numbered
     let number = load_number(verdict);
     Numbered {
         cell: d,
-        number: number,
-    }
-}
-
-// A decision, carried out, with the number of its answer.
-fn numbered_step(c: Cell, agent: u8, d: Decision) -> Numbered
-    ensures { λ r. ⌜ r ≡ numberedStep (carriedOut c agent d) ⌝ }
-{
-    let s = step::carry_out(c, agent, d);
-    let e = s.cell;
-    let answer = s.answer;
-    let number = step_number(answer);
-    Numbered {
-        cell: e,
         number: number,
     }
 }

@@ -2,13 +2,12 @@
 -- Assumes nothing.
 use Prim.Native.Nat.{_+_, _*_}
 use lib.ListN.{set}
-use mir.Syntax.{Name, Step as PStep, Body as Code, Ty, tyInt, place, deref, field, copy, rvOpd, assign, call, seq}
+use mir.Syntax.{Name, Body as Code, Ty, tyInt, place, deref, field, copy, rvOpd, assign, call, seq}
 use mir.Raw.{raw as rawTy}
 use base.Stored.{Gv}
 use base.Fml.{froom, fauth, fobor}
-use prog.Wp.{Env, Spot, spotOf}
+use prog.Wp.{Env, spotOf}
 use types.Kit.{Item, Seq, Post, runs}
-use types.Run.{Walks, Finds}
 use denote.Memory.{cellAt}
 use denote.Struct.Laws as LL
 use denote.Enum.Laws as EL
@@ -21,14 +20,10 @@ use Rattle.meaning.proofs.Answer.Laws as answer
 use Rattle.step.specs.declared.Decision.{Decision}
 use Rattle.step.proofs.Decision as Decision′
 use Rattle.step.proofs.Decision.Laws as decision-laws
-use Rattle.lending.proofs.Walk.{_≡_, refl, sym, subst, ℕ, _<_, List, [], _∷_, URA, fullShare, w64, Val, vptr, GName, Lft, Share, fat, flft, fobs, fbor, Heap, Calls, Loops, Atoms, Given, ‵, _$_, move, rewrite, look, init, stop, hop, fld, from, load, of-opd, and-then, no-more, assigns, land, whole, sub, look-in, Body, FmC, Is, mem, uint-lawful, u64, owned, Triple}
+use Rattle.lending.proofs.Walk.{_≡_, refl, ℕ, _<_, List, [], _∷_, URA, fullShare, w64, Val, vptr, GName, Lft, Share, fat, flft, fobs, fbor, Heap, Calls, Loops, Atoms, Given, ‵, _$_, move, rewrite, look, init, stop, hop, fld, from, load, of-opd, and-then, no-more, assigns, land, whole, sub, look-in, Body, FmC, Is, mem, uint-lawful, u64, owned, Triple}
 use Rattle.lending.proofs.Lent.{R, mach, closed, Equates, applied}
+use Rattle.lending.proofs.Stored.{find}
 use Rattle.lending.proofs.Placed.{placed, placed-is, agent-val, agent-vals, with-agents, vals-set, store-agent, store-locks}
-
--- a place in a local that the environment has somewhere
-pub find : {M : Type 1} {𝓤 : URA M} {H : Heap 𝓤} {A : Atoms 𝓤} {K : Type 0} {W : Given 𝓤 H A} {Γ : List (Item 𝓤)} {ls : Env 𝓤 H} {i : ℕ} {st : List PStep} {sp sp′ : Spot 𝓤 H}
-    → K → spotOf 𝓤 H ls i ≡ sp → Walks K W Γ ls sp st sp′ → Finds K W Γ ls (place i st) sp′
-find {𝓤 = 𝓤} {H} {K = K} {W} {Γ} {ls} {st = st} {sp′ = sp′} t e w = from t (subst (λ (z : Spot 𝓤 H). Walks K W Γ ls z st sp′) (sym e) w)
 
 -- the machine value of a decision
 abbrev pub val : Decision → Val

@@ -31,7 +31,8 @@ returns-2 c =
     let t = m .before .before .before .loop-test .taken in
     let e = sym (is-end _ (c .before .before .before .before .match .keys2) (c .before .before .before .match2 .keys2)
     (c .before .before .match3 .keys2) (c .before .match4 .keys2)) in
-    answer-accepted _ _ _ _ (l .inv .is) (ended _ (l .at) (l .d) (l .full) (l .inv) t (e ∙ m .record-at .ensures) (c .if1 .left))
+    let a = m .before .before .before .before .before .before .before .args in
+    answer-accepted (a .c) _ _ _ (l .inv .is) (ended _ (l .at) (l .d) (l .full) (l .inv) t (e ∙ m .record-at .ensures) (c .if1 .left))
 
 returns-3 : tie.Need-returns-3 Inv-loop μ-loop
 returns-3 c =

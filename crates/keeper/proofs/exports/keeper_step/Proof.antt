@@ -14,7 +14,9 @@ use Rattle.table.specs.declared.Cell.{Cell}
 use Rattle.meaning.specs.declared.Stepped.{Stepped}
 use Rattle.meaning.specs.Run.{made, stepOf}
 use Rattle.meaning.specs.Codes.{stepNumber}
+use Rattle.meaning.proofs.Stepped as Stepped′
 use Rattle.meaning.proofs.Answer as Answer
+use Rattle.meaning.proofs.Answer.Laws as answer
 use Rattle.soundness.specs.declared.sound.Seen.{Seen}
 use Rattle.step.specs.declared.Decision.{Decision}
 use Rattle.moves.specs.Motions.{shifted}
@@ -29,6 +31,9 @@ use Rattle.step.proofs.Decision.Laws as decision-laws
 use Rattle.step.proofs.decide as deciding
 use Rattle.step.proofs.decide.Symbol as decide-def
 use Rattle.step.proofs.decide.Met as decide-thm
+use Rattle.step.proofs.carry_out as carries
+use Rattle.step.proofs.carry_out.Symbol as carry-def
+use Rattle.step.proofs.carry_out.Met as carry-thm
 use Rattle.table.proofs.at.Symbol as at-def
 use Rattle.table.proofs.at.Met as at-thm
 use Rattle.numbers.proofs.step_number.Symbol as number
@@ -37,20 +42,18 @@ use Rattle.lending.proofs.Walk.{_≡_, refl, sym, ap, subst, _∙_, ℕ, _<_, _
 use Rattle.lending.proofs.Placed.{placed}
 use Rattle.lending.proofs.Lent.{R, mach, is-typed, had, opened, called, Equates, applied}
 use Rattle.lending.proofs.Freed.{freed}
+use Rattle.lending.proofs.Stored.{Result, stored}
 use Rattle.lending.proofs.Settled.{val, settled}
 use Rattle.lending.proofs.Seeing.{Sees, seeing, unless}
-use Rattle.keeper.specs.Numbered.{numberedStep}
-use Rattle.keeper.specs.declared.Numbered.{Numbered}
-use Rattle.keeper.proofs.Stored.{stored}
-use Rattle.keeper.proofs.numbered_step as carries
-use Rattle.keeper.proofs.numbered_step.Symbol as carry-def
-use Rattle.keeper.proofs.numbered_step.Met as carry-thm
 use Rattle.keeper.proofs.exports.seen.Symbol as seen-def
 use Rattle.keeper.proofs.exports.seen.Met as seen-thm
 use Rattle.keeper.proofs.exports.keeper_step.Key.{name}
 use Rattle.keeper.proofs.exports.keeper_step as f
 use Rattle.keeper.proofs.exports.keeper_step.Statement.{statement}
 use Rattle.keeper.proofs.exports.keeper_step.Code as code
+
+abbrev result : Result
+result = record { answers = Answer.the-type; laws = answer.the-laws; few = tt; plain = answer.the-plain; lowers = answer.lowers; name = Stepped′.the-type .name; X = Stepped; cell = λ r. r .cell; answer = λ r. r .answer; one = Stepped′.the-type .to-one }
 
 abbrev stayed : Stays (f.ended .signature .params) (f.ended .kept)
 stayed = (stay-ref (0 ∷ []) tt (plain (λ _. R)), (stay-none (λ _. u8) yes, (stay-none (λ _. u8) yes, tt)))
@@ -89,12 +92,12 @@ module _ {M : Type 1} (𝓤 : URA M) (H : Heap 𝓤) (A : Atoms 𝓤) (W : Given
     abbrev Post : Val → SProp 𝓤
     Post = walkOf 𝓤 H A f.ended stayed (f.clauses 𝓤 H A at-mem run) .post (((κ, tt), (q, tt), tt, x, at), tt)
 
-    exits : (c : Cell) (y : ℕ) (v : Val) → c ≡ stepOf h m n .cell → y ≡ stepNumber (stepOf h m n .answer)
-        → ent 𝓤 (⋆ 𝓤 H A (‵ (fobs γ (R .coded .code c)) ∷ ‵ (fbor κ (Body (mem R) b o γ)) ∷ ‵ (flft κ q) ∷ ‵ (u64 .own y (v ∷ [])) ∷ [])) (Post v)
-    exits c y v e e′ =
-        qed W (‵ (fobs γ (R .coded .code c)) ∷ ‵ (fbor κ (Body (mem R) b o γ)) ∷ ‵ (flft κ q) ∷ ‵ (u64 .own y (v ∷ [])) ∷ []) ∵
-        suffices ! _ (ends-at 𝓤 H A f.ended stayed (f.clauses 𝓤 H A at-mem run) W (((κ, tt), (q, tt), tt, x, at), tt) v y (c, (tt, (tt, tt))) (tt, (tt, (tt, tt)))) $
-        says ! (e, e′) $
+    exits : (r : Stepped) (y : ℕ) (v : Val) → r ≡ stepOf h m n → y ≡ stepNumber (r .answer)
+        → ent 𝓤 (⋆ 𝓤 H A (‵ (fobs γ (R .coded .code (r .cell))) ∷ ‵ (fbor κ (Body (mem R) b o γ)) ∷ ‵ (flft κ q) ∷ ‵ (u64 .own y (v ∷ [])) ∷ [])) (Post v)
+    exits r y v e e′ =
+        qed W (‵ (fobs γ (R .coded .code (r .cell))) ∷ ‵ (fbor κ (Body (mem R) b o γ)) ∷ ‵ (flft κ q) ∷ ‵ (u64 .own y (v ∷ [])) ∷ []) ∵
+        suffices ! _ (ends-at 𝓤 H A f.ended stayed (f.clauses 𝓤 H A at-mem run) W (((κ, tt), (q, tt), tt, x, at), tt) v y (r .cell, (tt, (tt, tt))) (tt, (tt, (tt, tt)))) $
+        says ! (ap (λ (s : Stepped). s .cell) e, e′ ∙ ap (λ (s : Stepped). stepNumber (s .answer)) e) $
         nothing ! $ move ! (3 ∷ 0 ∷ []) $ join ! $ frame ! $ feqI ! (List Val) (vptr b o ∷ []) (vptr b o ∷ []) refl $ fjoin3 ! $
         nothing ! $ owned ! u8 (Is u8) (uint-makes 𝓤 H A W w8) n _ (refl, n-fits) $ fjoin ! $ owned ! u8 (Is u8) (uint-makes 𝓤 H A W w8) m _ (refl, m-fits) $ fjoin ! $ move ! (1 ∷ 0 ∷ []) $ fjoin ! $ done !
 
@@ -148,13 +151,13 @@ module _ {M : Type 1} (𝓤 : URA M) (H : Heap 𝓤) (A : Atoms 𝓤) (W : Given
           (λ _.
           assigns ! (of-opd ! (load ! (from ! (hop ! (look ! 30 refl) (stop !))) (look-raw ! 0 refl))) (from ! (stop !)) (init ! 10 refl (is-typed 𝓤 H A W h was .0)) $
           use0 W (raw (Carry .pre (to-carry d))) (goes-carry d was (subst (Is Decision′.the-row d) (LL.tells Decision′.the-type decision-laws.the-laws d _ is′) is′)) $
-          called ! fm carries.ended (carries.clauses 𝓤 H A at-mem run) known-carry (to-carry d) (λ r ws. r ≡ numberedStep (carriedOut h m d)) (λ r ws. id⊢ 𝓤 _)
+          called ! fm carries.ended (carries.clauses 𝓤 H A at-mem run) known-carry (to-carry d) (λ r ws. r ≡ carriedOut h m d) (λ r ws. id⊢ 𝓤 _)
           (and-then ! (load ! (from ! (stop !)) (look ! 11 refl)) (and-then ! (load ! (from ! (stop !)) (look ! 29 refl)) (and-then ! (load ! (from ! (stop !)) (look ! 23 refl)) (no-more !)))) (λ v r ws e″ is″. drop ! $ drop ! $ drop ! $
-          move ! (0 ∷ 1 ∷ 2 ∷ 3 ∷ 20 ∷ 30 ∷ 32 ∷ []) $ stored ! 6 l₆ refl r v is″ (
+          move ! (0 ∷ 1 ∷ 2 ∷ 3 ∷ 20 ∷ 30 ∷ 32 ∷ []) $ stored result number.name stepNumber ! fm known-number 6 l₆ refl r v is″ (λ y v′ e‴.
           -- [obs; the borrow; the token; what y owns; _6; _1; _0; _14 at 7 and its end; …; _7; the end of _6 at 23; _5 at 24; …; _2; the ends of _1 and _0]
           returns-within ! Post refl (look ! 6 refl) $ forget ! 4 refl $ forget ! 5 refl $ forget ! 6 refl $ forget ! 13 refl $ forget ! 15 refl $ forget ! 17 refl $ forget ! 19 refl $ forget ! 24 refl $ forget ! 26 refl $ forget ! 28 refl $ forget ! 30 refl $
           move ! (6 ∷ 33 ∷ 5 ∷ 32 ∷ 30 ∷ 31 ∷ 28 ∷ 29 ∷ 26 ∷ 27 ∷ 24 ∷ 25 ∷ 4 ∷ 23 ∷ 21 ∷ 22 ∷ 19 ∷ 20 ∷ 17 ∷ 18 ∷ 15 ∷ 16 ∷ 13 ∷ 14 ∷ 11 ∷ 12 ∷ 9 ∷ 10 ∷ 7 ∷ 8 ∷ []) $
-          freed ! $ by ! (let made = e″ ∙ ap numberedStep (decides s d was e e′) in exits (r .cell) (r .number) _ (ap (λ (z : Numbered). z .cell) made) (ap (λ (z : Numbered). z .number) made)))))
+          freed ! $ by ! (exits r y v′ (e″ ∙ decides s d was e e′) e‴))))
           -- none does: the agent and the locks are stored in place
           (λ stays.
           owned ! u8 (Is u8) (uint-makes 𝓤 H A W w8) m _ (refl, m-fits) $ applied ! fm u8 usize (λ z. z % 64) known-at m (vint w8 m) (and-then ! (load ! (from ! (stop !)) (look ! 29 refl)) (no-more !)) (λ v k e″ is″. drop ! $
@@ -166,7 +169,7 @@ module _ {M : Type 1} (𝓤 : URA M) (H : Heap 𝓤) (A : Atoms 𝓤) (W : Given
           -- [obs; the borrow; the token; what y owns; _5; _14; _1; _0; the end of _14 at 8; _13 at 9; …; _6; the end of _5 at 25; _4 at 26; …; _2; the ends of _1 and _0]
           returns ! (look ! 7 refl) $ forget ! 4 refl $ forget ! 5 refl $ forget ! 6 refl $ forget ! 7 refl $ forget ! 9 refl $ forget ! 11 refl $ forget ! 15 refl $ forget ! 17 refl $ forget ! 19 refl $ forget ! 21 refl $ forget ! 26 refl $ forget ! 28 refl $ forget ! 30 refl $
           move ! (7 ∷ 33 ∷ 6 ∷ 32 ∷ 30 ∷ 31 ∷ 28 ∷ 29 ∷ 26 ∷ 27 ∷ 4 ∷ 25 ∷ 23 ∷ 24 ∷ 21 ∷ 22 ∷ 19 ∷ 20 ∷ 17 ∷ 18 ∷ 15 ∷ 16 ∷ 13 ∷ 14 ∷ 11 ∷ 12 ∷ 9 ∷ 10 ∷ 5 ∷ 8 ∷ []) $
-          freed ! $ by ! (let made = settles-is d k (decides s d was e e′) e″ stays in exits (settles d k .cell) y v′ (ap (λ (z : Stepped). z .cell) made) (e‴ ∙ ap (λ (z : Stepped). stepNumber (z .answer)) made)))))))))))))))))))))))
+          freed ! $ by ! (exits (settles d k) y v′ (settles-is d k (decides s d was e e′) e″ stays) e‴))))))))))))))))))))))
 
 pub keeper-step-spec : {M : Type 1} → statement M
 unfolding code.routine
@@ -177,6 +180,6 @@ keeper-step-spec 𝓤 H 𝓜 𝓖 𝓡 =
     (λ fm κs qs bounds a _ are. walk 𝓤 H (𝓖 .A) (givenOf 𝓤 H 𝓜 𝓖) (𝓜 .mem) (𝓡 .run) (κs .0) (qs .0) (a .0 .ptr .0) (a .0 .ptr .1) (a .0 .name) (a .0 .now) (a .1 .0) (a .1 .1 .0) (are .1 .0 .1) (are .1 .1 .0 .1) (tables 𝓤 H 𝓜 𝓡 code.env .C) (tables 𝓤 H 𝓜 𝓡 code.env .Λ) fm
     (cited 𝓤 H (Sees 𝓤 H (𝓖 .A)) 𝓜 𝓡 code.env seen-def.name seen-def.routine code.calls-keeper·exports·seen (seen-thm.met 𝓤 H 𝓜 𝓖 𝓡))
     (cited 𝓤 H (Decide 𝓤 H (𝓖 .A) (givenOf 𝓤 H 𝓜 𝓖) (𝓜 .mem) (𝓡 .run)) 𝓜 𝓡 code.env decide-def.name decide-def.routine code.calls-step·decide (decide-thm.met 𝓤 H 𝓜 𝓖 𝓡))
-    (cited 𝓤 H (Carry 𝓤 H (𝓖 .A) (givenOf 𝓤 H 𝓜 𝓖) (𝓜 .mem) (𝓡 .run)) 𝓜 𝓡 code.env carry-def.name carry-def.routine code.calls-keeper·numbered-step (carry-thm.met 𝓤 H 𝓜 𝓖 𝓡))
+    (cited 𝓤 H (Carry 𝓤 H (𝓖 .A) (givenOf 𝓤 H 𝓜 𝓖) (𝓜 .mem) (𝓡 .run)) 𝓜 𝓡 code.env carry-def.name carry-def.routine code.calls-step·carry-out (carry-thm.met 𝓤 H 𝓜 𝓖 𝓡))
     (cited 𝓤 H (Equates 𝓤 H (𝓖 .A) u8 usize (λ z. z % 64)) 𝓜 𝓡 code.env at-def.name at-def.routine code.calls-table·at (at-thm.met 𝓤 H 𝓜 𝓖 𝓡))
     (cited 𝓤 H (Equates 𝓤 H (𝓖 .A) Answer.the-row u64 stepNumber) 𝓜 𝓡 code.env number.name number.routine code.calls-numbers·step-number (number-thm.met 𝓤 H 𝓜 𝓖 𝓡)))
