@@ -4,15 +4,14 @@ mod version;
 
 use meaning::Checked;
 use meaning::Idled;
+use meaning::Verdict;
 use table::Cell;
 ghost use mathlib.Core.Path.{_≡_};
 ghost use mathlib.Core.Bool.{cond};
 ghost use Rattle.table.specs.Cell.{cellOf};
-ghost use Rattle.meaning.specs.File.{loadOf};
-ghost use Rattle.meaning.specs.Codes.{checkOf, idleOf, listNumber};
+ghost use Rattle.meaning.specs.Codes.{checkOf, idleOf, loadNumber, listNumber};
 ghost use Rattle.listing.specs.Known.{knownAnswer, knownBuffer};
 ghost use Rattle.keeper.specs.Known.{knownIdle};
-ghost use Rattle.keeper.specs.Numbered.{numberedLoad};
 
 // A bare floor: `bareTable`.
 pub use table::bare;
@@ -34,24 +33,11 @@ pub use numbers::load_number;
 pub use numbers::step_number;
 pub use numbers::word_number;
 
-// A cell, and the number of an answer.
-struct Numbered {
-    cell: Cell,
-    number: u64,
-}
-
-// A load, with the number of its answer.
-fn numbered_load(c: Cell, file: &[u8]) -> Numbered
-    ensures { λ r. ⌜ r ≡ numberedLoad (loadOf c (now (file .entry))) ⌝ }
+// The number that a load answers.
+fn numbered_load(verdict: Verdict) -> u64
+    ensures { λ r. ⌜ r ≡ loadNumber verdict ⌝ }
 {
-    let l = load(c, file);
-    let d = l.cell;
-    let verdict = l.verdict;
-    let number = load_number(verdict);
-    Numbered {
-        cell: d,
-        number: number,
-    }
+    load_number(verdict)
 }
 
 // The number that a listing answers, told whether the cell is sound.
