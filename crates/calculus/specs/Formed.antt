@@ -3,6 +3,7 @@ use mathlib.Core.Path.{_≡_}
 use mathlib.Core.List.{List, [], _∷_}
 use mathlib.Core.Bool.{true}
 use Prim.Native.Nat.{ℕ, _≤_, _<_}
+use Rattle.table.specs.Cell.{lastKind}
 use Rattle.table.specs.declared.Action.{Action}
 use Rattle.meaning.specs.Calculus.{Tree}
 use Rattle.calculus.specs.Up.{Up}
@@ -10,7 +11,7 @@ use Rattle.calculus.specs.Up.{Up}
 -- a row of actions, each of a kind 1 to 3 and a name that is not 0
 pub data Good : List Action → Type 0 where
   none : Good []
-  more : {x : Action} {rest : List Action} → 1 ≤ x .kind → x .kind ≤ 3 → 1 ≤ x .name → Good rest → Good (x ∷ rest)
+  more : {x : Action} {rest : List Action} → 1 ≤ x .kind → x .kind ≤ lastKind → 1 ≤ x .name → Good rest → Good (x ∷ rest)
 
 -- what a sound cell says of its tree (document 01, "A table is sound when")
 pub record Formed (t : Tree) : Type 0 where

@@ -8,6 +8,7 @@ use native.Mathlib.Omega.{arith}
 use lib.Dec.{eqb}
 use borrow.Author.Tests.{eqb-true, eqb-false, eq-eqb, ne-eqb, not-true}
 use Rattle.table.specs.BaseLaws.{Told, yea, nay, told, clash, and-left, and-right}
+use Rattle.table.specs.Cell.{enterKind, exitKind, openKind, answersTo}
 use Rattle.meaning.specs.Calculus.{Tree, nextOf, standsAt, mayEnter, mayExit, mayOpen, permits, putInto, openUp, move, Move}
 
 -- place m stands in p; the floor stands in none
@@ -19,13 +20,14 @@ pub record Stands (t : Tree) (m p : ℕ) : Type 0 where
 -- what agent a's next action may do, with the tree it makes
 pub data MoveCase (t : Tree) (a : ℕ) : Tree → Type 0 where
   -- its own place goes into another place m that stands beside it
-  by-enter : (m : ℕ) → nextOf t a .kind ≡ 1 → t .home a ≢ 0 → Stands t m (t .parent (t .home a)) → m ≢ t .home a → t .name m ≡ nextOf t a .name
+  by-enter : (m : ℕ) → nextOf t a .kind ≡ enterKind → t .home a ≢ 0 → Stands t m (t .parent (t .home a)) → m ≢ t .home a
+      → answersTo enterKind (t .name m) ≡ nextOf t a .name
       → MoveCase t a (putInto t a m)
   -- its own place goes out of the place around it
-  by-exit : nextOf t a .kind ≡ 2 → t .home a ≢ 0 → t .name (t .parent (t .home a)) ≡ nextOf t a .name
+  by-exit : nextOf t a .kind ≡ exitKind → t .home a ≢ 0 → answersTo exitKind (t .name (t .parent (t .home a))) ≡ nextOf t a .name
       → MoveCase t a (putInto t a (t .parent (t .parent (t .home a))))
   -- a place m that stands in its own is opened
-  by-open : (m : ℕ) → nextOf t a .kind ≡ 3 → Stands t m (t .home a) → t .name m ≡ nextOf t a .name
+  by-open : (m : ℕ) → nextOf t a .kind ≡ openKind → Stands t m (t .home a) → answersTo openKind (t .name m) ≡ nextOf t a .name
       → MoveCase t a (openUp t a m)
 
 -- ---- tests and facts
@@ -59,41 +61,41 @@ module _ (t : Tree) (a m : ℕ) where
   abbrev off-floor : Bool
   off-floor = not (eqb (t .home a) 0)
 
-  abbrev named : Bool
-  named = eqb (t .name m) (nextOf t a .name)
+  abbrev named : ℕ → Bool
+  named kind = eqb (answersTo kind (t .name m)) (nextOf t a .name)
 
-  name-is : named ≡ true → t .name m ≡ nextOf t a .name
-  name-is e = eqb-true (t .name m) (nextOf t a .name) e
+  name-is : (kind : ℕ) → named kind ≡ true → answersTo kind (t .name m) ≡ nextOf t a .name
+  name-is kind e = eqb-true (answersTo kind (t .name m)) (nextOf t a .name) e
 
-  enter-case : nextOf t a .kind ≡ 1 → mayEnter t a m ≡ true → MoveCase t a (putInto t a m)
+  enter-case : nextOf t a .kind ≡ enterKind → mayEnter t a m ≡ true → MoveCase t a (putInto t a m)
   unfolding mayEnter
   enter-case k e =
-      let x = both off-floor (standsAt t m (t .parent (t .home a)) && (not (eqb m (t .home a)) && named)) e in
-      let y = both (standsAt t m (t .parent (t .home a))) (not (eqb m (t .home a)) && named) (x .1) in
-      let z = both (not (eqb m (t .home a))) named (y .1) in
-      by-enter m k (differ (t .home a) 0 (x .0)) (stands-in t m (t .parent (t .home a)) (y .0)) (differ m (t .home a) (z .0)) (name-is (z .1))
+      let x = both off-floor (standsAt t m (t .parent (t .home a)) && (not (eqb m (t .home a)) && named enterKind)) e in
+      let y = both (standsAt t m (t .parent (t .home a))) (not (eqb m (t .home a)) && named enterKind) (x .1) in
+      let z = both (not (eqb m (t .home a))) (named enterKind) (y .1) in
+      by-enter m k (differ (t .home a) 0 (x .0)) (stands-in t m (t .parent (t .home a)) (y .0)) (differ m (t .home a) (z .0)) (name-is enterKind (z .1))
 
-  exit-case : nextOf t a .kind ≡ 2 → mayExit t a m ≡ true → MoveCase t a (putInto t a (t .parent (t .parent (t .home a))))
+  exit-case : nextOf t a .kind ≡ exitKind → mayExit t a m ≡ true → MoveCase t a (putInto t a (t .parent (t .parent (t .home a))))
   unfolding mayExit
   exit-case k e =
-      let x = both off-floor (eqb m (t .parent (t .home a)) && named) e in
-      let y = both (eqb m (t .parent (t .home a))) named (x .1) in
-      by-exit k (differ (t .home a) 0 (x .0)) (ap (t .name) (sym (eqb-true m (t .parent (t .home a)) (y .0))) ∙ name-is (y .1))
+      let x = both off-floor (eqb m (t .parent (t .home a)) && named exitKind) e in
+      let y = both (eqb m (t .parent (t .home a))) (named exitKind) (x .1) in
+      by-exit k (differ (t .home a) 0 (x .0)) (ap (λ q. answersTo exitKind (t .name q)) (sym (eqb-true m (t .parent (t .home a)) (y .0))) ∙ name-is exitKind (y .1))
 
-  open-case : nextOf t a .kind ≡ 3 → mayOpen t a m ≡ true → MoveCase t a (openUp t a m)
+  open-case : nextOf t a .kind ≡ openKind → mayOpen t a m ≡ true → MoveCase t a (openUp t a m)
   unfolding mayOpen
   open-case k e =
-      let x = both (standsAt t m (t .home a)) named e in
-      by-open m k (stands-in t m (t .home a) (x .0)) (name-is (x .1))
+      let x = both (standsAt t m (t .home a)) (named openKind) e in
+      by-open m k (stands-in t m (t .home a) (x .0)) (name-is openKind (x .1))
 
   permitted-case : permits t a m ≡ true → MoveCase t a (move t a m)
   unfolding permits move
-  permitted-case e = go (told (eqb (nextOf t a .kind) 1)) (told (eqb (nextOf t a .kind) 2)) (told (eqb (nextOf t a .kind) 3))
+  permitted-case e = go (told (eqb (nextOf t a .kind) enterKind)) (told (eqb (nextOf t a .kind) exitKind)) (told (eqb (nextOf t a .kind) openKind))
     where
-      go : Told (eqb (nextOf t a .kind) 1) → Told (eqb (nextOf t a .kind) 2) → Told (eqb (nextOf t a .kind) 3) → MoveCase t a (move t a m)
-      go (yea k) _ _ = rw (k, move) (enter-case (eqb-true (nextOf t a .kind) 1 k) (rw (k, permits) at e))
-      go (nay k) (yea l) _ = rw (k, l, move) (exit-case (eqb-true (nextOf t a .kind) 2 l) (rw (k, l, permits) at e))
-      go (nay k) (nay l) (yea n) = rw (k, l, move) (open-case (eqb-true (nextOf t a .kind) 3 n) (rw (k, l, n, permits) at e))
+      go : Told (eqb (nextOf t a .kind) enterKind) → Told (eqb (nextOf t a .kind) exitKind) → Told (eqb (nextOf t a .kind) openKind) → MoveCase t a (move t a m)
+      go (yea k) _ _ = rw (k, move) (enter-case (eqb-true (nextOf t a .kind) enterKind k) (rw (k, permits) at e))
+      go (nay k) (yea l) _ = rw (k, l, move) (exit-case (eqb-true (nextOf t a .kind) exitKind l) (rw (k, l, permits) at e))
+      go (nay k) (nay l) (yea n) = rw (k, l, move) (open-case (eqb-true (nextOf t a .kind) openKind n) (rw (k, l, n, permits) at e))
       go (nay k) (nay l) (nay n) = clash e (rw (k, l, n, permits))
 
 -- ---- both ways
@@ -112,7 +114,7 @@ case-move {t} {a} (by-enter m k h s d n) = record {
     ne-eqb (t .home a) 0 h,
     in-stands t m (t .parent (t .home a)) s,
     ne-eqb m (t .home a) d,
-    eq-eqb (t .name m) (nextOf t a .name) n,
+    eq-eqb (answersTo enterKind (t .name m)) (nextOf t a .name) n,
   );
   result = rw k;
 }
@@ -122,13 +124,13 @@ case-move {t} {a} (by-exit k h n) = record {
     k,
     ne-eqb (t .home a) 0 h,
     eq-eqb (t .parent (t .home a)) (t .parent (t .home a)) refl,
-    eq-eqb (t .name (t .parent (t .home a))) (nextOf t a .name) n,
+    eq-eqb (answersTo exitKind (t .name (t .parent (t .home a)))) (nextOf t a .name) n,
   );
   result = rw k;
 }
 case-move {t} {a} (by-open m k s n) = record {
   place = m;
-  permitted = rw (k, in-stands t m (t .home a) s, eq-eqb (t .name m) (nextOf t a .name) n);
+  permitted = rw (k, in-stands t m (t .home a) s, eq-eqb (answersTo openKind (t .name m)) (nextOf t a .name) n);
   result = rw k;
 }
 

@@ -11,6 +11,7 @@ use lib.Dec.{ltb, eqb}
 use borrow.Author.Tests.{eqb-false, ne-eqb, ltb-true, ltb-false}
 use Rattle.table.specs.Base.{upd}
 use Rattle.table.specs.BaseLaws.{Told, yea, nay, told, clash, upd-other, upd-all}
+use Rattle.table.specs.Cell.{exitKind}
 use Rattle.table.specs.declared.Action.{Action}
 use Rattle.meaning.specs.Calculus.{Tree, firstOf, restOf, nextOf, putInto, openUp, Move}
 use Rattle.calculus.specs.Up.{Up, enter-up, exit-up, opened-up}
@@ -45,7 +46,7 @@ module _ (t : Tree) (w : Formed t) (a : ℕ) where
       go (nay e) = absurd (first-none (t .unused a) (w .few a (ltb-false a 64 e)) k)
 
   -- the place around an exit's place is not the floor, for the floor has no name
-  pub exit-placed : nextOf t a .kind ≡ 2 → t .name (t .parent (t .home a)) ≡ nextOf t a .name → t .parent (t .home a) ≢ 0
+  pub exit-placed : nextOf t a .kind ≡ exitKind → t .name (t .parent (t .home a)) ≡ nextOf t a .name → t .parent (t .home a) ≢ 0
   exit-placed k n e =
       let y : t .name 0 ≡ nextOf t a .name = ap (t .name) (sym e) ∙ n in
       omega (arith, good-first (w .good a) (omega arith), w .floor-name)

@@ -5,6 +5,7 @@ use mathlib.Core.Path.{_≡_, refl, sym}
 use mathlib.Core.Logic.{_≢_, inl, inr}
 use Prim.Native.Nat.{ℕ}
 use native.Mathlib.Omega.{arith}
+use Rattle.table.specs.Cell.{enterKind, exitKind, openKind}
 use Rattle.meaning.specs.Calculus.{Tree, nextOf, putInto, openUp, Move}
 use Rattle.calculus.specs.Formed.{Formed}
 use Rattle.calculus.specs.MoveCases.{Stands, MoveCase, by-enter, by-exit, by-open, move-case}
@@ -20,7 +21,7 @@ use Rattle.calculus.specs.EnterExit.{Two, Travel, travel-local, enter-be
 use Rattle.calculus.specs.OpenUp.{open-local, open-before, open-after}
 
 module _ (t : Tree) (w : Formed t) (a : ℕ) where
-  enter-reduces : (m : ℕ) → nextOf t a .kind ≡ 1 → t .home a ≢ 0 → Stands t m (t .parent (t .home a)) → m ≢ t .home a → t .name m ≡ nextOf t a .name
+  enter-reduces : (m : ℕ) → nextOf t a .kind ≡ enterKind → t .home a ≢ 0 → Stands t m (t .parent (t .home a)) → m ≢ t .home a → t .name m ≡ nextOf t a .name
       → Spot (term t) (term (putInto t a m))
   unfolding term prefix
   enter-reduces m k h s d n =
@@ -34,7 +35,7 @@ module _ (t : Tree) (w : Formed t) (a : ℕ) where
       ⨾ struct-symm struct-par-assoc)
       (enter-after t w a m p v y refl l ⨾ struct-par (renamed n)))
 
-  exit-reduces : nextOf t a .kind ≡ 2 → t .home a ≢ 0 → t .name (t .parent (t .home a)) ≡ nextOf t a .name
+  exit-reduces : nextOf t a .kind ≡ exitKind → t .home a ≢ 0 → t .name (t .parent (t .home a)) ≡ nextOf t a .name
       → Spot (term t) (term (putInto t a (t .parent (t .parent (t .home a)))))
   unfolding term prefix
   exit-reduces k h n =
@@ -56,7 +57,7 @@ module _ (t : Tree) (w : Formed t) (a : ℕ) where
       (renamed n ⨾ struct-amb (struct-par (struct-amb (struct-par (of-path (row-is (t .unused a) 1 k)))))))
       (exit-after t w a m p v y refl l ⨾ struct-par-right (struct-par (renamed n)) ⨾ struct-symm struct-par-assoc))
 
-  open-reduces : (m : ℕ) → nextOf t a .kind ≡ 3 → Stands t m (t .home a) → t .name m ≡ nextOf t a .name → Spot (term t) (term (openUp t a m))
+  open-reduces : (m : ℕ) → nextOf t a .kind ≡ openKind → Stands t m (t .home a) → t .name m ≡ nextOf t a .name → Spot (term t) (term (openUp t a m))
   unfolding term prefix
   open-reduces m k s n =
       let v = open-formed t w a m s in

@@ -9,6 +9,7 @@ use lib.Dec.{eqb}
 use borrow.Author.Tests.{eqb-true}
 use Rattle.table.specs.Base.{upd}
 use Rattle.table.specs.BaseLaws.{Told, yea, nay, told, eq?, upd-at, upd-other}
+use Rattle.table.specs.Cell.{enterKind, exitKind, openKind, lastKind}
 use Rattle.table.specs.declared.Action.{Action}
 use Rattle.meaning.specs.Calculus.{Tree, firstOf, restOf, standsAt}
 use Rattle.calculus.specs.Formed.{Good, none, more, Formed}
@@ -45,11 +46,11 @@ take-nil e o = subst NotNil e (take-not-nil o)
 
 -- a row as a part, by its first action
 pub data Acting (l : List Action) : Term → Type 0 where
-  act-enter : firstOf l .kind ≡ 1 → Acting l (enter (firstOf l .name) (row (restOf l)))
-  act-exit : firstOf l .kind ≡ 2 → Acting l (exit (firstOf l .name) (row (restOf l)))
-  act-open : firstOf l .kind ≡ 3 → Acting l («open» (firstOf l .name) (row (restOf l)))
+  act-enter : firstOf l .kind ≡ enterKind → Acting l (enter (firstOf l .name) (row (restOf l)))
+  act-exit : firstOf l .kind ≡ exitKind → Acting l (exit (firstOf l .name) (row (restOf l)))
+  act-open : firstOf l .kind ≡ openKind → Acting l («open» (firstOf l .name) (row (restOf l)))
 
-take-action : {x : Action} {l : List Action} {L Z : Term} → 1 ≤ x .kind → x .kind ≤ 3 → Takes (row (x ∷ l)) L Z → Acting (x ∷ l) L × (Z ≡ nil)
+take-action : {x : Action} {l : List Action} {L Z : Term} → 1 ≤ x .kind → x .kind ≤ lastKind → Takes (row (x ∷ l)) L Z → Acting (x ∷ l) L × (Z ≡ nil)
 unfolding row prefix
 take-action {x} {l} {L} {Z} l₁ l₃ o = go (x .kind) refl (unfold row in o)
   where
@@ -125,15 +126,15 @@ like-place (like-amb e) = (refl, e)
 
 -- a row like `enter n. P`, `exit n. P` or `open n. P` has that action first
 pub acting-enter : {l : List Action} {M P : Term} {n : ℕ} → Acting l M → Like M (enter n P)
-    → (firstOf l .kind ≡ 1) × (firstOf l .name ≡ n) × (row (restOf l) ≅ P)
+    → (firstOf l .kind ≡ enterKind) × (firstOf l .name ≡ n) × (row (restOf l) ≅ P)
 acting-enter (act-enter k) (like-enter e) = (k, refl, e)
 
 pub acting-exit : {l : List Action} {M P : Term} {n : ℕ} → Acting l M → Like M (exit n P)
-    → (firstOf l .kind ≡ 2) × (firstOf l .name ≡ n) × (row (restOf l) ≅ P)
+    → (firstOf l .kind ≡ exitKind) × (firstOf l .name ≡ n) × (row (restOf l) ≅ P)
 acting-exit (act-exit k) (like-exit e) = (k, refl, e)
 
 pub acting-open : {l : List Action} {M P : Term} {n : ℕ} → Acting l M → Like M («open» n P)
-    → (firstOf l .kind ≡ 3) × (firstOf l .name ≡ n) × (row (restOf l) ≅ P)
+    → (firstOf l .kind ≡ openKind) × (firstOf l .name ≡ n) × (row (restOf l) ≅ P)
 acting-open (act-open k) (like-open e) = (k, refl, e)
 
 -- ---- what a place holds, or some of it

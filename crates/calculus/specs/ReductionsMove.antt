@@ -8,6 +8,7 @@ use mathlib.Core.Bool.{true}
 use native.Mathlib.Omega.{arith}
 use Rattle.table.specs.Base.{upd}
 use Rattle.table.specs.BaseLaws.{upd-at}
+use Rattle.table.specs.Cell.{enterKind, exitKind, openKind}
 use Rattle.meaning.specs.Calculus.{Tree, nextOf, restOf, putInto, openUp, Move}
 use Rattle.calculus.specs.Formed.{Formed}
 use Rattle.calculus.specs.MoveCases.{Stands, by-enter, by-exit, by-open, case-move}
@@ -76,7 +77,7 @@ module _ (t : Tree) (w : Formed t) where
 
   -- ---- Red Enter
 
-  enter-at : (a s : ℕ) {n m : ℕ} {P Q R R₀ : Term} → a < 64 → nextOf t a .kind ≡ 1 → nextOf t a .name ≡ m → row (restOf (t .unused a)) ≅ P
+  enter-at : (a s : ℕ) {n m : ℕ} {P Q R R₀ : Term} → a < 64 → nextOf t a .kind ≡ enterKind → nextOf t a .name ≡ m → row (restOf (t .unused a)) ≅ P
       → EnterAt t a s (t .home a) n (amb m R ∣ R₀) Q → Answer t s (amb m (amb n (P ∣ Q) ∣ R) ∣ R₀)
   enter-at a s {n} {m} {P} {Q} {R} {R₀} l k c r x =
       go (found-place t w s (agentAt t s) (upd (placeAt t (held t) s) (t .home a) nil) (some-places (t .home a) (some-all t s)) (x .left))
@@ -123,7 +124,7 @@ module _ (t : Tree) (w : Formed t) where
 
   -- ---- Red Exit
 
-  exit-at : (a : ℕ) {n m : ℕ} {P Q R R₀ : Term} → a < 64 → nextOf t a .kind ≡ 2 → nextOf t a .name ≡ m → row (restOf (t .unused a)) ≅ P
+  exit-at : (a : ℕ) {n m : ℕ} {P Q R R₀ : Term} → a < 64 → nextOf t a .kind ≡ exitKind → nextOf t a .name ≡ m → row (restOf (t .unused a)) ≅ P
       → ExitAt t a n m Q R R₀ (t .home a) (t .parent (t .home a)) (t .parent (t .parent (t .home a)))
       → Answer t (t .parent (t .parent (t .home a))) ((amb n (P ∣ Q) ∣ amb m R) ∣ R₀)
   exit-at a l k c r x = record {
@@ -187,7 +188,7 @@ module _ (t : Tree) (w : Formed t) where
 
   -- ---- Red Open
 
-  open-at : (a : ℕ) {n : ℕ} {P Q R₀ : Term} → a < 64 → nextOf t a .kind ≡ 3 → nextOf t a .name ≡ n → row (restOf (t .unused a)) ≅ P
+  open-at : (a : ℕ) {n : ℕ} {P Q R₀ : Term} → a < 64 → nextOf t a .kind ≡ openKind → nextOf t a .name ≡ n → row (restOf (t .unused a)) ≅ P
       → agentsBut t (t .home a) a ∣ placesOf t (t .home a) ≅ amb n Q ∣ R₀ → Answer t (t .home a) ((P ∣ Q) ∣ R₀)
   open-at a {n} {P} {Q} {R₀} l k c r e =
       go (found-place t w (t .home a) (upd (agentAt t (t .home a)) a nil) (placeAt t (held t) (t .home a)) (some-agents a (some-all t (t .home a))) e)

@@ -9,14 +9,14 @@ use native.Mathlib.Numerals.{add-one}
 use borrow.Author.Tests.{ltb-true, ltb-false, lt-ltb}
 use Rattle.table.specs.Base.{tab}
 use Rattle.table.specs.BaseLaws.{Told, yea, nay, told}
-use Rattle.table.specs.Cell.{noAction, hasAction, nextAction, kindOf, nameOf, unused}
+use Rattle.table.specs.Cell.{noAction, hasAction, nextAction, kindOf, nameOf, unused, lastKind}
+use Rattle.table.specs.Kinds.{Kind, kind-is}
 use Rattle.table.specs.declared.Action.{Action}
 use Rattle.table.specs.declared.Agent.{Agent}
 use Rattle.meaning.specs.Update.{useUp, atStage}
 use Rattle.meaning.specs.Calculus.{firstOf, restOf}
 use Rattle.calculus.specs.Formed.{Good, none, more}
 use Rattle.calculus.specs.MoveFormed.{good-rest, good-first}
-use Rattle.demands.specs.Facts.{Kind, kind-is}
 use Rattle.demands.specs.Invariant.{Fit}
 
 -- ---- the row
@@ -71,7 +71,7 @@ rest-unused a = go (told (hasAction a))
 -- ---- kind and name of the next action
 
 -- what a row in range says of its first action
-good-kind : {l : List Action} → Good l → firstOf l .kind ≤ 3
+good-kind : {l : List Action} → Good l → firstOf l .kind ≤ lastKind
 good-kind none = omega arith
 good-kind (more a b n g) = b
 
@@ -81,8 +81,8 @@ good-some f zero k l g = absurd (omega arith)
 good-some f (suc n) k l (more a b w g) = a
 
 -- the kind of the next action is 3 at most
-pub kind-small : (a : Agent) → Fit a → kindOf a ≤ 3
-kind-small a f = subst (λ (n : ℕ). n ≤ 3) (ap (λ (x : Action). x .kind) (first-unused a f)) (good-kind (f .good))
+pub kind-small : (a : Agent) → Fit a → kindOf a ≤ lastKind
+kind-small a f = subst (λ (n : ℕ). n ≤ lastKind) (ap (λ (x : Action). x .kind) (first-unused a f)) (good-kind (f .good))
 
 -- and its name is not 0
 pub name-some : (a : Agent) → Fit a → 1 ≤ kindOf a → 1 ≤ nameOf a

@@ -7,8 +7,7 @@ use Prim.Native.Nat.{ℕ}
 use Rattle.table.specs.Base.{iter}
 use Rattle.table.specs.Cell.{State, cellOf, tableOf, unused}
 use Rattle.table.specs.declared.Cell.{Cell}
-use Rattle.meaning.specs.declared.Answer.{Answer}
-use Rattle.meaning.specs.Run.{Call, stepOf, run, answers, rests}
+use Rattle.meaning.specs.Run.{Call, Reply, stepOf, run, answers, rests}
 use Rattle.meaning.specs.Calculus.{Tree, Move}
 use Rattle.meaning.specs.Plain.{Plain, plainOf, plainRun, History}
 
@@ -31,7 +30,7 @@ abbrev pub reached : State → List Call → Cell
 reached c calls = run (tableOf c) calls
 
 -- what the calls answer
-abbrev pub answered : State → List Call → List Answer
+abbrev pub answered : State → List Call → List Reply
 answered c calls = answers (tableOf c) calls
 
 -- the plain tree run from the file by agent, wish and answered word alone

@@ -9,8 +9,7 @@ use borrow.Author.Tests.{not-true}
 use Rattle.table.specs.Base.{anyBelow}
 use Rattle.table.specs.BaseLaws.{Told, yea, nay, told, clash, and-left, and-right, any-found, any-at}
 use Rattle.table.specs.Cell.{State, cellOf}
-use Rattle.meaning.specs.declared.Answer.{Answer}
-use Rattle.meaning.specs.Run.{Call, rests}
+use Rattle.meaning.specs.Run.{Call, Reply, rests}
 use Rattle.meaning.specs.File.{load, accepted}
 use Rattle.meaning.specs.Calculus.{Tree, Move}
 use Rattle.meaning.specs.Plain.{plainOf, treeOf, History, start, moved, stayed}
@@ -21,10 +20,12 @@ use Rattle.calculus.specs.Published.{Moves, moves-none, moves-then, published-b
 use Rattle.demands.specs.Reading.{parentIn, nameIn}
 use Rattle.demands.specs.Invariant.{Sound}
 use Rattle.demands.specs.SameTree.{tree-home, tree-unused}
-use Rattle.demands.specs.LoadingLaws.{accepted-inv}
+use Rattle.demands.specs.Fresh.{Fresh}
+use Rattle.demands.specs.Loading.{accepted-fresh}
+use Rattle.demands.specs.LoadingLaws.{fresh-inv}
 use Rattle.demands.specs.AfterCalls.{StepChanges, reached, plainAfter, AfterCalls}
-use Rattle.demands.specs.DemandThree.{reached-inv, reached-tree, demand-three}
-use Rattle.demands.specs.DemandTwo.{demand-two}
+use Rattle.demands.specs.DemandThree.{reached-inv, reached-tree, fresh-three}
+use Rattle.demands.specs.DemandTwo.{fresh-two}
 use Rattle.demands.specs.Agrees.{Agrees}
 
 -- the tree of a sound cell is formed
@@ -47,7 +48,7 @@ tree-formed c i = record {
     absent x l (nay g) = unfold treeOf in rw g
 
 -- the moves of a history, one after the other
-history-moves : {t u : Tree} {calls : List Call} {answers : List Answer} → History t calls answers u → Moves t u
+history-moves : {t u : Tree} {calls : List Call} {answers : List Reply} → History t calls answers u → Moves t u
 history-moves start = moves-none
 history-moves (moved e m h) = moves-then m (history-moves h)
 history-moves (stayed e h) = history-moves h
@@ -69,22 +70,24 @@ awake? given resting n = go (told (anyBelow (λ x. given x && not (resting x)) n
         quiet x l g (yea r) = r
         quiet x l g (nay r) = clash (any-at (λ y. given y && not (resting y)) n x l (rw (g, r))) e
 
-module _ (s : List ℕ) (c : State) (e : load s ≡ accepted c) (calls : List Call) where
+-- ---- from a fresh cell
+
+module _ (c : State) (f : Fresh c) (calls : List Call) where
   abbrev after : AfterCalls c calls
-  after = demand-three s c e calls
+  after = fresh-three c f calls
 
   -- the loaded tree is formed
   loaded-formed : Formed (plainOf c .tree)
   unfolding plainOf
-  loaded-formed = tree-formed c (accepted-inv s c e .sound)
+  loaded-formed = tree-formed c (fresh-inv c f .sound)
 
   -- and so is the plain tree after the calls, which is that of the cell reached
   pub reached-formed : Formed (plainAfter c calls .tree)
-  reached-formed = subst Formed (sym (reached-tree s c e calls)) (tree-formed (cellOf (reached c calls)) (reached-inv s c e calls .sound))
+  reached-formed = subst Formed (sym (reached-tree c f calls)) (tree-formed (cellOf (reached c calls)) (reached-inv c f calls .sound))
 
   -- 002 section 4.1, for the keeper
-  pub agrees : Agrees c calls
-  agrees = record {
+  pub fresh-agrees : Agrees c calls
+  fresh-agrees = record {
     reduces = published .run loaded-formed (history-moves (after .history));
     live = λ P r. go P r (awake? (cellOf (reached c calls) .given) (rests (reached c calls)) 64);
     blocked = λ all. published-blocked reached-formed (after .at-rest all);
@@ -92,7 +95,7 @@ module _ (s : List ℕ) (c : State) (e : load s ≡ accepted c) (calls : List Ca
       who = m .who;
       after = m .after;
       same = m .same;
-      reaches = demand-two s c e calls still (m .who) (m .after) (subst (λ t. Move t (m .who) (m .after)) (reached-tree s c e calls) (m .move));
+      reaches = fresh-two c f calls still (m .who) (m .after) (subst (λ t. Move t (m .who) (m .after)) (reached-tree c f calls) (m .move));
     };
   }
     where
@@ -101,4 +104,9 @@ module _ (s : List ℕ) (c : State) (e : load s ≡ accepted c) (calls : List Ca
           ⊎ ((x : ℕ) → x < 64 → cellOf (reached c calls) .given x ≡ true → rests (reached c calls) x ≡ true)
           → (y : ℕ) × StepChanges (reached c calls) y
       go P r (inl w) = after .goes-on (w .0) (w .1 .0) (w .1 .1)
-      go P r (inr all) = absurd (published-blocked reached-formed (after .at-rest (λ x g. all x (reached-inv s c e calls .sound .few x g) g)) P r)
+      go P r (inr all) = absurd (published-blocked reached-formed (after .at-rest (λ x g. all x (reached-inv c f calls .sound .few x g) g)) P r)
+
+-- ---- from an accepted file
+
+pub agrees : (s : List ℕ) (c : State) → load s ≡ accepted c → (calls : List Call) → Agrees c calls
+agrees s c e = fresh-agrees c (accepted-fresh s c e)

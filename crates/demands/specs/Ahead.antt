@@ -5,9 +5,9 @@ use mathlib.Core.Logic.{_≢_}
 use mathlib.Core.Bool.{true, false, cond}
 use Prim.Native.Nat.{ℕ, _<_}
 use lib.Dec.{eqb}
-use borrow.Author.Tests.{eqb-false, eq-eqb, ne-eqb, lt-ltb}
+use borrow.Author.Tests.{eq-eqb, ne-eqb, lt-ltb}
 use Rattle.table.specs.BaseLaws.{Told, yea, nay, told}
-use Rattle.table.specs.Cell.{Land, State, none, linked, kindOf}
+use Rattle.table.specs.Cell.{Land, State, none, linked, kindOf, exitKind, openKind, looksHome}
 use Rattle.table.specs.Sound.{secondPlace}
 use Rattle.table.specs.declared.Agent.{Agent}
 use Rattle.meaning.specs.Update.{atStage}
@@ -19,7 +19,7 @@ use Rattle.demands.specs.Ways.{goesOn, takesLock, givesBack}
 
 -- where an agent at stage 0 looks: its own place to open, else the place around it
 abbrev pub looksAt : Land → Agent → ℕ
-looksAt l a = cond (eqb (kindOf a) 3) (a .home) (parentIn l (a .home))
+looksAt l a = cond (looksHome (kindOf a)) (a .home) (parentIn l (a .home))
 
 module _ (c : State) (x w : ℕ) where
   abbrev own : Agent
@@ -35,14 +35,14 @@ module _ (c : State) (x w : ℕ) where
   taken q stage remembered chosen e = rw (eq-eqb (c .lock q) none e)
 
   -- stage 0, with something to look at
-  pub ahead-look : own .stage ≡ 0 → c .land .used (own .home) ≡ true → (kindOf own ≢ 3 → linked (c .land) (own .home) ≡ true)
+  pub ahead-look : own .stage ≡ 0 → c .land .used (own .home) ≡ true → (looksHome (kindOf own) ≡ false → linked (c .land) (own .home) ≡ true)
       → step c x w .cell ≡ goesOn c x 1 (looksAt (c .land) own) 0
   unfolding stepAt look turn still
-  ahead-look s u f = by-stage 0 _ s (go (told (eqb (kindOf own) 3)))
+  ahead-look s u f = by-stage 0 _ s (go (told (looksHome (kindOf own))))
     where
-      go : Told (eqb (kindOf own) 3) → look c x own .cell ≡ goesOn c x 1 (looksAt (c .land) own) 0
+      go : Told (looksHome (kindOf own)) → look c x own .cell ≡ goesOn c x 1 (looksAt (c .land) own) 0
       go (yea e) = rw e
-      go (nay e) = rw (e, f (eqb-false (kindOf own) 3 e), parent-read (c .land) (own .home) u)
+      go (nay e) = rw (e, f e, parent-read (c .land) (own .home) u)
 
   -- stage 1, with the remembered place free
   pub ahead-first : own .stage ≡ 1 → c .lock (own .remembered) ≡ none → step c x w .cell ≡ takesLock c x (own .remembered) 2 (own .remembered) 0
@@ -52,7 +52,7 @@ module _ (c : State) (x w : ℕ) where
   -- stage 2, with the second place free
   pub ahead-second : (q : ℕ) → own .stage ≡ 2 → stays (c .land) own ≡ true → choice (c .land) own w ≡ q → q < 64
       → c .lock (secondPlace (kindOf own) (own .home) q) ≡ none
-      → step c x w .cell ≡ takesLock c x (secondPlace (kindOf own) (own .home) q) 3 (own .remembered) (cond (eqb (kindOf own) 2) 0 q)
+      → step c x w .cell ≡ takesLock c x (secondPlace (kindOf own) (own .home) q) 3 (own .remembered) (cond (eqb (kindOf own) exitKind) 0 q)
   unfolding stepAt hold lockSecond
   ahead-second q s st e l f = by-stage 2 _ s (rw (st, e, lt-ltb q 64 l) (taken _ _ _ _ f))
 
@@ -62,15 +62,15 @@ module _ (c : State) (x w : ℕ) where
   ahead-back s st = by-stage 2 _ s (rw st)
 
   -- stage 3, the action fires
-  pub ahead-leave : own .stage ≡ 3 → kindOf own ≢ 3 → fires (c .land) own ≡ true
+  pub ahead-leave : own .stage ≡ 3 → kindOf own ≢ openKind → fires (c .land) own ≡ true
       → step c x w .cell ≡ leave c x own (destinationOf (c .land) own) .cell
   unfolding stepAt act
-  ahead-leave s k f = by-stage 3 _ s (rw (f, ne-eqb (kindOf own) 3 k))
+  ahead-leave s k f = by-stage 3 _ s (rw (f, ne-eqb (kindOf own) openKind k))
 
-  pub ahead-open : own .stage ≡ 3 → kindOf own ≡ 3 → fires (c .land) own ≡ true
+  pub ahead-open : own .stage ≡ 3 → kindOf own ≡ openKind → fires (c .land) own ≡ true
       → step c x w .cell ≡ dissolve c x own (own .remembered) (own .chosen) .cell
   unfolding stepAt act
-  ahead-open s k f = by-stage 3 _ s (rw (f, eq-eqb (kindOf own) 3 k))
+  ahead-open s k f = by-stage 3 _ s (rw (f, eq-eqb (kindOf own) openKind k))
 
   -- stages 4 to 6
   pub ahead-own : own .stage ≡ 4 → c .lock (own .home) ≡ none → step c x w .cell ≡ takesLock c x (own .home) 5 0 0

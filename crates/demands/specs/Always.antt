@@ -13,7 +13,7 @@ use Rattle.table.specs.CellLaws.{bounded, forth, sized-table}
 use Rattle.table.specs.Sound.{sound}
 use Rattle.table.specs.declared.Cell.{Cell}
 use Rattle.meaning.specs.Step.{Outcome, still, step}
-use Rattle.meaning.specs.Run.{Call, stepOf, made, turnedAway, run}
+use Rattle.meaning.specs.Run.{Call, stepCall, stepOf, made, turnedAway, callOf, run}
 use Rattle.demands.specs.Invariant.{Sound, Inv}
 use Rattle.demands.specs.Ways.{Way, is-done, is-asleep, held-first, held-second, held-own, held-destination, looks-up, looks-home}
 use Rattle.demands.specs.Ways.{sleeps-alone, takes-first, goes-back, sleeps-stuck, takes-second, gives-up, enters, exits, opens}
@@ -100,17 +100,29 @@ pub inv-stepped : (t : Cell) (x wish : ℕ) → Sized t → Inv (cellOf t) → I
 inv-stepped t x wish z i = stepped (λ (u : Cell). Inv (cellOf u)) t x wish i
     (λ _ g. subst Inv (sym (step-back t z (i .sound) x g wish)) (step-inv (cellOf t) i x g wish))
 
+-- ---- any call
+
+-- what any call leaves has the sizes of the struct
+pub sized-called : (t : Cell) (k : Call) → Sized t → Sized (callOf t k .cell)
+unfolding callOf
+sized-called t (stepCall x wish) z = sized-stepped t x wish z
+
+-- and the invariant
+pub inv-called : (t : Cell) (k : Call) → Sized t → Inv (cellOf t) → Inv (cellOf (callOf t k .cell))
+unfolding callOf
+inv-called t (stepCall x wish) z i = inv-stepped t x wish z i
+
 -- so has every table after a list of calls
 pub sized-run : (t : Cell) (calls : List Call) → Sized t → Sized (run t calls)
 unfolding run
 sized-run t [] z = z
-sized-run t (k ∷ calls) z = sized-run _ calls (sized-stepped t (k .agent) (k .wish) z)
+sized-run t (k ∷ calls) z = sized-run _ calls (sized-called t k z)
 
 -- and its cell the invariant
 pub inv-run : (t : Cell) (calls : List Call) → Sized t → Inv (cellOf t) → Inv (cellOf (run t calls))
 unfolding run
 inv-run t [] z i = i
-inv-run t (k ∷ calls) z i = inv-run _ calls (sized-stepped t (k .agent) (k .wish) z) (inv-stepped t (k .agent) (k .wish) z i)
+inv-run t (k ∷ calls) z i = inv-run _ calls (sized-called t k z) (inv-called t k z i)
 
 -- ---- soundness as a test
 
@@ -128,8 +140,13 @@ sound-stepped t x wish z e = stepped (λ (u : Cell). sound (cellOf u) ≡ true) 
     (λ _ g. let i = sound-bounded (cellOf t) (bounded t z) e in
     subst (λ (c : State). sound c ≡ true) (sym (step-back t z i x g wish)) (sound-true _ (step-sound (cellOf t) i x g wish)))
 
--- so does every list of calls: a sound table is never turned away with 10
+-- so does every call
+pub sound-called : (t : Cell) (k : Call) → Sized t → sound (cellOf t) ≡ true → sound (cellOf (callOf t k .cell)) ≡ true
+unfolding callOf
+sound-called t (stepCall x wish) z e = sound-stepped t x wish z e
+
+-- and every list of calls: a sound table is never turned away with 10
 pub sound-run : (t : Cell) (calls : List Call) → Sized t → sound (cellOf t) ≡ true → sound (cellOf (run t calls)) ≡ true
 unfolding run
 sound-run t [] z e = e
-sound-run t (k ∷ calls) z e = sound-run _ calls (sized-stepped t (k .agent) (k .wish) z) (sound-stepped t (k .agent) (k .wish) z e)
+sound-run t (k ∷ calls) z e = sound-run _ calls (sized-called t k z) (sound-called t k z e)

@@ -62,7 +62,7 @@ module _ (c : State) (i : Inv c) (whole : Whole c) (a : ℕ) (rest : 7 ≤ agent
       fires = target c (i .sound) a g whole m
 
       go : Sleeper (c .land) b → ⊥
-      go (alone k _ o) = clash (whole (b .home) (home-given c (i .sound) a g) (off-floor c (i .sound) a g m (λ e. omega arith))) o
+      go (alone k _ o) = clash (whole (b .home) (home-given c (i .sound) a g) (off-floor c (i .sound) a g m k)) o
       go (stuck o s f) = clash
           (subst (λ (p : ℕ). qualifies (c .land) (kindOf b) (nameOf b) (b .home) p (fires .place) ≡ true)
           (sym (looks-same (c .land) b (kind-small b (fit-given c (i .sound) a g)) o s)) (fires .fits)) (f (fires .place))

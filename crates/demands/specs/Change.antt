@@ -6,14 +6,14 @@ use Prim.Native.Nat.{ℕ, _<_}
 use mathlib.Core.Bool.{Bool, true, false}
 use native.Mathlib.Omega.{arith}
 use Rattle.table.specs.Base.{upd}
-use Rattle.table.specs.BaseLaws.{eq?, upd-at, upd-other, upd-all}
+use Rattle.table.specs.BaseLaws.{Told, yea, nay, told, clash, eq?, upd-at, upd-other, upd-all}
 use Rattle.table.specs.Cell.{Land, State, none, linked, nextAction, kindOf}
+use Rattle.table.specs.Kinds.{Kind}
 use Rattle.table.specs.declared.Agent.{Agent}
 use Rattle.demands.specs.Reading.{parentIn, agentIn}
 use Rattle.demands.specs.ReadingLaws.{agent-given}
 use Rattle.demands.specs.Invariant.{Under, Places, Has, Fit, Away, Ok, ok0, Travels, Mover, Sleeper, Sound, Reasons, Inv}
 use Rattle.demands.specs.Invariant.{Holds, near, far, own, destination, Kept, free, kept}
-use Rattle.demands.specs.Facts.{Kind}
 use Rattle.demands.specs.Actions.{fit-stage, kind-of}
 use Rattle.demands.specs.Stages.{SameOrReset, same-between, ok-at, travels-away, holds-between, Returned}
 use Rattle.demands.specs.NoMore.{Untouched}
@@ -37,7 +37,9 @@ module _ {c : State} {x : ℕ} {lock′ : ℕ → ℕ} (r : Returned c x lock′
 pub record Change (c c′ : State) (x : ℕ) (quiet : ℕ → Type 0) : Type 0 where
   pub steps : c .given x ≡ true
   pub untouched : Untouched c c′
-  pub used : (q : ℕ) → c′ .land .used q ≡ c .land .used q
+  -- no place goes out of use, and one that comes into use is linked and free
+  pub used : (q : ℕ) → c .land .used q ≡ true → c′ .land .used q ≡ true
+  pub fresh : (q : ℕ) → c .land .used q ≡ false → c′ .land .used q ≡ true → (linked (c′ .land) q ≡ true) × (c′ .lock q ≡ none)
   pub new : Agent
   pub woke : ℕ → Agent
   pub reads : agentIn c′ ≡ upd woke x new
@@ -117,14 +119,11 @@ module _ {c c′ : State} {x : ℕ} {quiet : ℕ → Type 0} (i : Sound c) (m : 
   -- each fact of a sound cell, of the agents after
   others-ok : (y : ℕ) → y ≢ x → Ok (c′ .land) (c′ .lock) y (m .woke y)
   others-ok y n = roused-ok (m .roused y) (i .ok y)
-      (ok-frame (i .homes y) (i .places .parent-used _) (λ _ u. m .used _ ∙ u) (λ q _. m .has y q n) (m .under y n) (m .way y n) (i .ok y))
+      (ok-frame (i .homes y) (i .places .parent-used _) (λ _ u. m .used _ u) (λ q _. m .has y q n) (m .under y n) (m .way y n) (i .ok y))
 
   locks-kept : (q : ℕ) → c′ .land .used q ≡ true → Kept (c′ .land) (c′ .lock) after q
-  locks-kept q u = go (i .locks q v)
+  locks-kept q u = at-use (told (c .land .used q))
     where
-      v : c .land .used q ≡ true
-      v = sym (m .used q) ∙ u
-
       mine : Mine (c′ .land) (c′ .lock) x (m .new) q → Kept (c′ .land) (c′ .lock) after q
       mine (is-free e) = free e
       mine (is-mine h k) = kept x h (subst (λ (b : Agent). Holds (c′ .land) b q) (sym (here x refl)) k)
@@ -137,9 +136,9 @@ module _ {c c′ : State} {x : ℕ} {quiet : ℕ → Type 0} (i : Sound c) (m : 
           let t : Travels (agentIn c y) = record { from = omega arith; to = omega arith } in
           destination lo (e ∙ sym (m .way y n t (travels-away t (i .ok y)) .1))
 
-      go : Kept (c .land) (c .lock) (agentIn c) q → Kept (c′ .land) (c′ .lock) after q
-      go (free e) = mine (m .mine q v (is-free e))
-      go (kept y h k) = at (eq? y x)
+      go : c .land .used q ≡ true → Kept (c .land) (c .lock) (agentIn c) q → Kept (c′ .land) (c′ .lock) after q
+      go v (free e) = mine (m .mine q v (is-free e))
+      go v (kept y h k) = at (eq? y x)
         where
           at : (y ≡ x) ⊎ (y ≢ x) → Kept (c′ .land) (c′ .lock) after q
           at (inl e) = mine (m .mine q v (is-mine (subst (Has (c .lock) q) e h)
@@ -147,15 +146,23 @@ module _ {c c′ : State} {x : ℕ} {quiet : ℕ → Type 0} (i : Sound c) (m : 
           at (inr n) = kept y (m .has y q n h) (subst (λ (b : Agent). Holds (c′ .land) b q)
               (sym (kept-awake y n (λ e. omega (arith, holds-between k .1)))) (holds y n k))
 
+      at-use : Told (c .land .used q) → Kept (c′ .land) (c′ .lock) after q
+      at-use (yea v) = go v (i .locks q v)
+      at-use (nay v) = free (m .fresh q v u .1)
+
   moved : (q : ℕ) → c′ .land .used q ≡ true → q ≢ 0 → linked (c′ .land) q ≡ false → Mover after q
   moved q u z b = go (eq? q (c .agent x .home))
     where
+      was-used : Told (c .land .used q) → c .land .used q ≡ true
+      was-used (yea v) = v
+      was-used (nay v) = clash (m .fresh q v u .0) b
+
       mine : Travels (m .new) → Travels (after x)
       mine t = subst Travels (sym (here x refl)) t
 
       old : linked (c .land) q ≡ false → ((y : ℕ) → y ≡ x → Travels (agentIn c y) → agentIn c y .home ≢ q) → Mover after q
       old l not-x =
-          let w = i .mover q (sym (m .used q) ∙ u) z l in
+          let w = i .mover q (was-used (told (c .land .used q))) z l in
           let n : w .who ≢ x = λ e. not-x (w .who) e (w .goes) (w .lives) in
           let a : agentIn c (w .who) .stage ≢ 7 = λ e. let t = w .goes .to in omega arith in
           record { who = w .who; lives = same-home (w .who) ∙ w .lives; goes = subst Travels (sym (kept-awake (w .who) n a)) (w .goes) }
@@ -194,7 +201,7 @@ module _ {c c′ : State} {x : ℕ} {quiet : ℕ → Type 0} (i : Sound c) (m : 
   changed-sound = record {
     places = m .places;
     homes = read (λ f. (y : ℕ) → c′ .land .used (f y .home) ≡ true)
-        (λ y. m .used _ ∙ ap (c .land .used) (same-home y) ∙ i .homes y);
+        (λ y. m .used _ (ap (c .land .used) (same-home y) ∙ i .homes y));
     fit = read (λ f. (y : ℕ) → Fit (f y))
         (upd-all (m .woke) x (m .new) (λ (y : ℕ) (b : Agent). Fit b) (m .fit) (λ y _. roused-fit (m .roused y) (i .fit y)));
     few = λ y g. i .few y (sym (ap (λ (f : ℕ → Bool). f y) (m .untouched .given)) ∙ g);

@@ -1,15 +1,16 @@
 -- The choice of stage 2: the wish, or the lowest number that qualifies, or none. By whether the wish qualifies, and then whether any place does.
 use mathlib.Core.Path.{_≡_, subst}
 use mathlib.Core.Bool.{Bool, true, false}
-use Prim.Native.Nat.{ℕ, zero, suc, _≤_, _<_}
+use Prim.Native.Nat.{ℕ, _<_}
 use native.Mathlib.Omega.{arith}
 use lib.Dec.{ltb}
 use borrow.Author.Tests.{ltb-true, ltb-false, lt-ltb}
-use Rattle.sets.specs.Word.{lowestOf, upto, chosenOf}
+use Rattle.sets.specs.Word.{lowestOf, upto}
 use Rattle.sets.specs.WordLaws.{lowest-le}
+use Rattle.sets.specs.WalkLaws.{lowest-below, lowest-found}
 use Rattle.table.specs.BaseLaws.{Told, yea, nay, told, clash, and-left, and-right}
 use Rattle.table.specs.Cell.{Land}
-use Rattle.meaning.specs.Step.{qualifies, choose}
+use Rattle.meaning.specs.Step.{qualifies, chosenOf, choose}
 use Rattle.demands.specs.Facts.{not-yes}
 
 -- ---- the claim
@@ -23,37 +24,6 @@ pub data Chosen (fits : ℕ → Bool) (wish : ℕ) : ℕ → Type 0 where
 
 -- ---- the law
 
--- the lowest member is one, and where there is none no number is
-lowest-fits : (n : ℕ) (f : ℕ → Bool) → lowestOf n f < n → f (lowestOf n f) ≡ true
-unfolding lowestOf
-lowest-fits zero f l = absurd (omega arith)
-lowest-fits (suc n) f l = go (told (f 0)) (lowest-fits n (λ i. f (suc i)))
-  where
-    go : Told (f 0) → (lowestOf n (λ i. f (suc i)) < n → f (suc (lowestOf n (λ i. f (suc i)))) ≡ true) → f (lowestOf (suc n) f) ≡ true
-    go (yea e) r = rw (e, lowestOf) e
-    go (nay e) r = rw (e, lowestOf) (r (omega (arith, rw (e, lowestOf) at l)))
-
-lowest-none : (n : ℕ) (f : ℕ → Bool) → n ≤ lowestOf n f → (j : ℕ) → j < n → f j ≡ false
-unfolding lowestOf
-lowest-none zero f l j k = absurd (omega arith)
-lowest-none (suc n) f l j k = go (told (f 0)) j k (lowest-none n (λ i. f (suc i)))
-  where
-    go : Told (f 0) → (j : ℕ) → j < suc n → (n ≤ lowestOf n (λ i. f (suc i)) → (i : ℕ) → i < n → f (suc i) ≡ false) → f j ≡ false
-    go (yea e) j k r = absurd (omega (arith, rw (e, lowestOf) at l))
-    go (nay e) zero k r = e
-    go (nay e) (suc j) k r = r (omega (arith, rw (e, lowestOf) at l)) j (omega arith)
-
--- no number below the lowest member is one
-lowest-least : (n : ℕ) (f : ℕ → Bool) (r : ℕ) → r < lowestOf n f → f r ≡ false
-unfolding lowestOf
-lowest-least zero f r l = absurd (omega arith)
-lowest-least (suc n) f r l = go (told (f 0)) r l (lowest-least n (λ i. f (suc i)))
-  where
-    go : Told (f 0) → (r : ℕ) → r < lowestOf (suc n) f → ((i : ℕ) → i < lowestOf n (λ i. f (suc i)) → f (suc i) ≡ false) → f r ≡ false
-    go (yea e) r l h = absurd (omega (arith, rw (e, lowestOf) at l))
-    go (nay e) zero l h = e
-    go (nay e) (suc r) l h = h r (omega (arith, rw (e, lowestOf) at l))
-
 module _ (f : ℕ → Bool) (wish : ℕ) where
   -- a number below 64 that is no member up to 64 is none
   outside : (r : ℕ) → r < 64 → upto 64 f r ≡ false → f r ≡ false
@@ -66,11 +36,11 @@ module _ (f : ℕ → Bool) (wish : ℕ) where
       go : Told (ltb (lowestOf 64 (upto 64 f)) 64) → Chosen f wish (lowestOf 64 (upto 64 f))
       go (yea l) = let low = ltb-true (lowestOf 64 (upto 64 f)) 64 l in
           the-lowest _ (λ k. outside wish k e) low
-          (and-right (ltb (lowestOf 64 (upto 64 f)) 64) _ (lowest-fits 64 (upto 64 f) low))
-          (λ r k. outside r (omega arith) (lowest-least 64 (upto 64 f) r k))
+          (and-right (ltb (lowestOf 64 (upto 64 f)) 64) _ (lowest-found 64 (upto 64 f) low))
+          (λ r k. outside r (omega arith) (lowest-below 64 (upto 64 f) r k))
       go (nay l) = let high = ltb-false (lowestOf 64 (upto 64 f)) 64 l in
           subst (Chosen f wish) (omega (arith, high, lowest-le 64 (upto 64 f)))
-          (no-place (λ r k. outside r k (lowest-none 64 (upto 64 f) high r k)))
+          (no-place (λ r k. outside r k (lowest-below 64 (upto 64 f) r (omega arith))))
 
   chosen-of : Chosen f wish (chosenOf (upto 64 f) wish)
   unfolding chosenOf

@@ -10,7 +10,7 @@ use lib.Dec.{ltb, leb, eqb}
 use lib.ListN.{length}
 use borrow.Author.Tests.{ltb-true, leb-true, leb-false, le-leb, lt-leb}
 use Rattle.table.specs.BaseLaws.{Told, yea, nay, told, and-left, and-right}
-use Rattle.table.specs.Cell.{State, cellOf, bareTable}
+use Rattle.table.specs.Cell.{State, cellOf, bareTable, lastKind}
 use Rattle.table.specs.Sound.{sound}
 use Rattle.table.specs.Idle.{idle}
 use Rattle.table.specs.declared.Cell.{Cell}
@@ -21,7 +21,9 @@ use Rattle.meaning.specs.declared.Answer.the-variants.{Refused}
 use Rattle.meaning.specs.declared.Listed.the-variants.{Unlisted}
 use Rattle.meaning.specs.declared.Checked.the-variants.{Unsound}
 use Rattle.meaning.specs.declared.Idled.the-variants.{Unknown}
-use Rattle.meaning.specs.File.{byteAt, placeRecord, agentRecord, actionRecord, recordAt, isFull}
+use Rattle.meaning.specs.Refusals.{cutShort, unknownKind, tooLarge, givenTwice, notYetGiven, nameZero, wrongKind, seventeenth, afterEnd}
+use Rattle.meaning.specs.Refusals.{unsoundTable, noSuchAgent, tooLong}
+use Rattle.meaning.specs.File.{byteAt, placeRecord, agentRecord, actionRecord, Known, recordAt, knownIn}
 use Rattle.meaning.specs.File.{Load, accepted, refused, loadRecord, loadFrom, load, loaded, loadOf}
 use Rattle.meaning.specs.FileLaws.{refused-keeps}
 use Rattle.meaning.specs.Run.{made, turnedAway, stepOf}
@@ -43,7 +45,7 @@ data Numbered : Record → Type 0 where
   agent : {number home : ℕ} → Numbered (AgentRecord number home)
   action : {agent kind name : ℕ} → Numbered (ActionRecord agent kind name)
   end : Numbered EndRecord
-  fault : (number : ℕ) → (leb 1 number && leb number 8) ≡ true → Numbered (Faulty number)
+  fault : (number : ℕ) → (leb cutShort number && leb number seventeenth) ≡ true → Numbered (Faulty number)
 
 -- a test with such a record in both arms
 either : (b : Bool) {x y : Record} → Numbered x → Numbered y → Numbered (cond b x y)
@@ -51,39 +53,41 @@ either true f g = f
 either false f g = g
 
 -- a test with a refusal in the first arm
-unless : (b : Bool) (number : ℕ) {y : Record} → (leb 1 number && leb number 8) ≡ true → Numbered y → Numbered (cond b (Faulty number) y)
+unless : (b : Bool) (number : ℕ) {y : Record} → (leb cutShort number && leb number seventeenth) ≡ true → Numbered y → Numbered (cond b (Faulty number) y)
 unless b number e g = either b (fault number e) g
 
 place-number : (taken known : Bool) (number parent name : ℕ) → Numbered (placeRecord taken known number parent name)
 unfolding placeRecord
-place-number taken known n p m = unless (ltb n 1) 3 refl (unless (leb 64 n) 3 refl (unless (leb 64 p) 3 refl (unless taken 4 refl
-    (either known (unless (ltb m 1) 6 refl place) (fault 5 refl)))))
+place-number taken known n p m = unless (ltb n 1) tooLarge refl (unless (leb 64 n) tooLarge refl
+    (unless (leb 64 p) tooLarge refl (unless taken givenTwice refl
+    (either known (unless (ltb m 1) nameZero refl place) (fault notYetGiven refl)))))
 
 agent-number : (taken known : Bool) (number home : ℕ) → Numbered (agentRecord taken known number home)
 unfolding agentRecord
-agent-number taken known n h = unless (leb 64 n) 3 refl (unless (leb 64 h) 3 refl (unless taken 4 refl (either known agent (fault 5 refl))))
+agent-number taken known n h = unless (leb 64 n) tooLarge refl (unless (leb 64 h) tooLarge refl (unless taken givenTwice refl
+    (either known agent (fault notYetGiven refl))))
 
 action-number : (known full : Bool) (agent kind name : ℕ) → Numbered (actionRecord known full agent kind name)
 unfolding actionRecord
-action-number known full n k m = unless (leb 64 n) 3 refl (either known (unless (ltb k 1) 7 refl (unless (leb 4 k) 7 refl
-    (unless (ltb m 1) 6 refl (unless full 8 refl action)))) (fault 5 refl))
+action-number known full n k m = unless (leb 64 n) tooLarge refl (either known (unless (ltb k 1) wrongKind refl
+    (unless (ltb lastKind k) wrongKind refl (unless (ltb m 1) nameZero refl (unless full seventeenth refl action)))) (fault notYetGiven refl))
 
-record-number : (used given full : ℕ → Bool) (s : List ℕ) (at : ℕ) → Numbered (recordAt used given full s at)
+record-number : (k : Known) (s : List ℕ) (at : ℕ) → Numbered (recordAt k s at)
 unfolding recordAt
-record-number used given full s at =
-    either (eqb (byteAt s at) 1) (unless (ltb (length s - at) 5) 1 refl (place-number _ _ _ _ _))
-    (either (eqb (byteAt s at) 2) (unless (ltb (length s - at) 3) 1 refl (agent-number _ _ _ _))
-    (either (eqb (byteAt s at) 3) (unless (ltb (length s - at) 5) 1 refl (action-number _ _ _ _ _))
-    (either (eqb (byteAt s at) 4) end (fault 2 refl))))
+record-number k s at =
+    either (eqb (byteAt s at) 1) (unless (ltb (length s - at) 5) cutShort refl (place-number _ _ _ _ _))
+    (either (eqb (byteAt s at) 2) (unless (ltb (length s - at) 3) cutShort refl (agent-number _ _ _ _))
+    (either (eqb (byteAt s at) 3) (unless (ltb (length s - at) 5) cutShort refl (action-number _ _ _ _ _))
+    (either (eqb (byteAt s at) 4) end (fault unknownKind refl))))
 
 module _ (s : List ℕ) where
   -- a load is refused with a number 1 to 9 and an offset within the file
   data Fair : Load → Type 0 where
     taken : {c : State} → Fair (accepted c)
-    turned : (number offset : ℕ) → 1 ≤ number → number ≤ 9 → offset ≤ length s → Fair (refused number offset)
+    turned : (number offset : ℕ) → cutShort ≤ number → number ≤ afterEnd → offset ≤ length s → Fair (refused number offset)
 
-  cut-short : Fair (refused 1 (length s))
-  cut-short = turned 1 (length s) (omega arith) (omega arith) (omega arith)
+  cut-short : Fair (refused cutShort (length s))
+  cut-short = turned cutShort (length s) (omega arith) (omega arith) (omega arith)
 
   fair-record : (rest : State → ℕ → Load) → ((d : State) (next : ℕ) → Fair (rest d next)) → (c : State) (at : ℕ) → at < length s
       → {r : Record} → Numbered r → Fair (loadRecord rest c s at r)
@@ -93,11 +97,11 @@ module _ (s : List ℕ) where
   fair-record rest f c at l action = f _ _
   fair-record rest f c at l end = go (told (ltb (at + 1) (length s)))
     where
-      go : Told (ltb (at + 1) (length s)) → Fair (cond (ltb (at + 1) (length s)) (refused 9 (at + 1)) (accepted c))
-      go (yea t) = rw t (turned 9 (at + 1) (omega arith) (omega arith) (omega arith))
+      go : Told (ltb (at + 1) (length s)) → Fair (cond (ltb (at + 1) (length s)) (refused afterEnd (at + 1)) (accepted c))
+      go (yea t) = rw t (turned afterEnd (at + 1) (omega arith) (omega arith) (omega arith))
       go (nay t) = rw t taken
-  fair-record rest f c at l (fault number e) = turned number at (leb-true 1 number (and-left (leb 1 number) (leb number 8) e))
-      (omega (arith, leb-true number 8 (and-right (leb 1 number) (leb number 8) e))) (omega arith)
+  fair-record rest f c at l (fault number e) = turned number at (leb-true cutShort number (and-left (leb cutShort number) (leb number seventeenth) e))
+      (omega (arith, leb-true number seventeenth (and-right (leb cutShort number) (leb number seventeenth) e))) (omega arith)
 
   fair-from : (turns : ℕ) (c : State) (at : ℕ) → Fair (loadFrom turns c s at)
   unfolding loadFrom
@@ -105,7 +109,7 @@ module _ (s : List ℕ) where
   fair-from (suc turns) c at = go (told (ltb at (length s))) (λ d next. fair-from turns d next)
     where
       go : Told (ltb at (length s)) → ((d : State) (next : ℕ) → Fair (loadFrom turns d s next)) → Fair (loadFrom (suc turns) c s at)
-      go (yea t) f = rw t (fair-record _ f c at (ltb-true _ _ t) (record-number (c .land .used) (c .given) (isFull c) s at))
+      go (yea t) f = rw t (fair-record _ f c at (ltb-true _ _ t) (record-number (knownIn c) s at))
       go (nay t) f = rw t cut-short
 
   fair-load : Fair (load s)
@@ -114,12 +118,12 @@ module _ (s : List ℕ) where
 
   -- what that says of a refused load
   fair-number : {l : Load} {number offset : ℕ} → Fair l → l ≡ refused number offset
-      → ((leb 1 number && leb number 9) ≡ true) × (offset ≤ length s)
+      → ((leb cutShort number && leb number afterEnd) ≡ true) × (offset ≤ length s)
   fair-number taken e = never (cc)
   fair-number {number} {offset} (turned n o low high l) e =
       let p : n ≡ number = cc in
       let q : o ≡ offset = cc in
-      (rw (le-leb 1 number (omega arith), le-leb number 9 (omega arith)), omega arith)
+      (rw (le-leb cutShort number (omega arith), le-leb number afterEnd (omega arith)), omega arith)
 
 -- ---- each number exactly under its condition
 
@@ -140,38 +144,38 @@ refused-grounds (step-refused {t} {agent} {wish} {number} e) = go (told (sound (
   where
     go : Told (sound (cellOf t)) → Told (cellOf t .given agent) → Grounds (step-call t agent wish) number 0
     go (yea s) (yea g) = let f = rw (s, g) at e in never (cc)
-    go (yea s) (nay g) = let f = rw (s, g) at e in let z : 11 ≡ number = cc in of z (step-11 s g)
-    go (nay s) _ = let f = rw s at e in let z : 10 ≡ number = cc in of z (step-10 s)
+    go (yea s) (nay g) = let f = rw (s, g) at e in let z : noSuchAgent ≡ number = cc in of z (step-11 s g)
+    go (nay s) _ = let f = rw s at e in let z : unsoundTable ≡ number = cc in of z (step-10 s)
 refused-grounds (list-refused {t} {buffer} {number} e) = go (told (sound (cellOf t))) (told (leb (length (listing (cellOf t))) (length buffer)))
   where
     go : Told (sound (cellOf t)) → Told (leb (length (listing (cellOf t))) (length buffer)) → Grounds (list-call t buffer) number 0
     go (yea s) (yea r) = let f = rw (s, r) at e in never (cc)
-    go (yea s) (nay r) = let f = rw (s, r) at e in let z : 12 ≡ number = cc in of z (list-12 s (leb-false _ _ r))
-    go (nay s) _ = let f = rw s at e in let z : 10 ≡ number = cc in of z (list-10 s)
+    go (yea s) (nay r) = let f = rw (s, r) at e in let z : tooLong ≡ number = cc in of z (list-12 s (leb-false _ _ r))
+    go (nay s) _ = let f = rw s at e in let z : unsoundTable ≡ number = cc in of z (list-10 s)
 refused-grounds (check-refused {t} {number} e) = go (told (sound (cellOf t)))
   where
     go : Told (sound (cellOf t)) → Grounds (check-call t) number 0
     go (yea s) = let f = rw s at e in never (cc)
-    go (nay s) = let f = rw s at e in let z : 10 ≡ number = cc in of z (check-10 s)
+    go (nay s) = let f = rw s at e in let z : unsoundTable ≡ number = cc in of z (check-10 s)
 refused-grounds (idle-refused {t} {number} e) = go (told (sound (cellOf t))) (told (idle (cellOf t)))
   where
     go : Told (sound (cellOf t)) → Told (idle (cellOf t)) → Grounds (idle-call t) number 0
     go (yea s) (yea i) = let f = rw (s, i) at e in never (cc)
     go (yea s) (nay i) = let f = rw (s, i) at e in never (cc)
-    go (nay s) _ = let f = rw s at e in let z : 10 ≡ number = cc in of z (idle-10 s)
+    go (nay s) _ = let f = rw s at e in let z : unsoundTable ≡ number = cc in of z (idle-10 s)
 
 -- and from the condition to the answer
 grounds-refused : {k : KeeperCall} {number offset : ℕ} → Grounds k number offset → Refuses k number offset
 unfolding loadOf loaded stepOf turnedAway listAnswer checkOf idleOf
 grounds-refused (in-the-file {t} e) = load-refused (ap (λ (l : Load). loaded t l .verdict) e)
-grounds-refused (step-10 {t} {agent} {wish} s) = let e : stepOf t agent wish .answer ≡ Refused 10 = rw s in step-refused e
-grounds-refused (step-11 {t} {agent} {wish} s g) = let e : stepOf t agent wish .answer ≡ Refused 11 = rw (s, g) in step-refused e
-grounds-refused (list-10 {t} {buffer} s) = let e : listAnswer (cellOf t) buffer ≡ Unlisted 10 = rw s in list-refused e
+grounds-refused (step-10 {t} {agent} {wish} s) = let e : stepOf t agent wish .answer ≡ Refused unsoundTable = rw s in step-refused e
+grounds-refused (step-11 {t} {agent} {wish} s g) = let e : stepOf t agent wish .answer ≡ Refused noSuchAgent = rw (s, g) in step-refused e
+grounds-refused (list-10 {t} {buffer} s) = let e : listAnswer (cellOf t) buffer ≡ Unlisted unsoundTable = rw s in list-refused e
 grounds-refused (list-12 {t} {buffer} s l) =
-    let e : listAnswer (cellOf t) buffer ≡ Unlisted 12 = rw (s, lt-leb (length (listing (cellOf t))) (length buffer) l) in
+    let e : listAnswer (cellOf t) buffer ≡ Unlisted tooLong = rw (s, lt-leb (length (listing (cellOf t))) (length buffer) l) in
     list-refused e
-grounds-refused (check-10 {t} s) = let e : checkOf t ≡ Unsound 10 = rw s in check-refused e
-grounds-refused (idle-10 {t} s) = let e : idleOf t ≡ Unknown 10 = rw s in idle-refused e
+grounds-refused (check-10 {t} s) = let e : checkOf t ≡ Unsound unsoundTable = rw s in check-refused e
+grounds-refused (idle-10 {t} s) = let e : idleOf t ≡ Unknown unsoundTable = rw s in idle-refused e
 
 -- ---- what follows from the condition
 

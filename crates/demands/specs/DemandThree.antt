@@ -1,4 +1,4 @@
--- Demand 3: from every file that load accepts, after every list of calls, the cell is one tree and equals the plain tree, which came by the
+-- Demand 3: from every cell as a load leaves it, after every list of calls, the cell is one tree and equals the plain tree, which came by the
 -- permitted moves; while not all are at rest some step changes the cell, and then no move is permitted.
 -- Idea: the calls keep the invariant and the plain tree beside the cell; the claims follow from these two, read off the table.
 use mathlib.Core.Path.{_≡_, refl, sym, ap, _∙_, subst, fun-ext}
@@ -30,12 +30,12 @@ use Rattle.demands.specs.SoundTest.{leads-all}
 use Rattle.demands.specs.Always.{step-back, sized-run, inv-run}
 use Rattle.demands.specs.Fresh.{Fresh}
 use Rattle.demands.specs.Loading.{accepted-fresh}
-use Rattle.demands.specs.LoadingLaws.{fresh-stage, accepted-inv, accepted-forth}
+use Rattle.demands.specs.LoadingLaws.{fresh-stage, fresh-inv, fresh-forth}
 use Rattle.demands.specs.Live.{Goes, live}
 use Rattle.demands.specs.AtRest.{all-linked, no-move}
 use Rattle.demands.specs.AfterCalls.{EqualsPlain, StepChanges, reached, plainAfter, AfterCalls}
 use Rattle.demands.specs.SamePlain.{Same}
-use Rattle.demands.specs.RunKeeps.{Beside, call-made, run-keeps}
+use Rattle.demands.specs.RunKeeps.{Beside, steps-history, call-made, run-keeps}
 use Rattle.demands.specs.Resting.{rests-stage, any-wish, idle-all}
 
 -- ---- the start
@@ -93,11 +93,11 @@ module _ (t : Cell) (z : Sized t) (i : Inv (cellOf t)) where
       stages : (x : ℕ) → 7 ≤ agentIn c x .stage
       stages x = go x (told (c .given x))
 
--- ---- the demand
+-- ---- the demand, from a fresh cell
 
-module _ (s : List ℕ) (c : State) (e : load s ≡ accepted c) (calls : List Call) where
-  loaded-inv : Inv (cellOf (tableOf c))
-  loaded-inv = subst Inv (sym (accepted-forth s c e)) (accepted-inv s c e)
+module _ (c : State) (f : Fresh c) (calls : List Call) where
+  start-inv : Inv (cellOf (tableOf c))
+  start-inv = subst Inv (sym (fresh-forth c f)) (fresh-inv c f)
 
   -- the table reached has the sizes of the struct
   pub reached-sized : Sized (reached c calls)
@@ -105,31 +105,45 @@ module _ (s : List ℕ) (c : State) (e : load s ≡ accepted c) (calls : List Ca
 
   -- and its cell the invariant
   pub reached-inv : Inv (cellOf (reached c calls))
-  reached-inv = inv-run (tableOf c) calls (sized-table c) loaded-inv
+  reached-inv = inv-run (tableOf c) calls (sized-table c) start-inv
 
   -- the plain tree beside it
-  beside : Beside (tableOf c) (plainOf c) calls
-  beside = run-keeps calls (tableOf c) (sized-table c) loaded-inv (plainOf c)
-      (subst (λ d. Same d (plainOf c)) (sym (accepted-forth s c e)) (fresh-same c (accepted-fresh s c e)))
+  pub reached-beside : Beside (tableOf c) (plainOf c) calls
+  reached-beside = run-keeps calls (tableOf c) (sized-table c) start-inv (plainOf c) (subst (λ d. Same d (plainOf c)) (sym (fresh-forth c f)) (fresh-same c f))
 
   -- it has the tree of the cell reached
   pub reached-tree : plainAfter c calls .tree ≡ treeOf (cellOf (reached c calls))
-  reached-tree = beside .same .tree
+  reached-tree = reached-beside .same .tree
 
   -- demand 3
-  pub demand-three : AfterCalls c calls
-  demand-three = record {
+  pub fresh-three : AfterCalls c calls
+  fresh-three = record {
     one-tree = tree-of (reached c calls) reached-sized reached-inv;
     equals = subst (EqualsPlain (cellOf (reached c calls))) (sym reached-tree) (equals-tree (cellOf (reached c calls)));
-    history = beside .history;
+    history = steps-history (reached-beside .steps);
     goes-on = goes-of (reached c calls) reached-sized reached-inv;
     at-rest = λ r a u v. rest-of (reached c calls) reached-sized reached-inv r a u (subst (λ t. Move t a u) reached-tree v);
   }
 
   -- whether an answer says asleep or done does not depend on the wish
+  pub fresh-any-wish : (x wish : ℕ) → saysRest (stepOf (reached c calls) x wish .answer) ≡ rests (reached c calls) x
+  fresh-any-wish = any-wish (reached c calls) reached-inv
+
+  -- the cell is idle exactly if every agent that is given rests
+  pub fresh-idle : (idle (cellOf (reached c calls)) ≡ true) ↔ ((x : ℕ) → cellOf (reached c calls) .given x ≡ true → rests (reached c calls) x ≡ true)
+  fresh-idle = idle-all (reached c calls) reached-inv
+
+-- ---- from an accepted file
+
+module _ (s : List ℕ) (c : State) (e : load s ≡ accepted c) (calls : List Call) where
+  -- demand 3
+  pub demand-three : AfterCalls c calls
+  demand-three = fresh-three c (accepted-fresh s c e) calls
+
+  -- whether an answer says asleep or done does not depend on the wish
   pub rests-any-wish : (x wish : ℕ) → saysRest (stepOf (reached c calls) x wish .answer) ≡ rests (reached c calls) x
-  rests-any-wish = any-wish (reached c calls) reached-inv
+  rests-any-wish = fresh-any-wish c (accepted-fresh s c e) calls
 
   -- the cell is idle exactly if every agent that is given rests
   pub idle-rests : (idle (cellOf (reached c calls)) ≡ true) ↔ ((x : ℕ) → cellOf (reached c calls) .given x ≡ true → rests (reached c calls) x ≡ true)
-  idle-rests = idle-all (reached c calls) reached-inv
+  idle-rests = fresh-idle c (accepted-fresh s c e) calls

@@ -2,16 +2,17 @@
 -- Idea: each test is a conjunction; told apart into its parts it is one of the propositions of the invariant, and back.
 use mathlib.Core.Path.{_≡_, refl, sym, ap, _∙_}
 use mathlib.Core.Logic.{_≢_}
-use Prim.Native.Nat.{ℕ, zero, suc, _≤_, _<_}
+use Prim.Native.Nat.{ℕ, _≤_, _<_}
 use mathlib.Core.Bool.{Bool, true, false, not, _&&_, cond, or-true}
 use native.Mathlib.Omega.{arith}
 use lib.Dec.{ltb, eqb}
 use borrow.Author.Tests.{eqb-true, eq-eqb, ne-eqb, ltb-true, ltb-false, not-true}
 use Rattle.table.specs.BaseLaws.{Told, yea, nay, told, clash, and-left, and-right, all-at, all-yes, any-at, any-found}
-use Rattle.table.specs.Cell.{Land, State, none, linked, linkedTo, travels, kindOf, nameOf}
+use Rattle.table.specs.Cell.{Land, State, none, linked, linkedTo, travels, kindOf, nameOf, enterKind, exitKind, openKind, looksHome, answersTo}
+use Rattle.table.specs.Kinds.{Kind, is-enter, is-exit, is-open, kind-around}
 use Rattle.table.specs.Sound.{secondPlace}
 use Rattle.table.specs.declared.Agent.{Agent}
-use Rattle.meaning.specs.Step.{onWayTo, awaited, entersAt, exitsFrom, opensAt, qualifies, targetOf, fires, stays}
+use Rattle.meaning.specs.Step.{onWayTo, awaited, named, entersAt, exitsFrom, opensAt, qualifies, targetOf, fires, stays}
 use Rattle.meaning.specs.Run.{settled}
 use Rattle.calculus.specs.MoveCases.{differ}
 use Rattle.demands.specs.Reading.{parentIn, nameIn}
@@ -135,68 +136,61 @@ settled-at c e q l u =
 
 -- ---- what qualifies, by the kind of the action
 
--- the kinds of document 01
-pub data Kind (kind : ℕ) : Type 0 where
-  is-enter : kind ≡ 1 → Kind kind
-  is-exit : kind ≡ 2 → Kind kind
-  is-open : kind ≡ 3 → Kind kind
-
--- a kind in range is one of them
-pub kind-is : (kind : ℕ) → 1 ≤ kind → kind ≤ 3 → Kind kind
-kind-is zero a b = absurd (omega arith)
-kind-is (suc zero) a b = is-enter refl
-kind-is (suc (suc zero)) a b = is-exit refl
-kind-is (suc (suc (suc zero))) a b = is-open refl
-kind-is (suc (suc (suc (suc k)))) a b = absurd (omega arith)
-
--- q is linked to p and named n
-pub record Child (l : Land) (p n q : ℕ) : Type 0 where
+-- q is linked to p and named n, as an action of this kind asks
+pub record Child (kind : ℕ) (l : Land) (p n q : ℕ) : Type 0 where
   pub under : Under l q p
-  pub name : nameIn l q ≡ n
+  pub name : answersTo kind (nameIn l q) ≡ n
 
 module _ (l : Land) (kind n home p q : ℕ) where
   -- the test of a child with one more condition, as enter and open have it
-  child : (b : Bool) → linkedTo l q p && (eqb (l .place q .name) n && b) ≡ true → Child l p n q × (b ≡ true)
-  child b e =
+  child : (k : ℕ) (b : Bool) → linkedTo l q p && (named k l q n && b) ≡ true → Child k l p n q × (b ≡ true)
+  child k b e =
       let t = and-left (linkedTo l q p) _ e in
       let r = and-right (linkedTo l q p) _ e in
       let u = under-fits l q p t in (
-        record { under = u; name = name-read l q (link-used l q (u .link)) ∙ eqb-true _ n (and-left (eqb (l .place q .name) n) b r) },
-        and-right (eqb (l .place q .name) n) b r,
+        record { under = u; name = ap (answersTo k) (name-read l q (link-used l q (u .link))) ∙ eqb-true _ n (and-left (named k l q n) b r) },
+        and-right (named k l q n) b r,
       )
 
-  child-of : (b : Bool) → Child l p n q → b ≡ true → linkedTo l q p && (eqb (l .place q .name) n && b) ≡ true
-  child-of b c e = rw (under-of l q p (c .under), eq-eqb (l .place q .name) n (sym (name-read l q (link-used l q (c .under .link))) ∙ c .name), e)
+  child-of : (k : ℕ) (b : Bool) → Child k l p n q → b ≡ true → linkedTo l q p && (named k l q n && b) ≡ true
+  child-of k b c e =
+      let name = ap (answersTo k) (sym (name-read l q (link-used l q (c .under .link)))) ∙ c .name in
+      rw (under-of l q p (c .under), eq-eqb (answersTo k (l .place q .name)) n name, e)
 
   -- what each kind asks, told apart
-  pub enters-fits : kind ≡ 1 → qualifies l kind n home p q ≡ true → Child l p n q × (q ≢ home)
+  pub enters-fits : kind ≡ enterKind → qualifies l kind n home p q ≡ true → Child enterKind l p n q × (q ≢ home)
   unfolding qualifies entersAt
-  enters-fits k e = let r = child (not (eqb q home)) (rw k at e) in (r .0, differ q home (r .1))
+  enters-fits k e = let r = child enterKind (not (eqb q home)) (rw k at e) in (r .0, differ q home (r .1))
 
-  pub exits-fits : kind ≡ 2 → qualifies l kind n home p q ≡ true → (q ≡ p) × (linked l p ≡ true) × (nameIn l p ≡ n)
+  pub exits-fits : kind ≡ exitKind → qualifies l kind n home p q ≡ true → (q ≡ p) × (linked l p ≡ true) × (answersTo exitKind (nameIn l p) ≡ n)
   unfolding qualifies exitsFrom
   exits-fits k e =
-      let f : (eqb q p && (linked l p && eqb (l .place p .name) n)) ≡ true = rw k at e in
+      let f : (eqb q p && (linked l p && named exitKind l p n)) ≡ true = rw k at e in
       let r = and-right (eqb q p) _ f in
       let u = and-left (linked l p) _ r in
-      (eqb-true q p (and-left (eqb q p) _ f), u, name-read l p (link-used l p u) ∙ eqb-true _ n (and-right (linked l p) _ r))
+      (eqb-true q p (and-left (eqb q p) _ f), u, ap (answersTo exitKind) (name-read l p (link-used l p u)) ∙ eqb-true _ n (and-right (linked l p) _ r))
 
-  pub opens-fits : kind ≡ 3 → qualifies l kind n home p q ≡ true → Child l p n q × (awaited l q ≡ false)
+  pub opens-fits : kind ≡ openKind → qualifies l kind n home p q ≡ true → Child openKind l p n q × (awaited l q ≡ false)
   unfolding qualifies opensAt
-  opens-fits k e = let r = child (not (awaited l q)) (rw k at e) in (r .0, not-true (awaited l q) (r .1))
+  opens-fits k e = let r = child openKind (not (awaited l q)) (rw k at e) in (r .0, not-true (awaited l q) (r .1))
 
   -- and put together
-  pub enters-of : kind ≡ 1 → Child l p n q → q ≢ home → qualifies l kind n home p q ≡ true
+  pub enters-of : kind ≡ enterKind → Child enterKind l p n q → q ≢ home → qualifies l kind n home p q ≡ true
   unfolding qualifies entersAt
-  enters-of k c d = rw k (child-of (not (eqb q home)) c (rw (ne-eqb q home d)))
+  enters-of k c d = rw k (child-of enterKind (not (eqb q home)) c (rw (ne-eqb q home d)))
 
-  pub exits-of : kind ≡ 2 → q ≡ p → linked l p ≡ true → nameIn l p ≡ n → qualifies l kind n home p q ≡ true
+  pub exits-of : kind ≡ exitKind → q ≡ p → linked l p ≡ true → answersTo exitKind (nameIn l p) ≡ n → qualifies l kind n home p q ≡ true
   unfolding qualifies exitsFrom
-  exits-of k s u e = rw (k, eq-eqb q p s, u, eq-eqb (l .place p .name) n (sym (name-read l p (link-used l p u)) ∙ e))
+  exits-of k s u e = rw (
+    k,
+    eq-eqb q p s,
+    u,
+    eq-eqb (answersTo exitKind (l .place p .name)) n (ap (answersTo exitKind) (sym (name-read l p (link-used l p u))) ∙ e),
+  )
 
-  pub opens-of : kind ≡ 3 → Child l p n q → awaited l q ≡ false → qualifies l kind n home p q ≡ true
+  pub opens-of : kind ≡ openKind → Child openKind l p n q → awaited l q ≡ false → qualifies l kind n home p q ≡ true
   unfolding qualifies opensAt
-  opens-of k c d = rw k (child-of (not (awaited l q)) c (rw d))
+  opens-of k c d = rw k (child-of openKind (not (awaited l q)) c (rw d))
 
   -- what qualifies is linked
   pub fits-linked : Kind kind → qualifies l kind n home p q ≡ true → linked l q ≡ true
@@ -212,26 +206,26 @@ unfolding fires
 fires-target l a = refl
 
 -- the target is the chosen place for enter and open
-pub target-chosen : (a : Agent) → kindOf a ≢ 2 → targetOf a ≡ a .chosen
-target-chosen a n = rw (ne-eqb (kindOf a) 2 n)
+pub target-chosen : (a : Agent) → kindOf a ≢ exitKind → targetOf a ≡ a .chosen
+target-chosen a n = rw (ne-eqb (kindOf a) exitKind n)
 
 -- enter and exit stay exactly if their place is linked to the remembered one
-pub stays-under : (l : Land) (a : Agent) → kindOf a ≤ 2 → stays l a ≡ true → Under l (a .home) (a .remembered)
+pub stays-under : (l : Land) (a : Agent) → kindOf a ≤ exitKind → stays l a ≡ true → Under l (a .home) (a .remembered)
 unfolding stays
-stays-under l a k e = under-fits l (a .home) (a .remembered) (rw (ne-eqb (kindOf a) 3 (λ z. omega arith)) at e)
+stays-under l a k e = under-fits l (a .home) (a .remembered) (rw (kind-around (kindOf a) k) at e)
 
 pub stays-of : (l : Land) (a : Agent) → Under l (a .home) (a .remembered) → stays l a ≡ true
 unfolding stays
-stays-of l a u = rw (under-of l (a .home) (a .remembered) u) (or-true (eqb (kindOf a) 3))
+stays-of l a u = rw (under-of l (a .home) (a .remembered) u) (or-true (looksHome (kindOf a)))
 
--- an opener stays
-pub stays-open : (l : Land) (a : Agent) → kindOf a ≡ 3 → stays l a ≡ true
+-- an agent that looks at its own place stays
+pub stays-home : (l : Land) (a : Agent) → looksHome (kindOf a) ≡ true → stays l a ≡ true
 unfolding stays
-stays-open l a k = rw k
+stays-home l a k = rw k
 
 -- the second place is its own for enter and exit, the chosen one for open
-pub second-move : (kind home chosen : ℕ) → kind ≤ 2 → secondPlace kind home chosen ≡ home
-second-move kind home chosen k = rw (ne-eqb kind 3 (λ z. omega arith))
+pub second-move : (kind home chosen : ℕ) → kind ≤ exitKind → secondPlace kind home chosen ≡ home
+second-move kind home chosen k = rw (ne-eqb kind openKind (λ z. omega arith))
 
-pub second-open : (kind home chosen : ℕ) → kind ≡ 3 → secondPlace kind home chosen ≡ chosen
+pub second-open : (kind home chosen : ℕ) → kind ≡ openKind → secondPlace kind home chosen ≡ chosen
 second-open kind home chosen k = rw k

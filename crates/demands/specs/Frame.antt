@@ -1,6 +1,6 @@
 -- What an agent keeps when places and locks change around it: the facts of its stage, and a sleeper its reason to sleep.
 -- By cases on what is known of it; each fact speaks of one or two places that the change leaves alone.
-use mathlib.Core.Path.{_≡_, refl, sym, _∙_, subst}
+use mathlib.Core.Path.{_≡_, refl, sym, ap, _∙_, subst}
 use mathlib.Core.Logic.{_≢_, inl, inr}
 use Prim.Native.Nat.{ℕ, _≤_}
 use mathlib.Core.Bool.{true, false}
@@ -8,7 +8,8 @@ use native.Mathlib.Omega.{arith}
 use lib.Dec.{eqb}
 use borrow.Author.Tests.{eqb-true, eqb-false}
 use Rattle.table.specs.BaseLaws.{Told, yea, nay, told, clash}
-use Rattle.table.specs.Cell.{Land, linked, kindOf, nameOf, unused}
+use Rattle.table.specs.Cell.{Land, linked, kindOf, nameOf, unused, exitKind, answersTo}
+use Rattle.table.specs.Kinds.{Kind, is-enter, is-exit, is-open}
 use Rattle.table.specs.declared.Agent.{Agent}
 use Rattle.meaning.specs.Update.{atStage}
 use Rattle.meaning.specs.Step.{awaited, qualifies, stays, asleepOn}
@@ -17,8 +18,8 @@ use Rattle.demands.specs.ReadingLaws.{wakeAgent}
 use Rattle.demands.specs.Invariant.{Under, Has, Ready, Away, Travels, Sleeper, alone, stuck}
 use Rattle.demands.specs.Invariant.{Ok, ok0, ok1, ok2, ok3-move, ok3-open, ok4, ok5, ok6, ok7, ok8}
 use Rattle.demands.specs.Stages.{SameOrReset}
-use Rattle.demands.specs.Facts.{not-yes, link-used, Child, stays-under, stays-of, stays-open}
-use Rattle.demands.specs.Facts.{Kind, is-enter, is-exit, is-open, enters-fits, exits-fits, opens-fits, enters-of, exits-of, opens-of}
+use Rattle.demands.specs.Facts.{not-yes, link-used, Child, stays-under, stays-of, stays-home}
+use Rattle.demands.specs.Facts.{enters-fits, exits-fits, opens-fits, enters-of, exits-of, opens-of}
 
 -- ---- the facts of a stage
 
@@ -78,17 +79,17 @@ module _ (l l′ : Land) (a : Agent) (k : Kind (kindOf a)) (m : Calm l l′ a) w
   stays-frame : Kind (kindOf a) → stays l a ≡ true → stays l′ a ≡ true
   stays-frame (is-enter k) e = stays-of l′ a (m .keeps (stays-under l a (omega arith) e))
   stays-frame (is-exit k) e = stays-of l′ a (m .keeps (stays-under l a (omega arith) e))
-  stays-frame (is-open k) e = stays-open l′ a k
+  stays-frame (is-open k) e = stays-home l′ a (rw k)
 
-  child-frame : (n q : ℕ) → Child l′ (a .remembered) n q → Child l (a .remembered) n q
-  child-frame n q c = record { under = m .child q (c .under); name = sym (m .names q (c .under .link)) ∙ c .name }
+  child-frame : (k n q : ℕ) → Child k l′ (a .remembered) n q → Child k l (a .remembered) n q
+  child-frame k n q c = record { under = m .child q (c .under); name = ap (answersTo k) (sym (m .names q (c .under .link))) ∙ c .name }
 
   fits-frame : (q : ℕ) → Kind (kindOf a) → qualifies l′ (kindOf a) (nameOf a) (a .home) (a .remembered) q ≡ true
       → qualifies l (kindOf a) (nameOf a) (a .home) (a .remembered) q ≡ true
-  fits-frame q (is-enter k) e = let f = enters-fits l′ _ _ _ _ q k e in enters-of l _ _ _ _ q k (child-frame _ q (f .0)) (f .1)
-  fits-frame q (is-exit k) e = let f = exits-fits l′ _ _ _ _ q k e in exits-of l _ _ _ _ q k (f .0) (m .up (f .1)) (sym (m .names _ (f .1)) ∙ f .2)
+  fits-frame q (is-enter k) e = let f = enters-fits l′ _ _ _ _ q k e in enters-of l _ _ _ _ q k (child-frame _ _ q (f .0)) (f .1)
+  fits-frame q (is-exit k) e = let f = exits-fits l′ _ _ _ _ q k e in exits-of l _ _ _ _ q k (f .0) (m .up (f .1)) (ap (answersTo exitKind) (sym (m .names _ (f .1))) ∙ f .2)
   fits-frame q (is-open k) e = let f = opens-fits l′ _ _ _ _ q k e in
-      opens-of l _ _ _ _ q k (child-frame _ q (f .0)) (m .awaits q (f .0 .under) (f .1))
+      opens-of l _ _ _ _ q k (child-frame _ _ q (f .0)) (m .awaits q (f .0 .under) (f .1))
 
   -- so it keeps its reason
   pub sleeper-frame : Sleeper l a → Sleeper l′ a

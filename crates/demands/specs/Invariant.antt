@@ -6,7 +6,8 @@ use mathlib.Core.Logic.{_≢_}
 use mathlib.Core.List.{[]}
 use Prim.Native.Nat.{ℕ, _≤_, _<_}
 use mathlib.Core.Bool.{true, false}
-use Rattle.table.specs.Cell.{Land, State, none, linked, kindOf, nameOf, unused}
+use Rattle.table.specs.Cell.{Land, State, none, linked, kindOf, nameOf, unused, enterKind, exitKind, openKind}
+use Rattle.table.specs.Cell.{looking, found, holding, holdingBoth, onWay, onWayOwn, onWayBoth, asleep, done}
 use Rattle.table.specs.Sound.{secondPlace}
 use Rattle.table.specs.declared.Agent.{Agent}
 use Rattle.meaning.specs.Step.{qualifies, stays}
@@ -49,7 +50,7 @@ pub record Fit (a : Agent) : Type 0 where
 pub record Ready (l : Land) (a : Agent) : Type 0 where
   pub some : 1 ≤ kindOf a
   pub known : l .used (a .remembered) ≡ true
-  pub opener : kindOf a ≡ 3 → a .remembered ≡ a .home
+  pub opener : openKind ≤ kindOf a → a .remembered ≡ a .home
 
 -- an agent whose own place is on its way
 pub record Away (l : Land) (a : Agent) : Type 0 where
@@ -58,25 +59,25 @@ pub record Away (l : Land) (a : Agent) : Type 0 where
 
 -- what its stage says of an agent, of the places and of the locks
 pub data Ok (l : Land) (lock : ℕ → ℕ) (x : ℕ) (a : Agent) : Type 0 where
-  ok0 : a .stage ≡ 0 → 1 ≤ kindOf a → Ok l lock x a
-  ok1 : a .stage ≡ 1 → Ready l a → Ok l lock x a
-  ok2 : a .stage ≡ 2 → Ready l a → Has lock (a .remembered) x → Ok l lock x a
-  ok3-move : a .stage ≡ 3 → Ready l a → kindOf a ≤ 2 → Has lock (a .remembered) x → Has lock (a .home) x
-      → Under l (a .home) (a .remembered) → (kindOf a ≡ 1 → Under l (a .chosen) (a .remembered)) → Ok l lock x a
-  ok3-open : a .stage ≡ 3 → Ready l a → kindOf a ≡ 3 → Has lock (a .remembered) x → Has lock (a .chosen) x
+  ok0 : a .stage ≡ looking → 1 ≤ kindOf a → Ok l lock x a
+  ok1 : a .stage ≡ found → Ready l a → Ok l lock x a
+  ok2 : a .stage ≡ holding → Ready l a → Has lock (a .remembered) x → Ok l lock x a
+  ok3-move : a .stage ≡ holdingBoth → Ready l a → kindOf a ≤ exitKind → Has lock (a .remembered) x → Has lock (a .home) x
+      → Under l (a .home) (a .remembered) → (kindOf a ≡ enterKind → Under l (a .chosen) (a .remembered)) → Ok l lock x a
+  ok3-open : a .stage ≡ holdingBoth → Ready l a → kindOf a ≡ openKind → Has lock (a .remembered) x → Has lock (a .chosen) x
       → Under l (a .chosen) (a .remembered) → Ok l lock x a
-  ok4 : a .stage ≡ 4 → Away l a → Ok l lock x a
-  ok5 : a .stage ≡ 5 → Away l a → Has lock (a .home) x → Ok l lock x a
-  ok6 : a .stage ≡ 6 → Away l a → Has lock (a .home) x → Has lock (parentIn l (a .home)) x → Ok l lock x a
-  ok7 : a .stage ≡ 7 → 1 ≤ kindOf a → l .used (a .remembered) ≡ true → Ok l lock x a
-  ok8 : a .stage ≡ 8 → unused a ≡ [] → Ok l lock x a
+  ok4 : a .stage ≡ onWay → Away l a → Ok l lock x a
+  ok5 : a .stage ≡ onWayOwn → Away l a → Has lock (a .home) x → Ok l lock x a
+  ok6 : a .stage ≡ onWayBoth → Away l a → Has lock (a .home) x → Has lock (parentIn l (a .home)) x → Ok l lock x a
+  ok7 : a .stage ≡ asleep → 1 ≤ kindOf a → l .used (a .remembered) ≡ true → Ok l lock x a
+  ok8 : a .stage ≡ done → unused a ≡ [] → Ok l lock x a
 
 -- the places that an agent's stage says it holds
 pub data Holds (l : Land) (a : Agent) (q : ℕ) : Type 0 where
-  near : 2 ≤ a .stage → a .stage ≤ 3 → q ≡ a .remembered → Holds l a q
-  far : a .stage ≡ 3 → q ≡ secondPlace (kindOf a) (a .home) (a .chosen) → Holds l a q
-  own : 5 ≤ a .stage → a .stage ≤ 6 → q ≡ a .home → Holds l a q
-  destination : a .stage ≡ 6 → q ≡ parentIn l (a .home) → Holds l a q
+  near : holding ≤ a .stage → a .stage ≤ holdingBoth → q ≡ a .remembered → Holds l a q
+  far : a .stage ≡ holdingBoth → q ≡ secondPlace (kindOf a) (a .home) (a .chosen) → Holds l a q
+  own : onWayOwn ≤ a .stage → a .stage ≤ onWayBoth → q ≡ a .home → Holds l a q
+  destination : a .stage ≡ onWayBoth → q ≡ parentIn l (a .home) → Holds l a q
 
 -- a lock is free, or the agent that has it says so by its stage
 pub data Kept (l : Land) (lock : ℕ → ℕ) (agent : ℕ → Agent) (q : ℕ) : Type 0 where
@@ -85,8 +86,8 @@ pub data Kept (l : Land) (lock : ℕ → ℕ) (agent : ℕ → Agent) (q : ℕ) 
 
 -- an agent at stages 4 to 6
 pub record Travels (a : Agent) : Type 0 where
-  pub from : 4 ≤ a .stage
-  pub to : a .stage ≤ 6
+  pub from : onWay ≤ a .stage
+  pub to : a .stage ≤ onWayBoth
 
 -- an agent of place q at stages 4 to 6
 pub record Mover (agent : ℕ → Agent) (q : ℕ) : Type 0 where
@@ -109,13 +110,13 @@ pub record Sound (c : State) : Type 0 where
 
 -- why an agent sleeps: its place has no linked parent, or its action does not fire where it would look now
 pub data Sleeper (l : Land) (a : Agent) : Type 0 where
-  alone : kindOf a ≤ 2 → a .remembered ≡ a .home → linked l (a .home) ≡ false → Sleeper l a
-  stuck : (kindOf a ≡ 3 → a .remembered ≡ a .home) → stays l a ≡ true
+  alone : kindOf a ≤ exitKind → a .remembered ≡ a .home → linked l (a .home) ≡ false → Sleeper l a
+  stuck : (openKind ≤ kindOf a → a .remembered ≡ a .home) → stays l a ≡ true
       → ((q : ℕ) → qualifies l (kindOf a) (nameOf a) (a .home) (a .remembered) q ≡ false) → Sleeper l a
 
 -- each sleeper has a reason to sleep
 abbrev pub Reasons : State → Type 0
-Reasons c = (x : ℕ) → agentIn c x .stage ≡ 7 → Sleeper (c .land) (agentIn c x)
+Reasons c = (x : ℕ) → agentIn c x .stage ≡ asleep → Sleeper (c .land) (agentIn c x)
 
 -- the invariant: the cell is sound, and each sleeper has a reason to sleep
 pub record Inv (c : State) : Type 0 where

@@ -7,7 +7,7 @@ use mathlib.Core.Bool.{Bool, true, false}
 use native.Mathlib.Omega.{arith}
 use Rattle.table.specs.Base.{upd}
 use Rattle.table.specs.BaseLaws.{clash, upd-at, upd-other, upd-all}
-use Rattle.table.specs.Cell.{Land, State, linked, kindOf}
+use Rattle.table.specs.Cell.{Land, State, linked, kindOf, enterKind, exitKind}
 use Rattle.table.specs.declared.Agent.{Agent}
 use Rattle.meaning.specs.Update.{useUp, atStage, released}
 use Rattle.meaning.specs.Step.{awaited, fires, sendTo, leave}
@@ -113,7 +113,8 @@ module _ (c : State) (i : Sound c) (x : ℕ) (g : c .given x ≡ true) (e : c .a
         steps = g;
         untouched = woken-untouched c x g _ _ _ h _ _ _ (home-given c i x g)
             (released-outside (c .land .used) (c .lock) _ _ (ok-at 3 e (ok-given c i x g) .0 .known) (home-given c i x g));
-        used = λ q. refl;
+        used = λ q u. u;
+        fresh = λ q n u. clash u n;
         new = atStage (useUp a) 4 0 0;
         woke = λ y. wakeAgent (a .remembered) h h (agentIn c y);
         reads = agent-woken c (a .remembered) h h x (atStage (useUp a) 4 0 0) g;
@@ -140,7 +141,7 @@ module _ (c : State) (i : Sound c) (x : ℕ) (g : c .given x ≡ true) (e : c .a
   placed m z = clash (ap (linked (c .land)) (sym z) ∙ m .under .link) (i .places .floor-link)
 
   -- stage 3 of enter: into the chosen place, which is beside its own
-  pub keep-enter : kindOf (c .agent x) ≡ 1 → fires (c .land) (c .agent x) ≡ true → Keeps c x (leave c x (c .agent x) (c .agent x .chosen) .cell)
+  pub keep-enter : kindOf (c .agent x) ≡ enterKind → fires (c .land) (c .agent x) ≡ true → Keeps c x (leave c x (c .agent x) (c .agent x .chosen) .cell)
   keep-enter k f = keep-leave c i x g e m (c .agent x .chosen) (link-used (c .land) (c .agent x .chosen) (t .link))
       (enter-up (parentIn (c .land)) (i .places .floor-parent) (c .agent x .home) (c .agent x .chosen) (placed m) apart
       (t .parent ∙ sym (m .under .parent)) (i .places .tree))
@@ -156,7 +157,7 @@ module _ (c : State) (i : Sound c) (x : ℕ) (g : c .given x ≡ true) (e : c .a
           (enters-fits (c .land) _ _ _ _ _ k (sym (fires-target (c .land) (c .agent x)) ∙ f) .1)
 
   -- stage 3 of exit: to where the remembered place stands
-  pub keep-exit : kindOf (c .agent x) ≡ 2 → Keeps c x (leave c x (c .agent x) (parentIn (c .land) (c .agent x .remembered)) .cell)
+  pub keep-exit : kindOf (c .agent x) ≡ exitKind → Keeps c x (leave c x (c .agent x) (parentIn (c .land) (c .agent x .remembered)) .cell)
   keep-exit k = keep-leave c i x g e m (parentIn (c .land) (c .agent x .remembered)) (i .places .parent-used _)
       (subst (λ (p : ℕ). (q : ℕ) → Up (upd (parentIn (c .land)) (c .agent x .home) (parentIn (c .land) p)) q) (m .under .parent)
       (exit-up (parentIn (c .land)) (i .places .floor-parent) (c .agent x .home) (placed m) (i .places .tree)))

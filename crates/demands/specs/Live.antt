@@ -10,7 +10,7 @@ use lib.Dec.{eqb}
 use borrow.Author.Tests.{eqb-false, ne-eqb, not-true}
 use Rattle.table.specs.Base.{upd, anyBelow, iter}
 use Rattle.table.specs.BaseLaws.{Told, yea, nay, told, clash, eq?, and-left, and-right, upd-same, any-at, any-found}
-use Rattle.table.specs.Cell.{Land, State, none, linked, linkedTo, kindOf}
+use Rattle.table.specs.Cell.{Land, State, none, linked, linkedTo, kindOf, exitKind, openKind}
 use Rattle.table.specs.Sound.{secondPlace}
 use Rattle.table.specs.declared.Agent.{Agent}
 use Rattle.meaning.specs.Update.{useUp}
@@ -57,7 +57,7 @@ module _ (c : State) (i : Sound c) (x : ℕ) (g : c .given x ≡ true) where
   -- the second place is linked to the remembered one
   pub second-under : (w : ℕ) → stays (c .land) (c .agent x) ≡ true → choice (c .land) (c .agent x) w < 64
       → Under (c .land) (secondPlace (kindOf (c .agent x)) (c .agent x .home) (choice (c .land) (c .agent x) w)) (c .agent x .remembered)
-  second-under w st l = go (eq? (kindOf (c .agent x)) 3)
+  second-under w st l = go (eq? (kindOf (c .agent x)) openKind)
     where
       q : ℕ
       q = choice (c .land) (c .agent x) w
@@ -66,11 +66,11 @@ module _ (c : State) (i : Sound c) (x : ℕ) (g : c .given x ≡ true) where
           → Under (c .land) (secondPlace (kindOf (c .agent x)) (c .agent x .home) q) (c .agent x .remembered)
       to r e = subst (λ (n : ℕ). Under (c .land) n (c .agent x .remembered)) (sym e)
 
-      go : (kindOf (c .agent x) ≡ 3) ⊎ (kindOf (c .agent x) ≢ 3)
+      go : (kindOf (c .agent x) ≡ openKind) ⊎ (kindOf (c .agent x) ≢ openKind)
           → Under (c .land) (secondPlace (kindOf (c .agent x)) (c .agent x .home) q) (c .agent x .remembered)
       go (inl k) = to q (second-open _ _ q k) (opens-fits (c .land) _ _ _ _ q k (choice-fits (c .land) (c .agent x) w q refl l) .0 .under)
       go (inr n) =
-          let k : kindOf (c .agent x) ≤ 2 = omega (arith, kind-given c i x g) in
+          let k : kindOf (c .agent x) ≤ exitKind = omega (arith, kind-given c i x g) in
           to (c .agent x .home) (second-move _ _ q k) (stays-under (c .land) (c .agent x) k st)
 
   -- a step changes the agent's stage, or the agent waits

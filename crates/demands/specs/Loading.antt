@@ -14,14 +14,15 @@ use borrow.Author.Tests.{eqb-true, eq-eqb, ne-eqb, lt-ltb, leb-false}
 use Rattle.sets.specs.Word.{has}
 use Rattle.table.specs.Base.{upd}
 use Rattle.table.specs.BaseLaws.{Told, yea, nay, told, clash, eq?, upd-same, upd-at, upd-other, upd-all}
-use Rattle.table.specs.Cell.{Land, State, noPlace, noAction, freshAgent, linked, cellOf, bareTable}
+use Rattle.table.specs.Cell.{Land, State, noPlace, noAction, freshAgent, linked, cellOf, bareTable, lastKind}
 use Rattle.table.specs.declared.Place.{Place}
 use Rattle.table.specs.declared.Action.{Action}
 use Rattle.table.specs.declared.Agent.{Agent}
+use Rattle.meaning.specs.Refusals.{afterEnd}
 use Rattle.meaning.specs.declared.Record.{Record}
 use Rattle.meaning.specs.declared.Record.the-variants.{PlaceRecord, AgentRecord, ActionRecord, EndRecord, Faulty}
 use Rattle.meaning.specs.Update.{linkedPlace, withHome, withAgent, withGiven}
-use Rattle.meaning.specs.File.{recordAt, addPlace, addAgent, withAction, addAction, isFull, Load, accepted, refused, loadRecord, loadFrom, load}
+use Rattle.meaning.specs.File.{recordAt, addPlace, addAgent, withAction, addAction, isFull, knownIn, Load, accepted, refused, loadRecord, loadFrom, load}
 use Rattle.meaning.specs.FileLaws.{Fits, place, agent, action, end, faulty, record-fits, bare-bounded, bare-used, bare-given, bare-lock}
 use Rattle.meaning.specs.FileLaws.{bare-agent, bare-place}
 use Rattle.calculus.specs.Up.{Up, base, up, Off, off0, offs, move-up}
@@ -213,7 +214,7 @@ add-agent c f n home l new known =
     (rw (f .no-agents n l new) (new-agent home))
 
 -- a row with an action more
-new-action : (a : Agent) (kind name : ℕ) → New a → a .count < 16 → 1 ≤ kind → kind ≤ 3 → 1 ≤ name → New (withAction a kind name)
+new-action : (a : Agent) (kind name : ℕ) → New a → a .count < 16 → 1 ≤ kind → kind ≤ lastKind → 1 ≤ name → New (withAction a kind name)
 unfolding withAction
 new-action a kind name w room low high named = record {
   fit = fits;
@@ -235,7 +236,7 @@ new-action a kind name w room low high named = record {
     fits : Fit (withAction a kind name)
     fits = fit-from (withAction a kind name) (omega (arith, w .next)) (omega arith) (λ j l m. at j m (eq? j (a .count)))
 
-add-action : (c : State) → Fresh c → (n kind name : ℕ) → n < 64 → c .given n ≡ true → isFull c n ≡ false → 1 ≤ kind → kind ≤ 3 → 1 ≤ name
+add-action : (c : State) → Fresh c → (n kind name : ℕ) → n < 64 → c .given n ≡ true → isFull c n ≡ false → 1 ≤ kind → kind ≤ lastKind → 1 ≤ name
     → Fresh (addAction c n kind name)
 unfolding addAction
 add-action c f n kind name l known room low high named =
@@ -253,10 +254,10 @@ data Freshly : Load → Type 0 where
 load-from : (turns : ℕ) (c : State) (s : List ℕ) (at : ℕ) → Fresh c → Freshly (loadFrom turns c s at)
 unfolding loadFrom
 load-from zero c s at f = away
-load-from (suc turns) c s at f = go (told (ltb at (length s))) (record-fits (c .land .used) (c .given) (isFull c) s at)
+load-from (suc turns) c s at f = go (told (ltb at (length s))) (record-fits (knownIn c) s at)
     (λ d i g. load-from turns d s i g)
   where
-    rest : ((d : State) (i : ℕ) → Fresh d → Freshly (loadFrom turns d s i)) → (r : Record) → Fits (c .land .used) (c .given) (isFull c) r
+    rest : ((d : State) (i : ℕ) → Fresh d → Freshly (loadFrom turns d s i)) → (r : Record) → Fits (knownIn c) r
         → Freshly (loadRecord (λ d i. loadFrom turns d s i) c s at r)
     rest h (PlaceRecord n p m) (place one low under new known named) =
         unfold loadRecord in h (addPlace c n p m) (at + 5) (add-place c f n p m (λ z. absurd (omega arith)) low new known named)
@@ -265,12 +266,12 @@ load-from (suc turns) c s at f = go (told (ltb at (length s))) (record-fits (c .
         unfold loadRecord in h (addAction c n k m) (at + 5) (add-action c f n k m low known room one three named)
     rest h EndRecord end = unfold loadRecord in last (told (ltb (at + 1) (length s)))
       where
-        last : Told (ltb (at + 1) (length s)) → Freshly (cond (ltb (at + 1) (length s)) (refused 9 (at + 1)) (accepted c))
+        last : Told (ltb (at + 1) (length s)) → Freshly (cond (ltb (at + 1) (length s)) (refused afterEnd (at + 1)) (accepted c))
         last (yea e) = rw e away
         last (nay e) = rw e (fresh f)
     rest h (Faulty n) faulty = unfold loadRecord in away
 
-    go : Told (ltb at (length s)) → Fits (c .land .used) (c .given) (isFull c) (recordAt (c .land .used) (c .given) (isFull c) s at)
+    go : Told (ltb at (length s)) → Fits (knownIn c) (recordAt (knownIn c) s at)
         → ((d : State) (i : ℕ) → Fresh d → Freshly (loadFrom turns d s i)) → Freshly (loadFrom (suc turns) c s at)
     go (yea e) t h = rw e (rest h _ t)
     go (nay e) t h = rw e away

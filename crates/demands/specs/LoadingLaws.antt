@@ -66,6 +66,10 @@ module _ (c : State) (f : Fresh c) where
   pub fresh-settled : settled c ≡ true
   fresh-settled = settled-of c (λ q l _. f .free q l) (f .whole)
 
+  -- it is the cell of its table
+  pub fresh-forth : cellOf (tableOf c) ≡ c
+  fresh-forth = forth c (f .bounds)
+
 -- ---- an accepted load
 
 module _ (s : List ℕ) (c : State) (e : load s ≡ accepted c) where
@@ -91,4 +95,4 @@ module _ (s : List ℕ) (c : State) (e : load s ≡ accepted c) where
 
   -- it is the cell of its table
   pub accepted-forth : cellOf (tableOf c) ≡ c
-  accepted-forth = forth c accepted-bounded
+  accepted-forth = fresh-forth c (accepted-fresh s c e)

@@ -6,7 +6,7 @@ use Prim.Native.Nat.{ℕ}
 use native.Mathlib.Omega.{arith}
 use borrow.Author.Tests.{ne-eqb}
 use Rattle.table.specs.BaseLaws.{clash}
-use Rattle.table.specs.Cell.{State, kindOf, nameOf}
+use Rattle.table.specs.Cell.{State, kindOf, nameOf, enterKind, exitKind, openKind}
 use Rattle.table.specs.declared.Agent.{Agent}
 use Rattle.meaning.specs.Step.{Outcome, still, qualifies, targetOf, fires, leave, dissolve, arrive}
 use Rattle.meaning.specs.Calculus.{Tree, nextOf, putInto, openUp, Move}
@@ -61,7 +61,7 @@ module _ (c : State) (i : Sound c) (x : ℕ) (g : c .given x ≡ true) (t : Plai
   unfolding fires
   fires-on q f e = subst (λ r. qualifies (c .land) (kindOf a) (nameOf a) (a .home) (a .remembered) r ≡ true) e f
 
-  enter-made : a .stage ≡ 3 → kindOf a ≡ 1 → fires (c .land) a ≡ true → Move (treeOf c) x (putInto (treeOf c) x (a .chosen))
+  enter-made : a .stage ≡ 3 → kindOf a ≡ enterKind → fires (c .land) a ≡ true → Move (treeOf c) x (putInto (treeOf c) x (a .chosen))
   unfolding treeOf parentIn nameIn
   enter-made s k f =
       let v = both-move c i x g s (omega arith) in
@@ -72,7 +72,7 @@ module _ (c : State) (i : Sound c) (x : ℕ) (g : c .given x ≡ true) (t : Plai
       (record { link = b .0 .under .link; parent = b .0 .under .parent ∙ sym (v .under .parent) ∙ ap (parentIn (c .land)) (sym home) }))
       (λ z. b .1 (z ∙ home)) (name-is (b .0 .name)))
 
-  exit-made : a .stage ≡ 3 → kindOf a ≡ 2 → fires (c .land) a ≡ true → Move (treeOf c) x (putInto (treeOf c) x (parentIn (c .land) (a .remembered)))
+  exit-made : a .stage ≡ 3 → kindOf a ≡ exitKind → fires (c .land) a ≡ true → Move (treeOf c) x (putInto (treeOf c) x (parentIn (c .land) (a .remembered)))
   unfolding treeOf parentIn nameIn
   exit-made s k f =
       let v = both-move c i x g s (omega arith) in
@@ -81,12 +81,12 @@ module _ (c : State) (i : Sound c) (x : ℕ) (g : c .given x ≡ true) (t : Plai
       subst (λ (d : ℕ). Move (treeOf c) x (putInto (treeOf c) x d)) (ap (parentIn (c .land)) p)
       (case-move (by-exit (kind-is k) (λ z. linked-not-floor (i .places) (v .under .link) (sym home ∙ z)) (ap (nameIn (c .land)) p ∙ name-is (b .2))))
 
-  open-made : a .stage ≡ 3 → kindOf a ≡ 3 → fires (c .land) a ≡ true → Move (treeOf c) x (openUp (treeOf c) x (a .chosen))
+  open-made : a .stage ≡ 3 → kindOf a ≡ openKind → fires (c .land) a ≡ true → Move (treeOf c) x (openUp (treeOf c) x (a .chosen))
   unfolding treeOf nameIn
   open-made s k f =
       let b = opens-fits (c .land) (kindOf a) (nameOf a) (a .home) (a .remembered) (a .chosen) k
       (fires-on (a .chosen) f (target-chosen a (λ z. absurd (omega arith)))) in
-      let h = ok-at 3 s (ok-given c i x g) .0 .opener k in
+      let h = ok-at 3 s (ok-given c i x g) .0 .opener (omega arith) in
       case-move (by-open (a .chosen) (kind-is k) (stands (a .chosen) (treeOf c .home x)
       (record { link = b .0 .under .link; parent = b .0 .under .parent ∙ h ∙ sym home })) (name-is (b .0 .name)))
 
@@ -124,7 +124,7 @@ module _ (c : State) (i : Sound c) (x : ℕ) (g : c .given x ≡ true) (t : Plai
   way-follows (sleeps-stuck _ _ _) = silent (plain-quiet c i x g t m _ 7 _ 0 (λ z. absurd (omega arith)))
   way-follows {wish} (takes-second q s st ch _ _) = record {
     same = plain-took c i x g t m _ 3 _ _ wish
-        (λ _ k. plain-choice c i x g t m wish k (plain-held c i x g t m s st) ∙ ch ∙ sym (rw (ne-eqb (kindOf a) 2 k)));
+        (λ _ k. plain-choice c i x g t m wish k (plain-held c i x g t m s st) ∙ ch ∙ sym (rw (ne-eqb (kindOf a) exitKind k)));
     step = unmoved;
   }
   way-follows (gives-up _ _) = silent (plain-quiet c i x g t m _ 0 0 0 (λ z. absurd (omega arith)))
@@ -137,7 +137,7 @@ module _ (c : State) (i : Sound c) (x : ℕ) (g : c .given x ≡ true) (t : Plai
       (exit-made s k f)
   way-follows {wish} (opens s k f) =
       let e = open-result c i x g t m s k in
-      has-moved (plain-opened c i x g t m wish (ok-at 3 s (ok-given c i x g) .0 .opener k) (both-open c i x g s k .under) e) e (open-made s k f)
+      has-moved (plain-opened c i x g t m wish (ok-at 3 s (ok-given c i x g) .0 .opener (omega arith)) (both-open c i x g s k .under) e) e (open-made s k f)
   way-follows {wish} (takes-own _ _) = record { same = plain-took c i x g t m _ 5 0 0 wish (λ z. absurd (omega arith)); step = unmoved }
   way-follows {wish} (takes-destination _ _) = record { same = plain-took c i x g t m _ 6 0 0 wish (λ z. absurd (omega arith)); step = unmoved }
   way-follows {wish} (comes _) = record { same = plain-came c i x g t m wish; step = unmoved }

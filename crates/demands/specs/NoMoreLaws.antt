@@ -12,7 +12,7 @@ use Rattle.table.specs.Sound.{sound}
 use Rattle.table.specs.declared.Cell.{Cell}
 use Rattle.meaning.specs.declared.Answer.the-variants.{Did}
 use Rattle.meaning.specs.Step.{Outcome, still, leave, dissolve, arrive, step}
-use Rattle.meaning.specs.Run.{Call, stepOf, made, turnedAway, run}
+use Rattle.meaning.specs.Run.{Call, stepCall, stepOf, made, turnedAway, callOf, run}
 use Rattle.demands.specs.NoMore.{Untouched, usedAfter, NoMore}
 use Rattle.demands.specs.Invariant.{Sound}
 use Rattle.demands.specs.Ways.{Way, is-done, is-asleep, held-first, held-second, held-own, held-destination, looks-up, looks-home}
@@ -20,7 +20,7 @@ use Rattle.demands.specs.Ways.{sleeps-alone, takes-first, goes-back, sle
 use Rattle.demands.specs.Ways.{takes-own, takes-destination, comes}
 use Rattle.demands.specs.StepWays.{step-way}
 use Rattle.demands.specs.Unused.{untouched-none, untouched-more}
-use Rattle.demands.specs.Always.{step-keeps, step-back, sound-bounded, sized-stepped}
+use Rattle.demands.specs.Always.{step-keeps, step-back, sound-bounded, sized-called}
 
 -- ---- one step of a cell
 
@@ -73,9 +73,13 @@ no-more t x wish z = go (told (sound (cellOf t))) (told (cellOf t .given x))
     go (yea e) (nay g) = rw (e, g) (record { untouched = untouched-none (cellOf t); used = λ q. refl })
     go (nay e) _ = rw e (record { untouched = untouched-none (cellOf t); used = λ q. refl })
 
+-- any call leaves alone what is not in use
+pub called-untouched : (t : Cell) (k : Call) → Sized t → Untouched (cellOf t) (cellOf (callOf t k .cell))
+unfolding callOf
+called-untouched t (stepCall x wish) z = no-more t x wish z .untouched
+
 -- over a list of calls what was not in use is as it was; what an opening made unused stays so, by the same law from there on
 pub no-more-run : (t : Cell) (calls : List Call) → Sized t → Untouched (cellOf t) (cellOf (run t calls))
 unfolding run
 no-more-run t [] z = untouched-none (cellOf t)
-no-more-run t (k ∷ calls) z = untouched-more (no-more t (k .agent) (k .wish) z .untouched)
-    (no-more-run (stepOf t (k .agent) (k .wish) .cell) calls (sized-stepped t (k .agent) (k .wish) z))
+no-more-run t (k ∷ calls) z = untouched-more (called-untouched t k z) (no-more-run (callOf t k .cell) calls (sized-called t k z))

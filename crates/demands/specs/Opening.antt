@@ -8,7 +8,7 @@ use mathlib.Core.Bool.{true, false}
 use native.Mathlib.Omega.{arith}
 use Rattle.table.specs.Base.{upd}
 use Rattle.table.specs.BaseLaws.{Told, yea, nay, told, clash, eq?, upd-other, upd-all}
-use Rattle.table.specs.Cell.{Land, State, freshAgent, linked, nextAction, kindOf, unused}
+use Rattle.table.specs.Cell.{Land, State, freshAgent, linked, nextAction, kindOf, unused, openKind}
 use Rattle.table.specs.declared.Agent.{Agent}
 use Rattle.meaning.specs.Update.{atStage, useUp, released}
 use Rattle.meaning.specs.Step.{awaited, fires, dissolve, dissolveLand, dissolveLock, dissolveAgent, restStage}
@@ -42,7 +42,7 @@ linked-some u n (ok6 s v h₁ h₂) = clash u (v .loose)
 linked-some u n (ok7 s k e) = k
 linked-some u n (ok8 s e) = absurd (n s)
 
-module _ (c : State) (i : Sound c) (x : ℕ) (g : c .given x ≡ true) (s : c .agent x .stage ≡ 3) (k : kindOf (c .agent x) ≡ 3)
+module _ (c : State) (i : Sound c) (x : ℕ) (g : c .given x ≡ true) (s : c .agent x .stage ≡ 3) (k : kindOf (c .agent x) ≡ openKind)
     (p t : ℕ) (o : Opener c x p t) (w : awaited (c .land) t ≡ false) where
   abbrev before : Land
   before = c .land
@@ -221,11 +221,11 @@ module _ (c : State) (i : Sound c) (x : ℕ) (g : c .given x ≡ true) (s : c .a
 -- ---- the way "opens"
 
 -- nothing is on its way to the place that an opener fires on
-fires-awaited : (l : Land) (a : Agent) → kindOf a ≡ 3 → fires l a ≡ true → awaited l (a .chosen) ≡ false
+fires-awaited : (l : Land) (a : Agent) → kindOf a ≡ openKind → fires l a ≡ true → awaited l (a .chosen) ≡ false
 fires-awaited l a k f = ap (awaited l) (sym (target-chosen a (λ e. omega arith))) ∙ opens-fits l _ _ _ _ _ k (sym (fires-target l a) ∙ f) .1
 
 -- opening keeps a cell sound, and every sleeper its reason to sleep
-pub open-keeps : (c : State) → Sound c → (x : ℕ) → c .given x ≡ true → c .agent x .stage ≡ 3 → kindOf (c .agent x) ≡ 3
+pub open-keeps : (c : State) → Sound c → (x : ℕ) → c .given x ≡ true → c .agent x .stage ≡ 3 → kindOf (c .agent x) ≡ openKind
     → fires (c .land) (c .agent x) ≡ true
     → Keeps c x (dissolve c x (c .agent x) (c .agent x .remembered) (c .agent x .chosen) .cell)
 unfolding dissolve

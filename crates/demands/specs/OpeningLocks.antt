@@ -9,7 +9,7 @@ use native.Mathlib.Omega.{arith}
 use lib.Dec.{eqb}
 use borrow.Author.Tests.{eq-eqb, ne-eqb}
 use Rattle.table.specs.BaseLaws.{Told, yea, nay, told, clash, eq?, upd-at, upd-other}
-use Rattle.table.specs.Cell.{State, none, linked, kindOf}
+use Rattle.table.specs.Cell.{State, none, linked, kindOf, openKind}
 use Rattle.table.specs.declared.Agent.{Agent}
 use Rattle.meaning.specs.Update.{released}
 use Rattle.meaning.specs.Step.{awaited, dissolveLand, letsGo, dissolveLock, dissolveAgent}
@@ -31,13 +31,13 @@ pub record Opener (c : State) (x p t : ℕ) : Type 0 where
   pub both : (q : ℕ) → Holds (c .land) (agentIn c x) q → (q ≡ p) ⊎ (q ≡ t)
 
 -- an agent at stage 3 of open is one
-pub opener : (c : State) → Sound c → (x : ℕ) → c .given x ≡ true → c .agent x .stage ≡ 3 → kindOf (c .agent x) ≡ 3
+pub opener : (c : State) → Sound c → (x : ℕ) → c .given x ≡ true → c .agent x .stage ≡ 3 → kindOf (c .agent x) ≡ openKind
     → Opener c x (c .agent x .remembered) (c .agent x .chosen)
 opener c i x g s k =
     let r = ok-at 3 s (ok-given c i x g) in
     let m = both-open c i x g s k in
     record {
-      home = sym (r .0 .opener k);
+      home = sym (r .0 .opener (omega arith));
       first = r .1;
       second = m .own;
       under = m .under;
@@ -58,7 +58,7 @@ module _ {c : State} (i : Sound c) {x p t : ℕ} (o : Opener c x p t) where
   held-at-two n e (ok1 s _) h = absurd (omega (arith, holds-between h .0))
   held-at-two n e (ok2 s _ _) h = s
   held-at-two n e (ok3-move _ _ _ _ h₂ _ _) h = absurd (others n h₂ .1 e)
-  held-at-two n e (ok3-open _ r k h₁ _ _) h = absurd (others n h₁ .1 (r .opener k ∙ e))
+  held-at-two n e (ok3-open _ r k h₁ _ _) h = absurd (others n h₁ .1 (r .opener (omega arith) ∙ e))
   held-at-two n e (ok4 _ v) h = clash (ap (linked (c .land)) e ∙ o .under .link) (v .loose)
   held-at-two n e (ok5 _ v _) h = clash (ap (linked (c .land)) e ∙ o .under .link) (v .loose)
   held-at-two n e (ok6 _ v _ _) h = clash (ap (linked (c .land)) e ∙ o .under .link) (v .loose)

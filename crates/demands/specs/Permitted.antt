@@ -5,10 +5,9 @@ use mathlib.Core.Logic.{_≢_}
 use mathlib.Core.Bool.{true, false}
 use Prim.Native.Nat.{ℕ, _≤_, _<_}
 use native.Mathlib.Omega.{arith}
-use lib.Dec.{eqb}
-use borrow.Author.Tests.{eqb-true, eqb-false, ne-eqb}
 use Rattle.table.specs.BaseLaws.{Told, yea, nay, told, clash}
-use Rattle.table.specs.Cell.{Land, State, linked, kindOf, nameOf}
+use Rattle.table.specs.Cell.{Land, State, linked, kindOf, nameOf, openKind, lastKind, exitKind, looksHome}
+use Rattle.table.specs.Kinds.{home-kind, around-kind, kind-home, kind-around}
 use Rattle.table.specs.declared.Agent.{Agent}
 use Rattle.meaning.specs.Step.{awaited, qualifies, stays}
 use Rattle.meaning.specs.Calculus.{Tree, nextOf, move}
@@ -31,12 +30,12 @@ none-whole c i f q u n = go (told (linked (c .land) q))
     go (nay e) = let m = i .mover q u n e in absurd (f (m .who) (m .goes))
 
 -- an agent whose place is still linked to the remembered one (an opener: that remembers its home) holds that where it would look
-pub looks-same : (l : Land) (a : Agent) → kindOf a ≤ 3 → (kindOf a ≡ 3 → a .remembered ≡ a .home) → stays l a ≡ true → a .remembered ≡ looksAt l a
-looks-same l a k o st = go (told (eqb (kindOf a) 3))
+pub looks-same : (l : Land) (a : Agent) → kindOf a ≤ lastKind → (openKind ≤ kindOf a → a .remembered ≡ a .home) → stays l a ≡ true → a .remembered ≡ looksAt l a
+looks-same l a k o st = go (told (looksHome (kindOf a)))
   where
-    go : Told (eqb (kindOf a) 3) → a .remembered ≡ looksAt l a
-    go (yea e) = rw e (o (eqb-true (kindOf a) 3 e))
-    go (nay e) = rw e (sym (stays-under l a (let n = eqb-false (kindOf a) 3 e in omega arith) st .parent))
+    go : Told (looksHome (kindOf a)) → a .remembered ≡ looksAt l a
+    go (yea e) = rw e (o (home-kind (kindOf a) e))
+    go (nay e) = rw e (sym (stays-under l a (around-kind (kindOf a) k e) st .parent))
 
 -- an agent that the calculus permits a move is given
 pub move-given : (c : State) {a : ℕ} {u : Tree} → MoveCase (treeOf c) a u → c .given a ≡ true
@@ -60,10 +59,10 @@ module _ (c : State) (i : Sound c) (a : ℕ) (g : c .given a ≡ true) where
   own-name e = e ∙ given-name c a g (i .fit a)
 
   -- an agent that is to enter or exit does not live on the floor
-  pub off-floor : {u : Tree} → MoveCase (treeOf c) a u → kindOf own ≢ 3 → own .home ≢ 0
+  pub off-floor : {u : Tree} → MoveCase (treeOf c) a u → kindOf own ≤ exitKind → own .home ≢ 0
   off-floor (by-enter m k h s d n) z e = h (home ∙ e)
   off-floor (by-exit k h n) z e = h (home ∙ e)
-  off-floor (by-open m k s n) z e = z (own-kind k)
+  off-floor (by-open m k s n) z e = let y = own-kind k in omega arith
 
   module _ (whole : Whole c) where
     -- the place that the action fires on, with the tree that the move makes
@@ -96,7 +95,7 @@ module _ (c : State) (i : Sound c) (a : ℕ) (g : c .given a ≡ true) where
         let e = own-kind k in
         let under : Under (c .land) m (parentIn (c .land) (own .home)) =
         record { link = whole m (s .used) (s .placed); parent = s .parent ∙ ap (parentIn (c .land)) home } in
-        found (parentIn (c .land) (own .home)) m (omega arith) (rw (ne-eqb (kindOf own) 3 (omega arith)))
+        found (parentIn (c .land) (own .home)) m (omega arith) (rw (kind-around (kindOf own) (omega arith)))
         (enters-of (c .land) _ _ _ _ m e (record { under = under; name = own-name n }) (λ z. d (z ∙ sym home)))
         (sym (move-enter c a g (i .fit a) m e))
     target (by-exit k h n) =
@@ -105,11 +104,11 @@ module _ (c : State) (i : Sound c) (a : ℕ) (g : c .given a ≡ true) where
         let name : nameIn (c .land) p ≡ nameOf own = ap (λ (q : ℕ). nameIn (c .land) (parentIn (c .land) q)) (sym home) ∙ own-name n in
         let some : 1 ≤ nameOf own = name-some own (fit-given c i a g) (omega arith) in
         let z : p ≢ 0 = λ z. let no : nameOf own ≡ 0 = sym name ∙ ap (nameIn (c .land)) z ∙ i .places .floor-name in omega arith in
-        found p p (omega arith) (rw (ne-eqb (kindOf own) 3 (omega arith)))
+        found p p (omega arith) (rw (kind-around (kindOf own) (omega arith)))
         (exits-of (c .land) _ _ _ p p e refl (whole p (i .places .parent-used _) z) name) (sym (move-exit c a g (i .fit a) p e))
     target (by-open m k s n) =
         let e = own-kind k in
         let under : Under (c .land) m (own .home) = record { link = whole m (s .used) (s .placed); parent = s .parent ∙ home } in
-        found (own .home) m (omega arith) (rw e)
+        found (own .home) m (omega arith) (rw (kind-home (kindOf own) (omega arith) (omega arith)))
         (opens-of (c .land) _ _ _ _ m e (record { under = under; name = own-name n }) (unawaited m))
         (sym (move-open c a g (i .fit a) m e))

@@ -8,7 +8,8 @@ use native.Mathlib.Omega.{arith}
 use lib.Dec.{eqb}
 use Rattle.table.specs.Base.{upd}
 use Rattle.table.specs.BaseLaws.{clash, eq?, upd-same, upd-other}
-use Rattle.table.specs.Cell.{State, none, linked, nextAction, kindOf, nameOf}
+use Rattle.table.specs.Cell.{State, none, linked, nextAction, kindOf, nameOf, enterKind, exitKind}
+use Rattle.table.specs.Kinds.{Kind, is-enter, is-exit, is-open}
 use Rattle.table.specs.Sound.{secondPlace}
 use Rattle.table.specs.declared.Agent.{Agent}
 use Rattle.meaning.specs.Update.{atStage, withLocks, released}
@@ -20,7 +21,7 @@ use Rattle.demands.specs.Invariant.{Ok, ok0, ok1, ok2, ok3-move, ok3-ope
 use Rattle.demands.specs.Ways.{goesOn, takesLock, givesBack}
 use Rattle.demands.specs.Facts.{not-yes, link-used, stays-under, second-move, second-open}
 use Rattle.demands.specs.Choice.{choice-fits, choice-none}
-use Rattle.demands.specs.Facts.{Kind, is-enter, is-exit, is-open, enters-fits, opens-fits, fits-linked}
+use Rattle.demands.specs.Facts.{enters-fits, opens-fits, fits-linked}
 use Rattle.demands.specs.Actions.{kind-of, fit-stage}
 use Rattle.demands.specs.Stages.{ok-at, holds-none, holds-two, holds-four, holds-five, ok-given, fit-given, home-given, Returned}
 use Rattle.demands.specs.Stages.{second-used, returned-two, returned-three}
@@ -65,7 +66,8 @@ module _ (c : State) (i : Sound c) (x : ℕ) (g : c .given x ≡ true) where
       change = record {
         steps = g;
         untouched = turned-untouched c x g _ lock′ same;
-        used = λ q. refl;
+        used = λ q u. u;
+        fresh = λ q n u. clash u n;
         new = next stage remembered chosen;
         woke = agentIn c;
         reads = agent-turned c x (next stage remembered chosen) g;
@@ -147,7 +149,7 @@ module _ (c : State) (i : Sound c) (x : ℕ) (g : c .given x ≡ true) where
   ready stage k r = record { some = r .some; known = r .known; opener = r .opener }
 
   -- stage 0 with a linked parent
-  pub keep-look : c .agent x .stage ≡ 0 → kindOf (c .agent x) ≤ 2 → Keeps c x (goesOn c x 1 (parentIn (c .land) (c .agent x .home)) 0)
+  pub keep-look : c .agent x .stage ≡ 0 → kindOf (c .agent x) ≤ exitKind → Keeps c x (goesOn c x 1 (parentIn (c .land) (c .agent x .home)) 0)
   unfolding nextAction
   keep-look e k = go-on 1 _ 0
       (ok1 refl (record { some = ok-at 0 e (ok-given c i x g); known = i .places .parent-used _; opener = λ z. absurd (omega arith) }))
@@ -161,7 +163,7 @@ module _ (c : State) (i : Sound c) (x : ℕ) (g : c .given x ≡ true) where
       (λ q. holds-none (omega arith)) (stay 1 _ 0 (omega arith) (inl (omega arith))) (λ z. absurd (omega arith))
 
   -- stage 0 without a linked parent
-  pub keep-sleep-alone : c .agent x .stage ≡ 0 → kindOf (c .agent x) ≤ 2 → linked (c .land) (c .agent x .home) ≡ false
+  pub keep-sleep-alone : c .agent x .stage ≡ 0 → kindOf (c .agent x) ≤ exitKind → linked (c .land) (c .agent x .home) ≡ false
       → Keeps c x (goesOn c x 7 (c .agent x .home) 0)
   unfolding nextAction
   keep-sleep-alone e k l = go-on 7 _ 0
@@ -200,7 +202,7 @@ module _ (c : State) (i : Sound c) (x : ℕ) (g : c .given x ≡ true) where
   pub keep-take-second : (wish q : ℕ) → c .agent x .stage ≡ 2 → stays (c .land) (c .agent x) ≡ true → choice (c .land) (c .agent x) wish ≡ q → q < 64
       → c .lock (secondPlace (kindOf (c .agent x)) (c .agent x .home) q) ≡ none
       → Keeps c x (takesLock c x (secondPlace (kindOf (c .agent x)) (c .agent x .home) q) 3 (c .agent x .remembered)
-      (cond (eqb (kindOf (c .agent x)) 2) 0 q))
+      (cond (eqb (kindOf (c .agent x)) exitKind) 0 q))
   unfolding nextAction
   keep-take-second wish q e st ch l f = take-on _ 3 _ _ (in-use kind) f (λ has mine. ok kind has mine)
       (λ r h. near (omega arith) (omega arith) (holds-two e h)) (far refl (second kind)) (stay 3 _ _ (omega arith) (inl (omega arith)))
@@ -224,7 +226,7 @@ module _ (c : State) (i : Sound c) (x : ℕ) (g : c .given x ≡ true) where
       in-use (is-exit k) = ap (c .land .used) (second-move (kindOf a) (a .home) q (omega arith)) ∙ home-given c i x g
       in-use (is-open k) = ap (c .land .used) (second-open (kindOf a) (a .home) q k) ∙ link-used (c .land) q (opens-fits (c .land) _ _ _ _ q k fits .0 .under .link)
 
-      second : Kind (kindOf a) → secondPlace (kindOf a) (a .home) q ≡ secondPlace (kindOf a) (a .home) (cond (eqb (kindOf a) 2) 0 q)
+      second : Kind (kindOf a) → secondPlace (kindOf a) (a .home) q ≡ secondPlace (kindOf a) (a .home) (cond (eqb (kindOf a) exitKind) 0 q)
       second (is-enter k) = rw k
       second (is-exit k) = rw k
       second (is-open k) = rw k
@@ -233,20 +235,20 @@ module _ (c : State) (i : Sound c) (x : ℕ) (g : c .given x ≡ true) where
       lock′ = upd (c .lock) (secondPlace (kindOf a) (a .home) q) x
 
       ok : Kind (kindOf a) → ((r : ℕ) → Has (c .lock) r x → Has lock′ r x) → Has lock′ (secondPlace (kindOf a) (a .home) q) x
-          → Ok (c .land) lock′ x (next 3 (a .remembered) (cond (eqb (kindOf a) 2) 0 q))
+          → Ok (c .land) lock′ x (next 3 (a .remembered) (cond (eqb (kindOf a) exitKind) 0 q))
       ok kind has mine = at kind
         where
-          moves : kindOf a ≤ 2 → (kindOf a ≡ 1 → Under (c .land) (cond (eqb (kindOf a) 2) 0 q) (a .remembered))
-              → Ok (c .land) lock′ x (next 3 (a .remembered) (cond (eqb (kindOf a) 2) 0 q))
+          moves : kindOf a ≤ exitKind → (kindOf a ≡ enterKind → Under (c .land) (cond (eqb (kindOf a) exitKind) 0 q) (a .remembered))
+              → Ok (c .land) lock′ x (next 3 (a .remembered) (cond (eqb (kindOf a) exitKind) 0 q))
           moves k = ok3-move refl (ready 3 _ (o .0)) k (has _ (o .1)) (subst (λ (r : ℕ). Has lock′ r x) (second-move (kindOf a) (a .home) q k) mine)
               (stays-under (c .land) a k st)
 
-          at : Kind (kindOf a) → Ok (c .land) lock′ x (next 3 (a .remembered) (cond (eqb (kindOf a) 2) 0 q))
+          at : Kind (kindOf a) → Ok (c .land) lock′ x (next 3 (a .remembered) (cond (eqb (kindOf a) exitKind) 0 q))
           at (is-enter k) = moves (omega arith)
               (λ _. subst (λ (r : ℕ). Under (c .land) r (a .remembered)) (rw k) (enters-fits (c .land) _ _ _ _ q k fits .0 .under))
           at (is-exit k) = moves (omega arith) (λ z. absurd (omega arith))
           at (is-open k) =
-              let chosen : q ≡ cond (eqb (kindOf a) 2) 0 q = rw k in
+              let chosen : q ≡ cond (eqb (kindOf a) exitKind) 0 q = rw k in
               ok3-open refl (ready 3 _ (o .0)) k (has _ (o .1))
               (subst (λ (r : ℕ). Has lock′ r x) (second-open (kindOf a) (a .home) q k ∙ chosen) mine)
               (subst (λ (r : ℕ). Under (c .land) r (a .remembered)) chosen (opens-fits (c .land) _ _ _ _ q k fits .0 .under))

@@ -15,6 +15,7 @@ use Rattle.meaning.specs.declared.Answer.the-variants.{Refused}
 use Rattle.meaning.specs.declared.Listed.the-variants.{Unlisted}
 use Rattle.meaning.specs.declared.Checked.the-variants.{Unsound}
 use Rattle.meaning.specs.declared.Idled.the-variants.{Unknown}
+use Rattle.meaning.specs.Refusals.{cutShort, afterEnd, unsoundTable, noSuchAgent, tooLong}
 use Rattle.meaning.specs.File.{refused, load, loadOf}
 use Rattle.meaning.specs.Run.{stepOf}
 use Rattle.meaning.specs.Listing.{listing, listAnswer, listBuffer}
@@ -44,24 +45,24 @@ pub data Refuses : KeeperCall → ℕ → ℕ → Type 0 where
 
 -- the numbers of each call: "Calls on a table test 10 first, then 11 or 12"
 abbrev pub mayAnswer : KeeperCall → ℕ → Bool
-mayAnswer (load-call t file) number = leb 1 number && leb number 9
-mayAnswer (step-call t agent wish) number = eqb number 10 || eqb number 11
-mayAnswer (list-call t buffer) number = eqb number 10 || eqb number 12
-mayAnswer (check-call t) number = eqb number 10
-mayAnswer (idle-call t) number = eqb number 10
+mayAnswer (load-call t file) number = leb cutShort number && leb number afterEnd
+mayAnswer (step-call t agent wish) number = eqb number unsoundTable || eqb number noSuchAgent
+mayAnswer (list-call t buffer) number = eqb number unsoundTable || eqb number tooLong
+mayAnswer (check-call t) number = eqb number unsoundTable
+mayAnswer (idle-call t) number = eqb number unsoundTable
 
 -- "Each is given exactly under its condition": 10 unsound table, 11 no such agent, 12 listing longer than the buffer; the conditions of a
 -- load's numbers are those of its records
 pub data Grounds : KeeperCall → ℕ → ℕ → Type 0 where
   in-the-file : {t : Cell} {file : List ℕ} {number offset : ℕ} → load file ≡ refused number offset
       → Grounds (load-call t file) number offset
-  step-10 : {t : Cell} {agent wish : ℕ} → sound (cellOf t) ≡ false → Grounds (step-call t agent wish) 10 0
-  step-11 : {t : Cell} {agent wish : ℕ} → sound (cellOf t) ≡ true → cellOf t .given agent ≡ false → Grounds (step-call t agent wish) 11 0
-  list-10 : {t : Cell} {buffer : List ℕ} → sound (cellOf t) ≡ false → Grounds (list-call t buffer) 10 0
+  step-10 : {t : Cell} {agent wish : ℕ} → sound (cellOf t) ≡ false → Grounds (step-call t agent wish) unsoundTable 0
+  step-11 : {t : Cell} {agent wish : ℕ} → sound (cellOf t) ≡ true → cellOf t .given agent ≡ false → Grounds (step-call t agent wish) noSuchAgent 0
+  list-10 : {t : Cell} {buffer : List ℕ} → sound (cellOf t) ≡ false → Grounds (list-call t buffer) unsoundTable 0
   list-12 : {t : Cell} {buffer : List ℕ} → sound (cellOf t) ≡ true → length buffer < length (listing (cellOf t))
-      → Grounds (list-call t buffer) 12 0
-  check-10 : {t : Cell} → sound (cellOf t) ≡ false → Grounds (check-call t) 10 0
-  idle-10 : {t : Cell} → sound (cellOf t) ≡ false → Grounds (idle-call t) 10 0
+      → Grounds (list-call t buffer) tooLong 0
+  check-10 : {t : Cell} → sound (cellOf t) ≡ false → Grounds (check-call t) unsoundTable 0
+  idle-10 : {t : Cell} → sound (cellOf t) ≡ false → Grounds (idle-call t) unsoundTable 0
 
 -- ---- what a host lends
 

@@ -1,6 +1,6 @@
 -- A run of calls on a table whose cell has the invariant keeps the plain tree beside the cell, by one permitted move for each left or opened.
 -- By induction over the calls: a call for an agent that is not given is refused with 11 and changes nothing; any other is a step.
-use mathlib.Core.Path.{_≡_, sym, subst}
+use mathlib.Core.Path.{_≡_, sym, ap, subst}
 use mathlib.Core.List.{List, [], _∷_}
 use mathlib.Core.Bool.{true, false}
 use Prim.Native.Nat.{ℕ}
@@ -10,10 +10,9 @@ use Rattle.table.specs.Bounds.{Sized}
 use Rattle.table.specs.CellLaws.{sized-table}
 use Rattle.table.specs.Sound.{sound}
 use Rattle.table.specs.declared.Cell.{Cell}
-use Rattle.meaning.specs.declared.Answer.{Answer}
-use Rattle.meaning.specs.declared.Stepped.{Stepped}
+use Rattle.meaning.specs.Refusals.{noSuchAgent}
 use Rattle.meaning.specs.Step.{step}
-use Rattle.meaning.specs.Run.{Call, made, turnedAway, stepOf, run, answers}
+use Rattle.meaning.specs.Run.{Call, stepCall, agentOf, Reply, Called, byStep, made, turnedAway, stepOf, callOf, run, answers}
 use Rattle.meaning.specs.Calculus.{Tree}
 use Rattle.meaning.specs.Plain.{Plain, plainStep, plainRun, saysMove, History, start, moved, stayed}
 use Rattle.demands.specs.Invariant.{Inv}
@@ -23,13 +22,19 @@ use Rattle.demands.specs.Always.{step-inv, step-back}
 use Rattle.demands.specs.SamePlain.{Same}
 use Rattle.demands.specs.MovesMade.{MovedOrSame, unmoved, way-follows}
 
+-- each reply makes one permitted move of the plain tree, by the plain tree's own step, or none
+pub data Steps : Plain → List Call → List Reply → Type 0 where
+  no-step : {p : Plain} → Steps p [] []
+  one-step : {p : Plain} {k : Call} {calls : List Call} {a : Reply} {rest : List Reply}
+      → MovedOrSame (saysMove a) (agentOf k) (p .tree) (plainStep p k a .tree) → Steps (plainStep p k a) calls rest → Steps p (k ∷ calls) (a ∷ rest)
+
 -- the plain tree after a list of calls, from table t and plain tree p: beside the cell, and come by permitted moves
 pub record Beside (t : Cell) (p : Plain) (calls : List Call) : Type 0 where
   pub same : Same (cellOf (run t calls)) (plainRun p calls (answers t calls))
-  pub history : History (p .tree) calls (answers t calls) (plainRun p calls (answers t calls) .tree)
+  pub steps : Steps p calls (answers t calls)
 
 -- one call more at the front of a history
-more : {t u v : Tree} {k : Call} {calls : List Call} {a : Answer} {rest : List Answer} → MovedOrSame (saysMove a) (k .agent) t u
+more : {t u v : Tree} {k : Call} {calls : List Call} {a : Reply} {rest : List Reply} → MovedOrSame (saysMove a) (agentOf k) t u
     → History u calls rest v → History t (k ∷ calls) (a ∷ rest) v
 more {t} {u} {v} {k} {calls} {a} {rest} m h = go (told (saysMove a))
   where
@@ -37,19 +42,24 @@ more {t} {u} {v} {k} {calls} {a} {rest} m h = go (told (saysMove a))
     go (yea e) = moved e (m .made e) h
     go (nay e) = stayed e (subst (λ s. History s calls rest v) (m .left-alone e) h)
 
--- what a call answers and makes, and then the rest of the calls
-first-call : (t : Cell) (p : Plain) (k : Call) (calls : List Call) (r : Stepped) → stepOf t (k .agent) (k .wish) ≡ r
-    → MovedOrSame (saysMove (r .answer)) (k .agent) (p .tree) (plainStep p k (r .answer) .tree)
-    → Beside (r .cell) (plainStep p k (r .answer)) calls → Beside t p (k ∷ calls)
+-- the plain tree's steps are a history of its tree
+pub steps-history : {p : Plain} {calls : List Call} {rest : List Reply} → Steps p calls rest → History (p .tree) calls rest (plainRun p calls rest .tree)
+unfolding plainRun
+steps-history no-step = start
+steps-history (one-step m s) = more m (steps-history s)
+
+-- what a call replies and makes, and then the rest of the calls
+first-call : (t : Cell) (p : Plain) (k : Call) (calls : List Call) (r : Called) → callOf t k ≡ r
+    → MovedOrSame (saysMove (r .reply)) (agentOf k) (p .tree) (plainStep p k (r .reply) .tree)
+    → Beside (r .cell) (plainStep p k (r .reply)) calls → Beside t p (k ∷ calls)
 first-call t p k calls r e = subst
-    (λ s. MovedOrSame (saysMove (s .answer)) (k .agent) (p .tree) (plainStep p k (s .answer) .tree)
-    → Beside (s .cell) (plainStep p k (s .answer)) calls → Beside t p (k ∷ calls))
+    (λ s. MovedOrSame (saysMove (s .reply)) (agentOf k) (p .tree) (plainStep p k (s .reply) .tree)
+    → Beside (s .cell) (plainStep p k (s .reply)) calls → Beside t p (k ∷ calls))
     e whole
   where
-    whole : MovedOrSame (saysMove (stepOf t (k .agent) (k .wish) .answer)) (k .agent) (p .tree)
-        (plainStep p k (stepOf t (k .agent) (k .wish) .answer) .tree)
-        → Beside (stepOf t (k .agent) (k .wish) .cell) (plainStep p k (stepOf t (k .agent) (k .wish) .answer)) calls → Beside t p (k ∷ calls)
-    whole m d = unfold run answers plainRun in record { same = d .same; history = more m (d .history) }
+    whole : MovedOrSame (saysMove (callOf t k .reply)) (agentOf k) (p .tree) (plainStep p k (callOf t k .reply) .tree)
+        → Beside (callOf t k .cell) (plainStep p k (callOf t k .reply)) calls → Beside t p (k ∷ calls)
+    whole m d = unfold run answers plainRun in record { same = d .same; steps = one-step m (d .steps) }
 
 -- an equal cell has the same plain tree beside it
 same-cell : {c d : State} {p : Plain} → c ≡ d → Same c p → Same d p
@@ -62,23 +72,23 @@ module _ (t : Cell) (i : Inv (cellOf t)) (x wish : ℕ) where
   call-made g = rw (sound-true (cellOf t) (i .sound), g)
 
   -- for any other agent it is refused with 11
-  pub call-refused : cellOf t .given x ≡ false → stepOf t x wish ≡ turnedAway t 11
+  pub call-refused : cellOf t .given x ≡ false → stepOf t x wish ≡ turnedAway t noSuchAgent
   unfolding stepOf
   call-refused g = rw (sound-true (cellOf t) (i .sound), g)
 
 -- a run keeps the plain tree beside the cell
 pub run-keeps : (calls : List Call) (t : Cell) → Sized t → Inv (cellOf t) → (p : Plain) → Same (cellOf t) p → Beside t p calls
-unfolding run answers plainRun made turnedAway plainStep
-run-keeps [] t z i p m = record { same = m; history = start }
-run-keeps (k ∷ calls) t z i p m = go (told (cellOf t .given (k .agent))) (run-keeps calls)
+unfolding run answers plainRun made turnedAway plainStep callOf
+run-keeps [] t z i p m = record { same = m; steps = no-step }
+run-keeps (stepCall x wish ∷ calls) t z i p m = go (told (cellOf t .given x)) (run-keeps calls)
   where
-    go : Told (cellOf t .given (k .agent)) → ((u : Cell) → Sized u → Inv (cellOf u) → (q : Plain) → Same (cellOf u) q → Beside u q calls)
-        → Beside t p (k ∷ calls)
+    go : Told (cellOf t .given x) → ((u : Cell) → Sized u → Inv (cellOf u) → (q : Plain) → Same (cellOf u) q → Beside u q calls)
+        → Beside t p (stepCall x wish ∷ calls)
     go (yea g) rest =
         let c : State = cellOf t in
-        let d : State = step c (k .agent) (k .wish) .cell in
-        let b : d ≡ cellOf (tableOf d) = sym (step-back t z (i .sound) (k .agent) g (k .wish)) in
-        let f = way-follows c (i .sound) (k .agent) g p m (step-way c (i .sound) (k .agent) g (k .wish)) in
-        first-call t p k calls (made (step c (k .agent) (k .wish))) (call-made t i (k .agent) (k .wish) g) (f .step)
-        (rest (tableOf d) (sized-table d) (subst Inv b (step-inv c i (k .agent) g (k .wish))) _ (same-cell b (f .same)))
-    go (nay g) rest = first-call t p k calls (turnedAway t 11) (call-refused t i (k .agent) (k .wish) g) unmoved (rest t z i p m)
+        let d : State = step c x wish .cell in
+        let b : d ≡ cellOf (tableOf d) = sym (step-back t z (i .sound) x g wish) in
+        let f = way-follows c (i .sound) x g p m (step-way c (i .sound) x g wish) in
+        first-call t p (stepCall x wish) calls (byStep (made (step c x wish))) (ap byStep (call-made t i x wish g)) (f .step)
+        (rest (tableOf d) (sized-table d) (subst Inv b (step-inv c i x g wish)) _ (same-cell b (f .same)))
+    go (nay g) rest = first-call t p (stepCall x wish) calls (byStep (turnedAway t noSuchAgent)) (ap byStep (call-refused t i x wish g)) unmoved (rest t z i p m)

@@ -4,10 +4,10 @@ use mathlib.Core.Path.{_≡_, refl, ap, ap₂, _∙_, fun-ext}
 use Prim.Native.Nat.{ℕ}
 use mathlib.Core.Bool.{Bool, true, not, _&&_, cond}
 use lib.Dec.{eqb}
-use Rattle.sets.specs.Word.{upto, chosenOf}
+use Rattle.sets.specs.Word.{upto}
 use Rattle.table.specs.BaseLaws.{and-left, and-cong, any-ext}
-use Rattle.table.specs.Cell.{Land, linked, linkedTo, travels}
-use Rattle.meaning.specs.Step.{onWayTo, awaited, entersAt, exitsFrom, opensAt, qualifies, choose}
+use Rattle.table.specs.Cell.{Land, linked, linkedTo, travels, enterKind, exitKind, openKind, answersTo}
+use Rattle.meaning.specs.Step.{onWayTo, awaited, named, entersAt, exitsFrom, opensAt, qualifies, chosenOf, choose}
 
 -- l and m have the same places in use, each with the same name and parent, and linked in both or in neither
 pub record Alike (l m : Land) : Type 0 where
@@ -42,18 +42,17 @@ module _ (l m : Land) (s : Alike l m) where
       there r t = and-left (m .used r) (not (eqb r 0) && not (eqb (m .place r .way) 0)) (unfold travels in t)
 
   -- a place linked to p, with its name and one test more
-  child-alike : (n p q : ℕ) (a b : Bool) → a ≡ b
-      → (linkedTo l q p && (eqb (l .place q .name) n && a)) ≡ (linkedTo m q p && (eqb (m .place q .name) n && b))
-  child-alike n p q a b e = ap (λ (u : Bool). u && (eqb (l .place q .name) n && a)) (linkedTo-alike q p)
-      ∙ and-cong (linkedTo m q p) _ _ (λ k. ap₂ (λ (z : ℕ) (c : Bool). eqb z n && c) (s .name q (there k)) e)
+  child-alike : (kind n p q : ℕ) (a b : Bool) → a ≡ b → (linkedTo l q p && (named kind l q n && a)) ≡ (linkedTo m q p && (named kind m q n && b))
+  child-alike kind n p q a b e = ap (λ (u : Bool). u && (named kind l q n && a)) (linkedTo-alike q p)
+      ∙ and-cong (linkedTo m q p) _ _ (λ k. ap₂ (λ (z : ℕ) (c : Bool). eqb (answersTo kind z) n && c) (s .name q (there k)) e)
     where
       there : linkedTo m q p ≡ true → m .used q ≡ true
       there k = and-left (m .used q) (eqb (m .place q .way) 0 && eqb (m .place q .parent) p) (unfold linkedTo in k)
 
   exits-alike : (n p : ℕ) → exitsFrom l n p ≡ exitsFrom m n p
   unfolding exitsFrom
-  exits-alike n p = ap (λ (u : Bool). u && eqb (l .place p .name) n) (linked-alike p)
-      ∙ and-cong (linked m p) _ _ (λ k. ap (λ (z : ℕ). eqb z n) (s .name p (there k)))
+  exits-alike n p = ap (λ (u : Bool). u && named exitKind l p n) (linked-alike p)
+      ∙ and-cong (linked m p) _ _ (λ k. ap (λ (z : ℕ). eqb (answersTo exitKind z) n) (s .name p (there k)))
     where
       there : linked m p ≡ true → m .used p ≡ true
       there k = and-left (m .used p) (eqb (m .place p .way) 0) (unfold linked in k)
@@ -61,9 +60,9 @@ module _ (l m : Land) (s : Alike l m) where
   qualifies-alike : (kind n home p q : ℕ) → qualifies l kind n home p q ≡ qualifies m kind n home p q
   unfolding qualifies entersAt opensAt
   qualifies-alike kind n home p q =
-      ap₂ (λ (x y : Bool). cond (eqb kind 1) x y) (child-alike n p q (not (eqb q home)) (not (eqb q home)) refl)
-      (ap₂ (λ (x y : Bool). cond (eqb kind 2) (eqb q p && x) y) (exits-alike n p)
-      (child-alike n p q (not (awaited l q)) (not (awaited m q)) (ap not (awaited-alike q))))
+      ap₂ (λ (x y : Bool). cond (eqb kind enterKind) x y) (child-alike enterKind n p q (not (eqb q home)) (not (eqb q home)) refl)
+      (ap₂ (λ (x y : Bool). cond (eqb kind exitKind) (eqb q p && x) y) (exits-alike n p)
+      (child-alike openKind n p q (not (awaited l q)) (not (awaited m q)) (ap not (awaited-alike q))))
 
   -- stage 2 chooses the same place in both
   pub choose-alike : (kind n home p wish : ℕ) → choose l kind n home p wish ≡ choose m kind n home p wish

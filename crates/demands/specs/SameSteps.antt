@@ -1,21 +1,22 @@
 -- What a step does to the cell the plain tree does too, by the answered word alone: steps that change no place, leaving, coming and opening.
 -- Idea: its pick at the second took is the cell's choice, since both read places alike; leaving and opening are then the same move in both.
 use mathlib.Core.Path.{_≡_, refl, sym, ap, ap₂, _∙_, subst}
-use mathlib.Core.Logic.{_≢_, _⊎_, inl, inr}
+use mathlib.Core.Logic.{_≢_, inl}
 use mathlib.Core.Bool.{Bool, true, false}
 use Prim.Native.Nat.{ℕ}
 use native.Mathlib.Omega.{arith}
-use borrow.Author.Tests.{eq-eqb, ne-eqb}
+use borrow.Author.Tests.{ne-eqb}
 use Rattle.table.specs.Base.{upd}
-use Rattle.table.specs.BaseLaws.{eq?, upd-same, upd-other, upd-all}
-use Rattle.table.specs.Cell.{State, linked, travels, nextAction, kindOf, nameOf}
+use Rattle.table.specs.BaseLaws.{Told, yea, nay, told, upd-same, upd-other, upd-all}
+use Rattle.table.specs.Cell.{State, linked, travels, nextAction, kindOf, nameOf, enterKind, exitKind, openKind, looksHome}
+use Rattle.table.specs.Kinds.{home-kind, around-kind}
 use Rattle.table.specs.declared.Action.{Action}
 use Rattle.table.specs.declared.Agent.{Agent}
 use Rattle.meaning.specs.declared.Word.the-variants.{Took, Left, Came, Opened}
 use Rattle.meaning.specs.Update.{atStage, useUp, withLocks}
 use Rattle.meaning.specs.Step.{choose, choice, stays, leave, dissolve, arrive, beyond, restStage, dissolveAgent}
 use Rattle.meaning.specs.Calculus.{nextOf, putInto, openUp, move}
-use Rattle.meaning.specs.Plain.{Plain, treeOf, landIn, heldIn, pickOf, plainWord}
+use Rattle.meaning.specs.Plain.{Plain, withPicks, treeOf, landIn, heldIn, pickOf, plainWord}
 use Rattle.demands.specs.Reading.{parentIn, agentIn}
 use Rattle.demands.specs.ReadingLaws.{travels-sent, travels-linked, travels-dissolved, agent-given, agent-turned, wakeAgent}
 use Rattle.demands.specs.ReadingLaws.{agent-woken, agent-dissolved}
@@ -44,7 +45,7 @@ module _ (c : State) (i : Sound c) (x : ℕ) (g : c .given x ≡ true) (t : Plai
   next : nextOf (t .tree) x ≡ nextAction a
   next = ap (λ v. nextOf v x) (m .tree) ∙ given-next c x g (i .fit x)
 
-  chosen-pick : a .stage ≡ 3 → kindOf a ≢ 2 → t .pick x ≡ a .chosen
+  chosen-pick : a .stage ≡ 3 → kindOf a ≢ exitKind → t .pick x ≡ a .chosen
   chosen-pick = subst (Picked (t .pick) x) (agent-given c x g) (m .pick x)
 
   -- ---- the picks of all agents, when x becomes b and every other agent becomes what f says
@@ -56,9 +57,9 @@ module _ (c : State) (i : Sound c) (x : ℕ) (g : c .given x ≡ true) (t : Plai
 
   -- ---- steps that change no place
 
-  turned : (locks : ℕ → ℕ) (stage remembered chosen : ℕ) (pick : ℕ → ℕ) → (stage ≡ 3 → kindOf a ≢ 2 → pick x ≡ chosen)
+  turned : (locks : ℕ → ℕ) (stage remembered chosen : ℕ) (pick : ℕ → ℕ) → (stage ≡ 3 → kindOf a ≢ exitKind → pick x ≡ chosen)
       → ((y : ℕ) → y ≢ x → pick y ≡ t .pick y)
-      → Same (withLocks (goesOn c x stage remembered chosen) locks) (record { tree = t .tree; travels = t .travels; pick = pick })
+      → Same (withLocks (goesOn c x stage remembered chosen) locks) (withPicks t pick)
   unfolding agentIn nextAction
   turned locks stage remembered chosen pick p o = record {
     tree = m .tree ∙ sym (tree-quiet c x g locks stage remembered chosen);
@@ -74,16 +75,16 @@ module _ (c : State) (i : Sound c) (x : ℕ) (g : c .given x ≡ true) (t : Plai
   plain-quiet locks stage remembered chosen n = turned locks stage remembered chosen (t .pick) (λ s. absurd (n s)) (λ y _. refl)
 
   -- took: the agent's pick becomes the place that stage 2 would choose
-  pub plain-took : (locks : ℕ → ℕ) (stage remembered chosen wish : ℕ) → (stage ≡ 3 → kindOf a ≢ 2 → pickOf t x wish ≡ chosen)
+  pub plain-took : (locks : ℕ → ℕ) (stage remembered chosen wish : ℕ) → (stage ≡ 3 → kindOf a ≢ exitKind → pickOf t x wish ≡ chosen)
       → Same (withLocks (goesOn c x stage remembered chosen) locks) (plainWord t x wish Took)
   unfolding plainWord
   plain-took locks stage remembered chosen wish p = turned locks stage remembered chosen (upd (t .pick) x (pickOf t x wish))
       (λ s k. upd-same (t .pick) x (pickOf t x wish) ∙ p s k) (λ y n. upd-other (t .pick) x y (pickOf t x wish) n)
 
   -- where p is the place that the agent holds, the plain tree picks what the cell chooses for enter and open
-  pub plain-choice : (wish : ℕ) → kindOf a ≢ 2 → heldIn (t .tree) x ≡ a .remembered → pickOf t x wish ≡ choice (c .land) a wish
+  pub plain-choice : (wish : ℕ) → kindOf a ≢ exitKind → heldIn (t .tree) x ≡ a .remembered → pickOf t x wish ≡ choice (c .land) a wish
   unfolding pickOf
-  plain-choice wish n e = rw (ne-eqb (nextOf (t .tree) x .kind) 2 (λ k. n (sym (ap (λ v. v .kind) next) ∙ k)))
+  plain-choice wish n e = rw (ne-eqb (nextOf (t .tree) x .kind) exitKind (λ k. n (sym (ap (λ v. v .kind) next) ∙ k)))
       (choose-alike (landIn t) (c .land) (same-places c t (i .places) m) (nextOf (t .tree) x .kind) (nextOf (t .tree) x .name)
       (t .tree .home x) (heldIn (t .tree) x) wish
       ∙ ap (λ (v : Action). choose (c .land) (v .kind) (v .name) (t .tree .home x) (heldIn (t .tree) x) wish) next
@@ -99,12 +100,12 @@ module _ (c : State) (i : Sound c) (x : ℕ) (g : c .given x ≡ true) (t : Plai
 
   -- an agent at stage 2 that stays holds the place that the plain tree takes for p
   pub plain-held : a .stage ≡ 2 → stays (c .land) a ≡ true → heldIn (t .tree) x ≡ a .remembered
-  plain-held s st = go (eq? (kindOf a) 3)
+  plain-held s st = go (told (looksHome (kindOf a)))
     where
-      go : (kindOf a ≡ 3) ⊎ (kindOf a ≢ 3) → heldIn (t .tree) x ≡ a .remembered
-      go (inl k) = rw (eq-eqb (nextOf (t .tree) x .kind) 3 (kind ∙ k)) (home ∙ sym (ok-at 2 s (ok-given c i x g) .0 .opener k))
-      go (inr k) = rw (ne-eqb (nextOf (t .tree) x .kind) 3 (λ z. k (sym kind ∙ z)))
-          (around ∙ stays-under (c .land) a (omega (arith, kind-given c i x g)) st .parent)
+      go : Told (looksHome (kindOf a)) → heldIn (t .tree) x ≡ a .remembered
+      go (yea k) = rw (ap looksHome kind ∙ k) (home ∙ sym (ok-at 2 s (ok-given c i x g) .0 .opener (home-kind (kindOf a) k)))
+      go (nay k) = rw (ap looksHome kind ∙ k)
+          (around ∙ stays-under (c .land) a (around-kind (kindOf a) (kind-given c i x g) k) st .parent)
 
   -- ---- leaving, opening, coming
 
@@ -167,14 +168,14 @@ module _ (c : State) (i : Sound c) (x : ℕ) (g : c .given x ≡ true) (t : Plai
   -- ---- the moves of the plain tree
 
   -- enter goes into the chosen place
-  pub enter-result : a .stage ≡ 3 → kindOf a ≡ 1 → move (t .tree) x (t .pick x) ≡ putInto (treeOf c) x (a .chosen)
+  pub enter-result : a .stage ≡ 3 → kindOf a ≡ enterKind → move (t .tree) x (t .pick x) ≡ putInto (treeOf c) x (a .chosen)
   enter-result s k = ap₂ (λ v q. move v x q) (m .tree) (chosen-pick s (λ z. absurd (omega arith))) ∙ move-enter c x g (i .fit x) (a .chosen) k
 
   -- exit goes to where the place around stands
-  pub exit-result : a .stage ≡ 3 → kindOf a ≡ 2 → move (t .tree) x (t .pick x) ≡ putInto (treeOf c) x (parentIn (c .land) (a .remembered))
+  pub exit-result : a .stage ≡ 3 → kindOf a ≡ exitKind → move (t .tree) x (t .pick x) ≡ putInto (treeOf c) x (parentIn (c .land) (a .remembered))
   exit-result s k = ap (λ v. move v x (t .pick x)) (m .tree) ∙ move-exit c x g (i .fit x) (t .pick x) k
       ∙ ap (putInto (treeOf c) x) (given-beyond c x g (a .remembered) (both-move c i x g s (omega arith) .under .parent))
 
   -- open dissolves the chosen place
-  pub open-result : a .stage ≡ 3 → kindOf a ≡ 3 → move (t .tree) x (t .pick x) ≡ openUp (treeOf c) x (a .chosen)
+  pub open-result : a .stage ≡ 3 → kindOf a ≡ openKind → move (t .tree) x (t .pick x) ≡ openUp (treeOf c) x (a .chosen)
   open-result s k = ap₂ (λ v q. move v x q) (m .tree) (chosen-pick s (λ z. absurd (omega arith))) ∙ move-open c x g (i .fit x) (a .chosen) k

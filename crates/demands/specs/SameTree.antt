@@ -4,7 +4,7 @@ use mathlib.Core.Path.{_≡_, refl, ap, _∙_}
 use mathlib.Core.Bool.{Bool, true, false, cond}
 use Prim.Native.Nat.{ℕ}
 use Rattle.table.specs.Base.{tab}
-use Rattle.table.specs.Cell.{State, freshAgent, nextAction, kindOf, nameOf, unused}
+use Rattle.table.specs.Cell.{State, freshAgent, nextAction, kindOf, nameOf, unused, enterKind, exitKind, openKind}
 use Rattle.table.specs.declared.Agent.{Agent}
 use Rattle.meaning.specs.Calculus.{firstOf, nextOf, putInto, openUp, move}
 use Rattle.meaning.specs.Plain.{treeOf}
@@ -60,15 +60,15 @@ module _ (c : State) (x : ℕ) (g : c .given x ≡ true) (fit : Fit (agentIn c x
   given-name = ap (λ a. a .name) given-next
 
   -- the tree that its move on m makes, by the kind of its action
-  pub move-enter : (m : ℕ) → kindOf (c .agent x) ≡ 1 → move (treeOf c) x m ≡ putInto (treeOf c) x m
+  pub move-enter : (m : ℕ) → kindOf (c .agent x) ≡ enterKind → move (treeOf c) x m ≡ putInto (treeOf c) x m
   unfolding move
   move-enter m k = rw (given-kind ∙ k)
 
-  pub move-exit : (m : ℕ) → kindOf (c .agent x) ≡ 2
+  pub move-exit : (m : ℕ) → kindOf (c .agent x) ≡ exitKind
       → move (treeOf c) x m ≡ putInto (treeOf c) x (treeOf c .parent (treeOf c .parent (treeOf c .home x)))
   unfolding move
   move-exit m k = rw (given-kind ∙ k)
 
-  pub move-open : (m : ℕ) → kindOf (c .agent x) ≡ 3 → move (treeOf c) x m ≡ openUp (treeOf c) x m
+  pub move-open : (m : ℕ) → kindOf (c .agent x) ≡ openKind → move (treeOf c) x m ≡ openUp (treeOf c) x m
   unfolding move
   move-open m k = rw (given-kind ∙ k)

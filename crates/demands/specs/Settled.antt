@@ -7,7 +7,7 @@ use native.Mathlib.Omega.{arith}
 use lib.Dec.{eqb}
 use borrow.Author.Tests.{eqb-true, eq-eqb, ne-eqb}
 use Rattle.table.specs.BaseLaws.{Told, yea, nay, told, eq?, clash, all-yes}
-use Rattle.table.specs.Cell.{Land, State, none, travels}
+use Rattle.table.specs.Cell.{Land, State, none, travels, looking, found, asleep, done}
 use Rattle.table.specs.declared.Agent.{Agent}
 use Rattle.meaning.specs.Run.{settled}
 use Rattle.demands.specs.ReadingLaws.{agent-given}
@@ -54,28 +54,28 @@ module _ (c : State) where
 
 -- the stages of an agent that holds no lock and whose place is not on its way
 pub data HoldsNothing (stage : ℕ) : Type 0 where
-  looking : stage ≡ 0 → HoldsNothing stage
-  found : stage ≡ 1 → HoldsNothing stage
-  asleep : stage ≡ 7 → HoldsNothing stage
-  done : stage ≡ 8 → HoldsNothing stage
+  is-looking : stage ≡ looking → HoldsNothing stage
+  is-found : stage ≡ found → HoldsNothing stage
+  is-asleep : stage ≡ asleep → HoldsNothing stage
+  is-done : stage ≡ done → HoldsNothing stage
 
 nothing-low : {s : ℕ} → HoldsNothing s → Low s
-nothing-low (looking e) = inl (omega arith)
-nothing-low (found e) = inl (omega arith)
-nothing-low (asleep e) = inr (omega arith)
-nothing-low (done e) = inr (omega arith)
+nothing-low (is-looking e) = inl (omega arith)
+nothing-low (is-found e) = inl (omega arith)
+nothing-low (is-asleep e) = inr (omega arith)
+nothing-low (is-done e) = inr (omega arith)
 
 low-nothing : {l : Land} {lock : ℕ → ℕ} {x : ℕ} {a : Agent} → Ok l lock x a → Low (a .stage) → HoldsNothing (a .stage)
-low-nothing (ok0 s _) w = looking s
-low-nothing (ok1 s _) w = found s
+low-nothing (ok0 s _) w = is-looking s
+low-nothing (ok1 s _) w = is-found s
 low-nothing (ok2 s _ _) w = absurd (low-not w (omega arith) (omega arith))
 low-nothing (ok3-move s _ _ _ _ _ _) w = absurd (low-not w (omega arith) (omega arith))
 low-nothing (ok3-open s _ _ _ _ _) w = absurd (low-not w (omega arith) (omega arith))
 low-nothing (ok4 s _) w = absurd (low-not w (omega arith) (omega arith))
 low-nothing (ok5 s _ _) w = absurd (low-not w (omega arith) (omega arith))
 low-nothing (ok6 s _ _ _) w = absurd (low-not w (omega arith) (omega arith))
-low-nothing (ok7 s _ _) w = asleep s
-low-nothing (ok8 s _) w = done s
+low-nothing (ok7 s _ _) w = is-asleep s
+low-nothing (ok8 s _) w = is-done s
 
 -- a sound cell is settled exactly if every agent is looking, found, asleep or done
 pub settled-stages : (c : State) → Sound c → (settled c ≡ true) ↔ ((x : ℕ) → c .given x ≡ true → HoldsNothing (c .agent x .stage))

@@ -12,7 +12,8 @@ use Rattle.table.specs.Base.{allBelow, anyBelow, countBelow, iter}
 use Rattle.table.specs.BaseLaws.{Told, yea, nay, told, and-left, and-right, all-yes, all-at, any-at, any-found}
 use Rattle.table.specs.Cell.{State, none, freshAgent}
 use Rattle.table.specs.Sound.{firstHeld, secondHeldIn, lockIs, claims, goes, agentFits, agentSound, stands, travellersFit, placeFits}
-use Rattle.table.specs.Sound.{placeSound, leads, sound}
+use Rattle.table.specs.Sound.{placeSound, leads, coreSound, sound}
+use Rattle.table.specs.SoundParts.{sound-core, core-sound}
 use Rattle.table.specs.declared.Agent.{Agent}
 use Rattle.demands.specs.Reading.{agentIn}
 use Rattle.demands.specs.ReadingLaws.{agent-given}
@@ -67,28 +68,31 @@ module _ (c : State) where
         go (nay e) = rw e
 
     -- a sound cell passes the test
-    pub sound-true : sound c ≡ true
-    unfolding sound
-    sound-true = rw (
+    core-true : coreSound c ≡ true
+    unfolding coreSound
+    core-true = rw (
       i .places .floor-used,
       all-yes (agentSound c) 64 (λ x _. agent-passes x),
       all-yes (placeSound c) 64 (λ q _. place-true q),
       all-yes (leads c) 64 (λ q _. leads-all q),
     )
 
+    pub sound-true : sound c ≡ true
+    sound-true = core-sound c core-true
+
   -- ---- and back
 
   module _ (small : (q : ℕ) → c .land .used q ≡ true → q < 64) (few : (x : ℕ) → c .given x ≡ true → x < 64) (t : sound c ≡ true) where
     rest : (allBelow (agentSound c) 64 && (allBelow (placeSound c) 64 && allBelow (leads c) 64)) ≡ true
-    unfolding sound
-    rest = and-right (c .land .used 0) _ t
+    unfolding coreSound
+    rest = and-right (c .land .used 0) _ (sound-core c t)
 
     both : (allBelow (placeSound c) 64 && allBelow (leads c) 64) ≡ true
     both = and-right (allBelow (agentSound c) 64) _ rest
 
     floor : c .land .used 0 ≡ true
-    unfolding sound
-    floor = and-left (c .land .used 0) _ t
+    unfolding coreSound
+    floor = and-left (c .land .used 0) _ (sound-core c t)
 
     agent-fits : (x : ℕ) → c .given x ≡ true → agentFits c x (c .agent x) ≡ true
     agent-fits x g = rw g at (all-at (agentSound c) 64 x (few x g) (and-left (allBelow (agentSound c) 64) _ rest))

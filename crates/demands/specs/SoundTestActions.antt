@@ -11,7 +11,7 @@ use lib.ListN.{getD, length}
 use borrow.Author.Tests.{ltb-true, ltb-false, lt-ltb, le-ltb, le-leb, leb-true}
 use Rattle.table.specs.Base.{tab}
 use Rattle.table.specs.BaseLaws.{Told, yea, nay, told, eq?, and-left, and-right, all-yes, all-at, length-tab}
-use Rattle.table.specs.Cell.{noAction, hasAction, unused}
+use Rattle.table.specs.Cell.{noAction, hasAction, unused, lastKind}
 use Rattle.table.specs.Sound.{actionFits, actionAt, actionsFit}
 use Rattle.table.specs.declared.Action.{Action}
 use Rattle.table.specs.declared.Agent.{Agent}
@@ -23,19 +23,19 @@ use Rattle.demands.specs.Invariant.{Fit}
 -- a kind 1 to 3 and a name that is not 0
 pub record InRange (x : Action) : Type 0 where
   pub low : 1 ≤ x .kind
-  pub high : x .kind ≤ 3
+  pub high : x .kind ≤ lastKind
   pub named : 1 ≤ x .name
 
 range-true : (x : Action) → InRange x → actionFits x ≡ true
-range-true x r = rw (le-leb 1 (x .kind) (r .low), le-leb (x .kind) 3 (r .high), le-leb 1 (x .name) (r .named))
+range-true x r = rw (le-leb 1 (x .kind) (r .low), le-leb (x .kind) lastKind (r .high), le-leb 1 (x .name) (r .named))
 
 range-holds : (x : Action) → actionFits x ≡ true → InRange x
 range-holds x e =
     let rest = and-right (leb 1 (x .kind)) _ e in
     record {
       low = leb-true _ _ (and-left (leb 1 (x .kind)) _ e);
-      high = leb-true _ _ (and-left (leb (x .kind) 3) _ rest);
-      named = leb-true _ _ (and-right (leb (x .kind) 3) _ rest);
+      high = leb-true _ _ (and-left (leb (x .kind) lastKind) _ rest);
+      named = leb-true _ _ (and-right (leb (x .kind) lastKind) _ rest);
     }
 
 -- ---- a row

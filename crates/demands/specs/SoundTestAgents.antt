@@ -8,13 +8,14 @@ use native.Mathlib.Omega.{arith}
 use lib.Dec.{eqb}
 use borrow.Author.Tests.{eqb-true, eq-eqb, ne-eqb, lt-leb, not-true}
 use Rattle.table.specs.BaseLaws.{Told, yea, nay, told, clash, and-left, and-right}
-use Rattle.table.specs.Cell.{Land, State, none, hasAction, kindOf, linkedTo}
+use Rattle.table.specs.Cell.{Land, State, none, hasAction, kindOf, linkedTo, enterKind, exitKind, looksHome}
+use Rattle.table.specs.Kinds.{Kind, is-enter, is-exit, is-open, home-kind, kind-home}
 use Rattle.table.specs.Sound.{actionsFit, ready, holdsBoth, stageFits, firstHeld, secondPlace, secondHeld, secondHeldIn, standsIn, lockIs, agentFits}
 use Rattle.table.specs.declared.Agent.{Agent}
 use Rattle.demands.specs.Reading.{parentIn}
 use Rattle.demands.specs.Invariant.{Places, Has, Fit, Ready, Away, Ok, ok0, ok1, ok2, ok3-move, ok3-open, ok4, ok5, ok6, ok7, ok8, Travels}
-use Rattle.demands.specs.Facts.{Kind, is-enter, is-exit, is-open, under-fits, under-of, link-used, second-move, second-open}
-use Rattle.demands.specs.Actions.{kind-some, has-some, kind-of, unused-none}
+use Rattle.demands.specs.Facts.{under-fits, under-of, link-used, second-move, second-open}
+use Rattle.demands.specs.Actions.{kind-small, kind-some, has-some, kind-of, unused-none}
 use Rattle.demands.specs.SoundTestActions.{fit-true, fit-holds, none-left}
 use Rattle.demands.specs.SoundTestStages.{firstAt, secondAt, first-at, second-at, stands-parent}
 
@@ -45,10 +46,10 @@ module _ (c : State) (x : ℕ) (a : Agent) where
 
   ready-true : Ready l a → readyTest ≡ true
   unfolding ready
-  ready-true r = rw (has-some a (r .some), r .known) (go (told (eqb (kindOf a) 3)))
+  ready-true r = rw (has-some a (r .some), r .known) (go (told (looksHome (kindOf a))))
     where
-      go : Told (eqb (kindOf a) 3) → cond (eqb (kindOf a) 3) (eqb (a .remembered) (a .home)) true ≡ true
-      go (yea e) = rw (e, eq-eqb (a .remembered) (a .home) (r .opener (eqb-true _ _ e)))
+      go : Told (looksHome (kindOf a)) → cond (looksHome (kindOf a)) (eqb (a .remembered) (a .home)) true ≡ true
+      go (yea e) = rw (e, eq-eqb (a .remembered) (a .home) (r .opener (home-kind (kindOf a) e)))
       go (nay e) = rw e
 
   ready-holds : Fit a → readyTest ≡ true → Ready l a
@@ -58,7 +59,7 @@ module _ (c : State) (x : ℕ) (a : Agent) where
       record {
         some = kind-some a f (and-left (hasAction a) _ e);
         known = and-left (l .used (a .remembered)) _ rest;
-        opener = λ k. eqb-true _ _ (rw (eq-eqb (kindOf a) 3 k) at (and-right (l .used (a .remembered)) _ rest));
+        opener = λ k. eqb-true _ _ (rw (kind-home (kindOf a) k (kind-small a f)) at (and-right (l .used (a .remembered)) _ rest));
       }
 
   -- ---- the whole agent
@@ -93,7 +94,7 @@ module _ (c : State) (x : ℕ) (a : Agent) where
       free : lockIs c x none ≡ true
       free = unfold lockIs in refl
 
-      move : Kind (kindOf a) → kindOf a ≤ 2 → here ≡ true → (kindOf a ≡ 1 → there ≡ true) → holdsBoth (kindOf a) here there ≡ true
+      move : Kind (kindOf a) → kindOf a ≤ exitKind → here ≡ true → (kindOf a ≡ enterKind → there ≡ true) → holdsBoth (kindOf a) here there ≡ true
       move (is-enter e) k h t = rw (e, h, t e)
       move (is-exit e) k h t = rw (e, h)
       move (is-open e) k h t = absurd (omega arith)

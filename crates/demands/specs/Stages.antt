@@ -7,7 +7,7 @@ use mathlib.Core.Bool.{true}
 use Prim.Native.Nat.{ℕ, zero, suc, _≤_}
 use native.Mathlib.Omega.{arith}
 use Rattle.table.specs.BaseLaws.{Told, yea, nay, told, eq?, upd-at, upd-other}
-use Rattle.table.specs.Cell.{Land, State, none, hasAction, nextAction, kindOf, unused}
+use Rattle.table.specs.Cell.{Land, State, none, hasAction, nextAction, kindOf, unused, enterKind, exitKind, openKind}
 use Rattle.table.specs.Sound.{secondPlace}
 use Rattle.table.specs.declared.Agent.{Agent}
 use Rattle.meaning.specs.Update.{atStage, released}
@@ -25,14 +25,14 @@ use Rattle.demands.specs.Facts.{link-used, second-move, second-open}
 
 -- stage 3 of enter and exit, besides the remembered place
 pub record BothMove (l : Land) (lock : ℕ → ℕ) (x : ℕ) (a : Agent) : Type 0 where
-  pub kind : kindOf a ≤ 2
+  pub kind : kindOf a ≤ exitKind
   pub own : Has lock (a .home) x
   pub under : Under l (a .home) (a .remembered)
-  pub target : kindOf a ≡ 1 → Under l (a .chosen) (a .remembered)
+  pub target : kindOf a ≡ enterKind → Under l (a .chosen) (a .remembered)
 
 -- and of open
 pub record BothOpen (l : Land) (lock : ℕ → ℕ) (x : ℕ) (a : Agent) : Type 0 where
-  pub kind : kindOf a ≡ 3
+  pub kind : kindOf a ≡ openKind
   pub own : Has lock (a .chosen) x
   pub under : Under l (a .chosen) (a .remembered)
 
@@ -183,10 +183,10 @@ module _ (c : State) (i : Sound c) (x : ℕ) (g : c .given x ≡ true) where
   home-given = subst (λ (a : Agent). c .land .used (a .home) ≡ true) (agent-given c x g) (i .homes x)
 
   -- at stage 3 it holds both places of its action
-  pub both-move : c .agent x .stage ≡ 3 → kindOf (c .agent x) ≤ 2 → BothMove (c .land) (c .lock) x (c .agent x)
+  pub both-move : c .agent x .stage ≡ 3 → kindOf (c .agent x) ≤ exitKind → BothMove (c .land) (c .lock) x (c .agent x)
   both-move n k = ⊎-elim (λ m. m) (λ o. absurd (omega (arith, o .kind))) (ok-at 3 n ok-given .2)
 
-  pub both-open : c .agent x .stage ≡ 3 → kindOf (c .agent x) ≡ 3 → BothOpen (c .land) (c .lock) x (c .agent x)
+  pub both-open : c .agent x .stage ≡ 3 → kindOf (c .agent x) ≡ openKind → BothOpen (c .land) (c .lock) x (c .agent x)
   both-open n k = ⊎-elim (λ m. absurd (omega (arith, m .kind))) (λ o. o) (ok-at 3 n ok-given .2)
 
   -- releasing p and q gives back all of x's locks, where these are all that its stage holds

@@ -9,7 +9,8 @@ use native.Mathlib.Omega.{arith}
 use lib.Dec.{ltb, eqb}
 use borrow.Author.Tests.{eqb-true, eqb-false, ltb-true, ltb-false}
 use Rattle.table.specs.BaseLaws.{Told, yea, nay, told}
-use Rattle.table.specs.Cell.{State, none, linked, kindOf}
+use Rattle.table.specs.Cell.{State, none, linked, kindOf, enterKind, exitKind, openKind, lastKind, looksHome}
+use Rattle.table.specs.Kinds.{home-kind, around-kind}
 use Rattle.meaning.specs.Update.{atStage}
 use Rattle.meaning.specs.declared.Word.the-variants.{Took, Held}
 use Rattle.meaning.specs.Step.{step, stepAt, look, lockFirst, hold, lockSecond, act, travel, take, release, turn, still, choice, stays, fires}
@@ -24,7 +25,7 @@ use Rattle.demands.specs.Stages.{ok-at, ok-given, fit-given, home-given}
 
 module _ (c : State) (i : Sound c) (x : ℕ) (g : c .given x ≡ true) where
   -- its kind is 3 at most, and before it moves it has an action
-  pub kind-given : kindOf (c .agent x) ≤ 3
+  pub kind-given : kindOf (c .agent x) ≤ lastKind
   kind-given = kind-small (c .agent x) (fit-given c i x g)
 
   remembered-third : c .agent x .stage ≡ 3 → Ready (c .land) (c .agent x)
@@ -43,13 +44,13 @@ module _ (c : State) (i : Sound c) (x : ℕ) (g : c .given x ≡ true) where
 
     look-way : c .agent x .stage ≡ 0 → Way c x w (look c x (c .agent x))
     unfolding look turn
-    look-way s = go (told (eqb (kindOf (c .agent x)) 3)) (told (linked (c .land) (c .agent x .home)))
+    look-way s = go (told (looksHome (kindOf (c .agent x)))) (told (linked (c .land) (c .agent x .home)))
       where
-        two : eqb (kindOf (c .agent x)) 3 ≡ false → kindOf (c .agent x) ≤ 2
-        two e = let n = eqb-false (kindOf (c .agent x)) 3 e in omega (arith, kind-given)
+        two : looksHome (kindOf (c .agent x)) ≡ false → kindOf (c .agent x) ≤ exitKind
+        two = around-kind (kindOf (c .agent x)) kind-given
 
-        go : Told (eqb (kindOf (c .agent x)) 3) → Told (linked (c .land) (c .agent x .home)) → Way c x w (look c x (c .agent x))
-        go (yea e) _ = rw e (looks-home s (eqb-true (kindOf (c .agent x)) 3 e))
+        go : Told (looksHome (kindOf (c .agent x))) → Told (linked (c .land) (c .agent x .home)) → Way c x w (look c x (c .agent x))
+        go (yea e) _ = rw e (looks-home s (home-kind (kindOf (c .agent x)) e))
         go (nay e) (yea k) = rw (e, k) (rw (← parent-read (c .land) (c .agent x .home) (home-given c i x g)) (looks-up s (two e) k))
         go (nay e) (nay k) = rw (e, k) (sleeps-alone s (two e) k)
 
@@ -73,17 +74,17 @@ module _ (c : State) (i : Sound c) (x : ℕ) (g : c .given x ≡ true) where
 
     act-way : c .agent x .stage ≡ 3 → Way c x w (act c x (c .agent x))
     unfolding act release
-    act-way s = go (told (fires (c .land) (c .agent x))) (told (eqb (kindOf (c .agent x)) 3)) (told (eqb (kindOf (c .agent x)) 1))
+    act-way s = go (told (fires (c .land) (c .agent x))) (told (eqb (kindOf (c .agent x)) openKind)) (told (eqb (kindOf (c .agent x)) enterKind))
       where
-        two : eqb (kindOf (c .agent x)) 3 ≡ false → eqb (kindOf (c .agent x)) 1 ≡ false → kindOf (c .agent x) ≡ 2
+        two : eqb (kindOf (c .agent x)) openKind ≡ false → eqb (kindOf (c .agent x)) enterKind ≡ false → kindOf (c .agent x) ≡ exitKind
         two e d =
-            let n = eqb-false (kindOf (c .agent x)) 3 e in let m = eqb-false (kindOf (c .agent x)) 1 d in
+            let n = eqb-false (kindOf (c .agent x)) openKind e in let m = eqb-false (kindOf (c .agent x)) enterKind d in
             omega (arith, kind-given, remembered-third s .some)
 
-        go : Told (fires (c .land) (c .agent x)) → Told (eqb (kindOf (c .agent x)) 3) → Told (eqb (kindOf (c .agent x)) 1)
+        go : Told (fires (c .land) (c .agent x)) → Told (eqb (kindOf (c .agent x)) openKind) → Told (eqb (kindOf (c .agent x)) enterKind)
             → Way c x w (act c x (c .agent x))
-        go (yea f) (yea e) _ = rw (f, e) (opens s (eqb-true (kindOf (c .agent x)) 3 e) f)
-        go (yea f) (nay e) (yea d) = rw (f, e, d) (enters s (eqb-true (kindOf (c .agent x)) 1 d) f)
+        go (yea f) (yea e) _ = rw (f, e) (opens s (eqb-true (kindOf (c .agent x)) openKind e) f)
+        go (yea f) (nay e) (yea d) = rw (f, e, d) (enters s (eqb-true (kindOf (c .agent x)) enterKind d) f)
         go (yea f) (nay e) (nay d) = rw (f, e, d) (rw (← parent-read (c .land) (c .agent x .remembered) (remembered-third s .known))
             (exits s (two e d) f))
         go (nay f) _ _ = rw f (gives-up s f)

@@ -12,8 +12,8 @@ use Rattle.table.specs.Cell.{Land, State, unused}
 use Rattle.table.specs.declared.Agent.{Agent}
 use Rattle.meaning.specs.Update.{atStage, useUp, withLocks}
 use Rattle.meaning.specs.Step.{dissolveAgent, leave, dissolve, arrive, sendTo, linkUp, dissolveLand, restStage, beyond}
-use Rattle.meaning.specs.Calculus.{Tree, restOf, putInto, openUp}
-use Rattle.meaning.specs.Plain.{treeOf}
+use Rattle.meaning.specs.Calculus.{Tree, withTreeUsed, withTreeNames, withTreeParents, withTreeHomes, withTreeUnused, restOf, putInto, openUp}
+use Rattle.meaning.specs.Plain.{treeFrom, treeOf}
 use Rattle.demands.specs.Reading.{parentIn, nameIn, agentIn}
 use Rattle.demands.specs.ReadingLaws.{parent-sent, name-sent, parent-linked, name-linked, used-dissolved, name-dissolved}
 use Rattle.demands.specs.ReadingLaws.{parent-dissolved, agent-given, agent-turned, wakeAgent, agent-woken, agent-dissolved}
@@ -25,23 +25,17 @@ use Rattle.demands.specs.SameTree.{tree-home, tree-unused}
 
 -- the tree of places and agents as they are read
 unfoldable pub readTree : Land → (ℕ → Agent) → Tree
-readTree l agents = record { used = l .used; name = nameIn l; parent = parentIn l; home = λ x. agents x .home; unused = λ x. unused (agents x) }
+readTree l agents = treeFrom l (λ x. agents x .home) (λ x. unused (agents x))
 
 -- the tree of a cell is read off it
 pub tree-read : (c : State) → treeOf c ≡ readTree (c .land) (agentIn c)
 unfolding treeOf readTree parentIn nameIn
-tree-read c = λ j. record {
-  used = c .land .used;
-  name = nameIn (c .land);
-  parent = parentIn (c .land);
-  home = fun-ext (tree-home c) j;
-  unused = fun-ext (tree-unused c) j;
-}
+tree-read c = λ j. withTreeUnused (withTreeHomes (treeOf c) (fun-ext (tree-home c) j)) (fun-ext (tree-unused c) j)
 
 -- agents with the same homes and unused actions give the same tree
 same-tree : (l : Land) (f h : ℕ → Agent) → ((y : ℕ) → h y .home ≡ f y .home) → ((y : ℕ) → unused (h y) ≡ unused (f y)) → readTree l h ≡ readTree l f
 unfolding readTree
-same-tree l f h homes rows = λ j. record { used = l .used; name = nameIn l; parent = parentIn l; home = fun-ext homes j; unused = fun-ext rows j }
+same-tree l f h homes rows = λ j. withTreeUnused (withTreeHomes (readTree l f) (fun-ext homes j)) (fun-ext rows j)
 
 -- an agent of a place that is dissolved goes to p
 dissolved-home : (p t : ℕ) (a : Agent) → dissolveAgent p t a .home ≡ cond (eqb (a .home) t) p (a .home)
@@ -106,13 +100,8 @@ module _ (c : State) (x : ℕ) (g : c .given x ≡ true) where
       b = atStage own (restStage own) 0 0
 
       linked-same : readTree (linkUp l (own .home)) (upd h x b) ≡ readTree l (upd h x b)
-      linked-same = unfold readTree in λ j. record {
-        used = l .used;
-        name = name-linked l (own .home) j;
-        parent = parent-linked l (own .home) j;
-        home = λ y. upd h x b y .home;
-        unused = λ y. unused (upd h x b y);
-      }
+      linked-same = unfold readTree nameIn parentIn in λ j.
+          withTreeParents (withTreeNames (readTree l (upd h x b)) (name-linked l (own .home) j)) (parent-linked l (own .home) j)
 
   -- leaving puts the agent's place into its destination
   pub tree-left : (d : ℕ) → c .land .used (own .home) ≡ true → treeOf (leave c x own d .cell) ≡ putInto (treeOf c) x d
@@ -134,13 +123,10 @@ module _ (c : State) (x : ℕ) (g : c .given x ≡ true) where
       to = parent-sent l (own .home) d u ∙ ap (λ (z : Agent). upd (parentIn l) (z .home) d) (sym same-own)
 
       moved : readTree (sendTo l (own .home) d) (upd h x b) ≡ putInto (readTree l (agentIn c)) x d
-      moved = unfold readTree putInto in λ j. record {
-        used = l .used;
-        name = name-sent l (own .home) d j;
-        parent = to j;
-        home = fun-ext (turned-home h b refl (λ y. roused-home (rouses (own .remembered) (own .home) (own .home) (agentIn c y)))) j;
-        unused = fun-ext (spent-unused h b refl (λ y. roused-unused (rouses (own .remembered) (own .home) (own .home) (agentIn c y)))) j;
-      }
+      moved = unfold readTree nameIn parentIn putInto in λ j. withTreeUnused
+          (withTreeHomes (withTreeParents (withTreeNames (readTree l (agentIn c)) (name-sent l (own .home) d j)) (to j))
+          (fun-ext (turned-home h b refl (λ y. roused-home (rouses (own .remembered) (own .home) (own .home) (agentIn c y)))) j))
+          (fun-ext (spent-unused h b refl (λ y. roused-unused (rouses (own .remembered) (own .home) (own .home) (agentIn c y)))) j)
 
   -- opening t, into the agent's own place p
   pub tree-opened : (p t : ℕ) → p ≡ own .home → own .home ≢ t → t ≢ 0 → treeOf (dissolve c x own p t .cell) ≡ openUp (treeOf c) x t
@@ -169,10 +155,8 @@ module _ (c : State) (x : ℕ) (g : c .given x ≡ true) where
           (λ y _. dissolved-home p t (agentIn c y) ∙ ap (λ r. cond (eqb (agentIn c y .home) t) r (agentIn c y .home)) home)
 
       moved : readTree (dissolveLand l p t) (upd h x b) ≡ openUp (readTree l (agentIn c)) x t
-      moved = unfold readTree openUp in λ j. record {
-        used = used-dissolved l p t j;
-        name = name-dissolved l p t j;
-        parent = to j;
-        home = fun-ext homes j;
-        unused = fun-ext (spent-unused h b refl (λ y. unused-same (dissolved p t (agentIn c y)))) j;
-      }
+      moved = unfold readTree nameIn parentIn openUp in λ j. withTreeUnused
+          (withTreeHomes
+          (withTreeParents (withTreeNames (withTreeUsed (readTree l (agentIn c)) (used-dissolved l p t j)) (name-dissolved l p t j)) (to j))
+          (fun-ext homes j))
+          (fun-ext (spent-unused h b refl (λ y. unused-same (dissolved p t (agentIn c y)))) j)

@@ -7,11 +7,12 @@ use mathlib.Core.Bool.{true, false, cond}
 use Prim.Native.Nat.{ℕ, _≤_, _<_}
 use native.Mathlib.Omega.{arith}
 use lib.Dec.{eqb}
-use borrow.Author.Tests.{eqb-true, eqb-false}
+use borrow.Author.Tests.{eqb-true}
 use Rattle.table.specs.Base.{iter}
 use Rattle.table.specs.BaseLaws.{Told, yea, nay, told, eq?, upd-same}
 use Rattle.table.specs.Bounds.{Sized}
-use Rattle.table.specs.Cell.{Land, State, none, linked, nextAction, kindOf, nameOf, cellOf}
+use Rattle.table.specs.Cell.{Land, State, none, linked, nextAction, kindOf, nameOf, cellOf, exitKind, openKind, looksHome}
+use Rattle.table.specs.Kinds.{Kind, is-enter, is-exit, is-open, around-kind}
 use Rattle.table.specs.Sound.{secondPlace}
 use Rattle.table.specs.declared.Agent.{Agent}
 use Rattle.table.specs.declared.Cell.{Cell}
@@ -25,7 +26,7 @@ use Rattle.calculus.specs.MoveCases.{MoveCase, move-case}
 use Rattle.demands.specs.Reading.{parentIn, agentIn}
 use Rattle.demands.specs.ReadingLaws.{agent-given}
 use Rattle.demands.specs.Invariant.{Under, Ready, Holds, Sound, Inv}
-use Rattle.demands.specs.Facts.{Kind, is-enter, is-exit, is-open, link-used, parent-read, exits-fits, under-of}
+use Rattle.demands.specs.Facts.{link-used, parent-read, exits-fits, under-of}
 use Rattle.demands.specs.Choice.{choice-wish}
 use Rattle.demands.specs.Actions.{kind-of, kind-small}
 use Rattle.demands.specs.Stages.{BothMove, BothOpen, ok-at, holds-none, holds-two, holds-four, holds-five}
@@ -86,14 +87,14 @@ module _ (a : ℕ) where
     Done = Reaches 4 a t (move (tree t) a (targetOf (own t)))
 
     -- leaving, with the destination as the move has it
-    leaves : kindOf (own t) ≢ 3 → move (tree t) a (targetOf (own t)) ≡ putInto (tree t) a (destinationOf (land t) (own t)) → Done
+    leaves : kindOf (own t) ≢ openKind → move (tree t) a (targetOf (own t)) ≡ putInto (tree t) a (destinationOf (land t) (own t)) → Done
     unfolding leave
     leaves k e = one-more 3 0 t _ (omega arith) p (ahead-leave (cellOf t) a 0 s k fire)
         (λ v q f. subst (Reaches 3 a v) (ap treeOf f ∙ tree-left (cellOf t) a (p .given) _ (own-used t p) ∙ sym e)
         (from-four v q (ap (λ (b : Agent). b .stage) (ap (λ (z : State). z .agent a) f ∙ upd-same _ a _))))
 
     -- opening
-    opened : kindOf (own t) ≡ 3 → Under (land t) (own t .chosen) (own t .remembered) → Done
+    opened : kindOf (own t) ≡ openKind → Under (land t) (own t .chosen) (own t .remembered) → Done
     unfolding dissolve
     opened k u = raise (omega arith) (one-more 0 0 t _ (omega arith) p (ahead-open (cellOf t) a 0 s k fire)
         (λ v q f. subst (Reaches 0 a v) (ap treeOf f ∙ tree-opened (cellOf t) a (p .given) _ _ mine apart placed ∙ made)
@@ -101,7 +102,7 @@ module _ (a : ℕ) where
         (rest-low (useUp (own t)))))))
       where
         mine : own t .remembered ≡ own t .home
-        mine = ready .opener k
+        mine = ready .opener (omega arith)
 
         apart : own t .home ≢ own t .chosen
         apart e = child-not-self (sound t p .places) u (mine ∙ e)
@@ -130,11 +131,11 @@ module _ (a : ℕ) where
 
   -- at stage 3 the action is to fire on the place wished for
   target-is : (l : Land) (b : Agent) (q : ℕ) → qualifies l (kindOf b) (nameOf b) (b .home) (b .remembered) q ≡ true
-      → targetOf (atStage b 3 (b .remembered) (cond (eqb (kindOf b) 2) 0 q)) ≡ q
+      → targetOf (atStage b 3 (b .remembered) (cond (eqb (kindOf b) exitKind) 0 q)) ≡ q
   unfolding nextAction
-  target-is l b q f = go (told (eqb (kindOf b) 2))
+  target-is l b q f = go (told (eqb (kindOf b) exitKind))
     where
-      go : Told (eqb (kindOf b) 2) → targetOf (atStage b 3 (b .remembered) (cond (eqb (kindOf b) 2) 0 q)) ≡ q
+      go : Told (eqb (kindOf b) exitKind) → targetOf (atStage b 3 (b .remembered) (cond (eqb (kindOf b) exitKind) 0 q)) ≡ q
       go (yea e) = rw e (sym (exits-fits l _ _ _ _ q (eqb-true _ _ e) f .0))
       go (nay e) = rw e
 
@@ -166,7 +167,7 @@ module _ (a : ℕ) where
       apart h = child-not-self (sound t p .places) under (sym (holds-two s h))
 
       b : Agent
-      b = atStage (own t) 3 (own t .remembered) (cond (eqb (kindOf (own t)) 2) 0 q)
+      b = atStage (own t) 3 (own t .remembered) (cond (eqb (kindOf (own t)) exitKind) 0 q)
 
       fire : fires (land t) b ≡ true
       fire = unfold fires nextAction in (ap (qualifies (land t) (kindOf (own t)) (nameOf (own t)) (own t .home) (own t .remembered))
@@ -194,16 +195,16 @@ module _ (a : ℕ) where
       (λ v q l e f. from-one v q (subst (λ w. MoveCase w a u) (sym f) m) (ap (λ b. b .stage) e)
       (ap (λ (k : Land). stays k (own v)) l ∙ ap (stays (land t)) e ∙ fresh))
     where
-      home-linked : kindOf (own t) ≢ 3 → linked (land t) (own t .home) ≡ true
-      home-linked k = whole t p (omega arith) _ (own-used t p) (off-floor (cellOf t) (sound t p) a (p .given) m k)
+      home-linked : looksHome (kindOf (own t)) ≡ false → linked (land t) (own t .home) ≡ true
+      home-linked k = whole t p (omega arith) _ (own-used t p) (off-floor (cellOf t) (sound t p) a (p .given) m (around-kind (kindOf (own t)) (kind-small (own t) (own-fit t p)) k))
 
       fresh : stays (land t) (atStage (own t) 1 (looksAt (land t) (own t)) 0) ≡ true
-      fresh = go (told (eqb (kindOf (own t)) 3))
+      fresh = go (told (looksHome (kindOf (own t))))
         where
-          go : Told (eqb (kindOf (own t)) 3) → stays (land t) (atStage (own t) 1 (looksAt (land t) (own t)) 0) ≡ true
+          go : Told (looksHome (kindOf (own t))) → stays (land t) (atStage (own t) 1 (looksAt (land t) (own t)) 0) ≡ true
           go (yea e) = rw e
           go (nay e) = rw e (under-of (land t) (own t .home) (parentIn (land t) (own t .home))
-              (record { link = home-linked (eqb-false _ _ e); parent = refl }))
+              (record { link = home-linked e; parent = refl }))
 
   -- a remembered place that its own is not linked to: taken, given back, and then from the start
   from-stale : (t : Cell) {u : Tree} → Alone t a → MoveCase (tree t) a u → own t .stage ≡ 1 → stays (land t) (own t) ≡ false → Reaches 9 a t u

@@ -15,7 +15,7 @@ use Rattle.table.specs.declared.Cell.{Cell}
 use Rattle.meaning.specs.declared.Stepped.{Stepped}
 use Rattle.meaning.specs.Update.{atStage, withLocks}
 use Rattle.meaning.specs.Step.{step}
-use Rattle.meaning.specs.Run.{made, stepOf, run, answers, settled}
+use Rattle.meaning.specs.Run.{stepReply, made, stepOf, callOf, run, answers, settled}
 use Rattle.meaning.specs.Calculus.{Tree}
 use Rattle.meaning.specs.Plain.{treeOf}
 use Rattle.demands.specs.Reading.{agentIn}
@@ -44,7 +44,7 @@ module _ {a : ℕ} where
 
   -- no call more, where the agent too holds nothing and is not on its way
   pub none-more : (n : ℕ) (t : Cell) → Alone t a → Low (cellOf t .agent a .stage) → Reaches n a t (treeOf (cellOf t))
-  unfolding callsOf run answers
+  unfolding callsOf run answers callOf
   none-more n t p l = record {
     wishes = [];
     few = zero-le;
@@ -64,12 +64,12 @@ module _ {a : ℕ} where
   -- one call more at the front, whose step makes d
   pub one-more : (n w : ℕ) (t : Cell) (d : State) {u : Tree} → w < 256 → Alone t a → step (cellOf t) a w .cell ≡ d
       → ((v : Cell) → Alone v a → cellOf v ≡ d → Reaches n a v u) → Reaches (suc n) a t u
-  unfolding callsOf run answers made agentIn
+  unfolding callsOf run answers callOf made agentIn
   one-more n w t d {u} l p e f = record {
     wishes = w ∷ r .wishes;
     few = suc-le-suc (r .few);
     bytes = one-wish l (r .bytes);
-    answered = subst (λ (s : Stepped). Answered (s .answer ∷ answers (s .cell) (callsOf a (r .wishes)))) (sym call) (one-call (r .answered));
+    answered = subst (λ (s : Stepped). Answered (stepReply (s .answer) ∷ answers (s .cell) (callsOf a (r .wishes)))) (sym call) (one-call (r .answered));
     settles = subst (λ (s : Stepped). settled (cellOf (run (s .cell) (callsOf a (r .wishes)))) ≡ true) (sym call) (r .settles);
     tree = subst (λ (s : Stepped). treeOf (cellOf (run (s .cell) (callsOf a (r .wishes)))) ≡ u) (sym call) (r .tree);
   }

@@ -7,16 +7,15 @@ use lib.ListN.{length}
 use Rattle.table.specs.Cell.{cellOf}
 use Rattle.table.specs.declared.Cell.{Cell}
 use Rattle.meaning.specs.declared.Word.{Word}
-use Rattle.meaning.specs.declared.Answer.{Answer}
 use Rattle.meaning.specs.declared.Answer.the-variants.{Did}
-use Rattle.meaning.specs.Run.{Call, run, answers, settled}
-use Rattle.meaning.specs.Calculus.{Tree}
+use Rattle.meaning.specs.Run.{Call, stepCall, Reply, stepReply, run, answers, settled}
+use Rattle.meaning.specs.Calculus.{Tree, Move}
 use Rattle.meaning.specs.Plain.{treeOf}
 
 -- agent a's calls with these wishes
 unfoldable pub callsOf : ℕ → List ℕ → List Call
 callsOf a [] = []
-callsOf a (w ∷ wishes) = record { agent = a; wish = w } ∷ callsOf a wishes
+callsOf a (w ∷ wishes) = stepCall a w ∷ callsOf a wishes
 
 -- each wish is a byte
 pub data Bytes : List ℕ → Type 0 where
@@ -24,9 +23,9 @@ pub data Bytes : List ℕ → Type 0 where
   one-wish : {w : ℕ} {rest : List ℕ} → w < 256 → Bytes rest → Bytes (w ∷ rest)
 
 -- no call is refused
-pub data Answered : List Answer → Type 0 where
+pub data Answered : List Reply → Type 0 where
   no-call : Answered []
-  one-call : {word : Word} {woken : ℕ} {rest : List Answer} → Answered rest → Answered (Did word woken ∷ rest)
+  one-call : {word : Word} {woken : ℕ} {rest : List Reply} → Answered rest → Answered (stepReply (Did word woken) ∷ rest)
 
 -- n calls of agent a at most, none refused, take table t to a settled cell whose tree is u
 pub record Reaches (n a : ℕ) (t : Cell) (u : Tree) : Type 0 where
@@ -36,3 +35,7 @@ pub record Reaches (n a : ℕ) (t : Cell) (u : Tree) : Type 0 where
   pub answered : Answered (answers t (callsOf a wishes))
   pub settles : settled (cellOf (run t (callsOf a wishes))) ≡ true
   pub tree : treeOf (cellOf (run t (callsOf a wishes))) ≡ u
+
+-- demand 2 of table t: if its cell is settled, each move that the calculus permits an agent is made by nine of that agent's own calls at most
+abbrev pub MovesReached : Cell → Type 0
+MovesReached t = settled (cellOf t) ≡ true → (a : ℕ) (u : Tree) → Move (treeOf (cellOf t)) a u → Reaches 9 a t u

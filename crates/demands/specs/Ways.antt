@@ -5,7 +5,8 @@ use mathlib.Core.Bool.{true, false, cond}
 use Prim.Native.Nat.{ℕ, _≤_, _<_}
 use lib.Dec.{eqb}
 use Rattle.table.specs.Base.{upd}
-use Rattle.table.specs.Cell.{State, none, linked, kindOf}
+use Rattle.table.specs.Cell.{State, none, linked, kindOf, enterKind, exitKind, openKind}
+use Rattle.table.specs.Cell.{looking, found, holding, holdingBoth, onWay, onWayOwn, onWayBoth, asleep, done}
 use Rattle.table.specs.Sound.{secondPlace}
 use Rattle.meaning.specs.declared.Word.the-variants.{Looked, Took, Held, Back, Slept, Asleep, Done}
 use Rattle.meaning.specs.Update.{atStage, withAgent, withLocks, released}
@@ -26,44 +27,44 @@ givesBack c x p q stage remembered = withLocks (goesOn c x stage remembered 0) (
 
 -- a step of agent x, given, with a wish, in a sound cell
 pub data Way (c : State) (x wish : ℕ) : Outcome → Type 0 where
-  is-done : 8 ≤ c .agent x .stage → Way c x wish (still c Done)
-  is-asleep : c .agent x .stage ≡ 7 → Way c x wish (still c Asleep)
+  is-done : done ≤ c .agent x .stage → Way c x wish (still c Done)
+  is-asleep : c .agent x .stage ≡ asleep → Way c x wish (still c Asleep)
   -- held
-  held-first : c .agent x .stage ≡ 1 → c .lock (c .agent x .remembered) ≢ none → Way c x wish (still c Held)
-  held-second : c .agent x .stage ≡ 2 → stays (c .land) (c .agent x) ≡ true → choice (c .land) (c .agent x) wish < 64
+  held-first : c .agent x .stage ≡ found → c .lock (c .agent x .remembered) ≢ none → Way c x wish (still c Held)
+  held-second : c .agent x .stage ≡ holding → stays (c .land) (c .agent x) ≡ true → choice (c .land) (c .agent x) wish < 64
       → c .lock (secondPlace (kindOf (c .agent x)) (c .agent x .home) (choice (c .land) (c .agent x) wish)) ≢ none → Way c x wish (still c Held)
-  held-own : c .agent x .stage ≡ 4 → c .lock (c .agent x .home) ≢ none → Way c x wish (still c Held)
-  held-destination : c .agent x .stage ≡ 5 → c .lock (parentIn (c .land) (c .agent x .home)) ≢ none → Way c x wish (still c Held)
+  held-own : c .agent x .stage ≡ onWay → c .lock (c .agent x .home) ≢ none → Way c x wish (still c Held)
+  held-destination : c .agent x .stage ≡ onWayOwn → c .lock (parentIn (c .land) (c .agent x .home)) ≢ none → Way c x wish (still c Held)
   -- stage 0
-  looks-up : c .agent x .stage ≡ 0 → kindOf (c .agent x) ≤ 2 → linked (c .land) (c .agent x .home) ≡ true
-      → Way c x wish (still (goesOn c x 1 (parentIn (c .land) (c .agent x .home)) 0) Looked)
-  looks-home : c .agent x .stage ≡ 0 → kindOf (c .agent x) ≡ 3 → Way c x wish (still (goesOn c x 1 (c .agent x .home) 0) Looked)
-  sleeps-alone : c .agent x .stage ≡ 0 → kindOf (c .agent x) ≤ 2 → linked (c .land) (c .agent x .home) ≡ false
-      → Way c x wish (still (goesOn c x 7 (c .agent x .home) 0) Slept)
+  looks-up : c .agent x .stage ≡ looking → kindOf (c .agent x) ≤ exitKind → linked (c .land) (c .agent x .home) ≡ true
+      → Way c x wish (still (goesOn c x found (parentIn (c .land) (c .agent x .home)) 0) Looked)
+  looks-home : c .agent x .stage ≡ looking → openKind ≤ kindOf (c .agent x) → Way c x wish (still (goesOn c x found (c .agent x .home) 0) Looked)
+  sleeps-alone : c .agent x .stage ≡ looking → kindOf (c .agent x) ≤ exitKind → linked (c .land) (c .agent x .home) ≡ false
+      → Way c x wish (still (goesOn c x asleep (c .agent x .home) 0) Slept)
   -- stage 1
-  takes-first : c .agent x .stage ≡ 1 → c .lock (c .agent x .remembered) ≡ none
-      → Way c x wish (still (takesLock c x (c .agent x .remembered) 2 (c .agent x .remembered) 0) Took)
+  takes-first : c .agent x .stage ≡ found → c .lock (c .agent x .remembered) ≡ none
+      → Way c x wish (still (takesLock c x (c .agent x .remembered) holding (c .agent x .remembered) 0) Took)
   -- stage 2
-  goes-back : c .agent x .stage ≡ 2 → stays (c .land) (c .agent x) ≡ false
-      → Way c x wish (still (givesBack c x (c .agent x .remembered) (c .agent x .remembered) 0 0) Back)
-  sleeps-stuck : c .agent x .stage ≡ 2 → stays (c .land) (c .agent x) ≡ true → 64 ≤ choice (c .land) (c .agent x) wish
-      → Way c x wish (still (givesBack c x (c .agent x .remembered) (c .agent x .remembered) 7 (c .agent x .remembered)) Slept)
-  takes-second : (q : ℕ) → c .agent x .stage ≡ 2 → stays (c .land) (c .agent x) ≡ true → choice (c .land) (c .agent x) wish ≡ q → q < 64
+  goes-back : c .agent x .stage ≡ holding → stays (c .land) (c .agent x) ≡ false
+      → Way c x wish (still (givesBack c x (c .agent x .remembered) (c .agent x .remembered) looking 0) Back)
+  sleeps-stuck : c .agent x .stage ≡ holding → stays (c .land) (c .agent x) ≡ true → 64 ≤ choice (c .land) (c .agent x) wish
+      → Way c x wish (still (givesBack c x (c .agent x .remembered) (c .agent x .remembered) asleep (c .agent x .remembered)) Slept)
+  takes-second : (q : ℕ) → c .agent x .stage ≡ holding → stays (c .land) (c .agent x) ≡ true → choice (c .land) (c .agent x) wish ≡ q → q < 64
       → c .lock (secondPlace (kindOf (c .agent x)) (c .agent x .home) q) ≡ none
-      → Way c x wish (still (takesLock c x (secondPlace (kindOf (c .agent x)) (c .agent x .home) q) 3 (c .agent x .remembered)
-      (cond (eqb (kindOf (c .agent x)) 2) 0 q)) Took)
+      → Way c x wish (still (takesLock c x (secondPlace (kindOf (c .agent x)) (c .agent x .home) q) holdingBoth (c .agent x .remembered)
+      (cond (eqb (kindOf (c .agent x)) exitKind) 0 q)) Took)
   -- stage 3
-  gives-up : c .agent x .stage ≡ 3 → fires (c .land) (c .agent x) ≡ false
+  gives-up : c .agent x .stage ≡ holdingBoth → fires (c .land) (c .agent x) ≡ false
       → Way c x wish (still (givesBack c x (c .agent x .remembered)
-      (secondPlace (kindOf (c .agent x)) (c .agent x .home) (c .agent x .chosen)) 0 0) Back)
-  enters : c .agent x .stage ≡ 3 → kindOf (c .agent x) ≡ 1 → fires (c .land) (c .agent x) ≡ true
+      (secondPlace (kindOf (c .agent x)) (c .agent x .home) (c .agent x .chosen)) looking 0) Back)
+  enters : c .agent x .stage ≡ holdingBoth → kindOf (c .agent x) ≡ enterKind → fires (c .land) (c .agent x) ≡ true
       → Way c x wish (leave c x (c .agent x) (c .agent x .chosen))
-  exits : c .agent x .stage ≡ 3 → kindOf (c .agent x) ≡ 2 → fires (c .land) (c .agent x) ≡ true
+  exits : c .agent x .stage ≡ holdingBoth → kindOf (c .agent x) ≡ exitKind → fires (c .land) (c .agent x) ≡ true
       → Way c x wish (leave c x (c .agent x) (parentIn (c .land) (c .agent x .remembered)))
-  opens : c .agent x .stage ≡ 3 → kindOf (c .agent x) ≡ 3 → fires (c .land) (c .agent x) ≡ true
+  opens : c .agent x .stage ≡ holdingBoth → kindOf (c .agent x) ≡ openKind → fires (c .land) (c .agent x) ≡ true
       → Way c x wish (dissolve c x (c .agent x) (c .agent x .remembered) (c .agent x .chosen))
   -- stages 4 to 6
-  takes-own : c .agent x .stage ≡ 4 → c .lock (c .agent x .home) ≡ none → Way c x wish (still (takesLock c x (c .agent x .home) 5 0 0) Took)
-  takes-destination : c .agent x .stage ≡ 5 → c .lock (parentIn (c .land) (c .agent x .home)) ≡ none
-      → Way c x wish (still (takesLock c x (parentIn (c .land) (c .agent x .home)) 6 0 0) Took)
-  comes : c .agent x .stage ≡ 6 → Way c x wish (arrive c x (c .agent x) (parentIn (c .land) (c .agent x .home)))
+  takes-own : c .agent x .stage ≡ onWay → c .lock (c .agent x .home) ≡ none → Way c x wish (still (takesLock c x (c .agent x .home) onWayOwn 0 0) Took)
+  takes-destination : c .agent x .stage ≡ onWayOwn → c .lock (parentIn (c .land) (c .agent x .home)) ≡ none
+      → Way c x wish (still (takesLock c x (parentIn (c .land) (c .agent x .home)) onWayBoth 0 0) Took)
+  comes : c .agent x .stage ≡ onWayBoth → Way c x wish (arrive c x (c .agent x) (parentIn (c .land) (c .agent x .home)))

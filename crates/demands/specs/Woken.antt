@@ -12,7 +12,7 @@ use Rattle.sets.specs.WordLaws.{count-ext}
 use Rattle.table.specs.Base.{upd}
 use Rattle.table.specs.BaseLaws.{Told, yea, nay, told, upd-all, getD-tab}
 use Rattle.table.specs.Bounds.{Sized}
-use Rattle.table.specs.Cell.{State, noAgent, cellOf, tableOf}
+use Rattle.table.specs.Cell.{State, noAgent, cellOf, tableOf, looking, asleep}
 use Rattle.table.specs.CellLaws.{bounded}
 use Rattle.table.specs.Sound.{sound}
 use Rattle.table.specs.declared.Agent.{Agent}
@@ -33,7 +33,7 @@ use Rattle.demands.specs.Always.{sound-bounded}
 
 -- agent y was asleep and is looking: "Waking sets an agent to stage 0", and "The count of woken agents is of those that were at stage 7"
 abbrev pub wokeUp : State → State → ℕ → Bool
-wokeUp before after y = before .given y && (eqb (before .agent y .stage) 7 && eqb (after .agent y .stage) 0)
+wokeUp before after y = before .given y && (eqb (before .agent y .stage) asleep && eqb (after .agent y .stage) looking)
 
 -- an outcome counts those that it woke
 abbrev pub CountsWoken : State → Outcome → Type 0

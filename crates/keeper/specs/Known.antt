@@ -6,12 +6,13 @@ use Rattle.table.specs.Sound.{sound}
 use Rattle.table.specs.Idle.{idle}
 use Rattle.table.specs.declared.Cell.{Cell}
 use Rattle.meaning.specs.Codes.{idleOf}
+use Rattle.meaning.specs.Refusals.{unsoundTable}
 use Rattle.meaning.specs.declared.Idled.{Idled}
 use Rattle.meaning.specs.declared.Idled.the-variants.{Idle, Busy, Unknown}
 
 -- refused by 10, else whether they are
 unfoldable pub knownIdle : Bool → Cell → Idled
-knownIdle known t = cond known (cond (idle (cellOf t)) Idle Busy) (Unknown 10)
+knownIdle known t = cond known (cond (idle (cellOf t)) Idle Busy) (Unknown unsoundTable)
 
 -- told the truth of the table, it is the call
 pub told-truly : (t : Cell) (known : Bool) → known ≡ sound (cellOf t) → knownIdle known t ≡ idleOf t

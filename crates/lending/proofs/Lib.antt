@@ -4,6 +4,7 @@ pub mod Stored
 pub mod Asks
 pub mod Seeing
 pub mod Element
+pub mod Offsets
 pub mod Placed
 pub mod Settled
 pub mod Freed

@@ -15,6 +15,7 @@ use denote.Array.{Array, arrayVal}
 use denote.Builtin.{u8}
 use denote.Struct.Declared.{field}
 use denote.Struct.Laws as LL
+use Rattle.table.specs.Cell.{putLocks, putAgents}
 use Rattle.table.specs.declared.Agent.{Agent}
 use Rattle.table.specs.declared.Cell.{Cell}
 use Rattle.table.proofs.Agent as Agent′
@@ -25,10 +26,11 @@ use Rattle.table.proofs.Cell.Laws as T′
 use Rattle.lending.proofs.Walk.{_≡_, refl, sym, ap, subst, _∙_, ℕ, List, [], _∷_, URA, fullShare, Val, fat, Heap, Atoms, Given, ‵, whole, sub, Is}
 use Rattle.lending.proofs.Lent.{R, mach}
 use Rattle.lending.proofs.Element.{map-set, array-set, unraw, elem}
+use Rattle.lending.proofs.Offsets.{locksField, agentsField, locksAt, agentsAt, agentSize}
 
 -- the table c with agent k set to a, and the locks ls
 abbrev pub placed : Cell → ℕ → Agent → List ℕ → Cell
-placed c k a ls = record { places = c .places; locks = ls; agents = set (c .agents) k a; used = c .used; given = c .given }
+placed c k a ls = putLocks (putAgents c (set (c .agents) k a)) ls
 
 -- the machine value of an agent, and those of agents
 abbrev pub agent-val : Agent → Val
@@ -69,13 +71,13 @@ placed-is c k a ls was is-a is-ls = LL.owes T.the-type T′.the-laws (placed c k
 module _ {M : Type 1} {𝓤 : URA M} {H : Heap 𝓤} {A : Atoms 𝓤} {K : Type 0} {W : Given 𝓤 H A} {Γ : List (Item 𝓤)} {b o : ℕ} where
   -- agent k is stored into the cell of c at entry 0
   pub store-agent : K → (c : Cell) (k : ℕ) (a : Agent) → Is R c (mach c) → k < 64 → Agent-is a
-      → Writes K W (‵ (cellAt fullShare (R .mir) (mach c) b o) ∷ Γ) agent-laws.mir b (k * 70 + (o + 320)) (agent-val a) (‵ (fat fullShare (rawTy T′.mir) b o (with-agents c (set (agent-vals (c .agents)) k (agent-val a)))) ∷ Γ)
+      → Writes K W (‵ (cellAt fullShare (R .mir) (mach c) b o) ∷ Γ) agent-laws.mir b (k * agentSize + (o + agentsAt)) (agent-val a) (‵ (fat fullShare (rawTy T′.mir) b o (with-agents c (set (agent-vals (c .agents)) k (agent-val a)))) ∷ Γ)
   store-agent t c k a was h is =
-      subst (λ (p : ℕ). Writes K W (‵ (cellAt fullShare (R .mir) (mach c) b o) ∷ Γ) agent-laws.mir b p (agent-val a) (‵ (fat fullShare (rawTy T′.mir) b o (with-agents c (set (agent-vals (c .agents)) k (agent-val a)))) ∷ Γ)) (add-comm (o + 320) (k * 70))
-      (store-in t 0 (elem t (agent-vals (c .agents)) k (vals-length (c .agents) ∙ sized c was .agents) h (sub t 2 refl (unraw t {τ = T′.mir} (whole t))))
+      subst (λ (p : ℕ). Writes K W (‵ (cellAt fullShare (R .mir) (mach c) b o) ∷ Γ) agent-laws.mir b p (agent-val a) (‵ (fat fullShare (rawTy T′.mir) b o (with-agents c (set (agent-vals (c .agents)) k (agent-val a)))) ∷ Γ)) (add-comm (o + agentsAt) (k * agentSize))
+      (store-in t 0 (elem t (agent-vals (c .agents)) k (vals-length (c .agents) ∙ sized c was .agents) h (sub t agentsField refl (unraw t {τ = T′.mir} (whole t))))
       (agent-laws.the-field-laws .lawful 𝓤 H A W .typed (Agent′.the-type .to a) _ is .0))
 
   -- the locks are stored into the cell of c with the values us of agents
   pub store-locks : K → (c : Cell) (us : List Val) (k : ℕ) (a : Agent) (ls : List ℕ) → Locks-are ls
-      → Writes K W (‵ (fat fullShare (rawTy T′.mir) b o (with-agents c us)) ∷ Γ) (tyArray (tyInt w8) 64) b (o + 256) (locks-val ls) (‵ (fat fullShare (rawTy T′.mir) b o (with-agents (placed c k a ls) us)) ∷ Γ)
-  store-locks t c us k a ls is = store-in t 0 (sub t 1 refl (unraw t {τ = T′.mir} (whole t))) (T′.the-laws .1 .0 .lawful 𝓤 H A W .typed (map (λ z. z) ls) _ is .0)
+      → Writes K W (‵ (fat fullShare (rawTy T′.mir) b o (with-agents c us)) ∷ Γ) (tyArray (tyInt w8) 64) b (o + locksAt) (locks-val ls) (‵ (fat fullShare (rawTy T′.mir) b o (with-agents (placed c k a ls) us)) ∷ Γ)
+  store-locks t c us k a ls is = store-in t 0 (sub t locksField refl (unraw t {τ = T′.mir} (whole t))) (T′.the-laws .1 .0 .lawful 𝓤 H A W .typed (map (λ z. z) ls) _ is .0)

@@ -23,6 +23,7 @@ use Rattle.step.proofs.Decision.Laws as decision-laws
 use Rattle.lending.proofs.Walk.{_≡_, refl, ℕ, _<_, List, [], _∷_, URA, fullShare, w64, Val, vptr, GName, Lft, Share, fat, flft, fobs, fbor, Heap, Calls, Loops, Atoms, Given, ‵, _$_, move, rewrite, look, init, stop, hop, fld, from, load, of-opd, and-then, no-more, assigns, land, whole, sub, look-in, Body, FmC, Is, mem, uint-lawful, u64, owned, Triple}
 use Rattle.lending.proofs.Lent.{R, mach, closed, Equates, applied}
 use Rattle.lending.proofs.Stored.{find}
+use Rattle.lending.proofs.Offsets.{agentsAt, agentSize}
 use Rattle.lending.proofs.Placed.{placed, placed-is, agent-val, agent-vals, with-agents, vals-set, store-agent, store-locks}
 
 -- the machine value of a decision
@@ -35,9 +36,9 @@ module _ {M : Type 1} {𝓤 : URA M} {H : Heap 𝓤} {A : Atoms 𝓤} {K : Type 
       → (h : Cell) → Is R h (mach h) → (k : ℕ) → k < 64 → (d : Decision) (v : Val) → Is Decision′.the-row d (v ∷ [])
       → ((y : ℕ) (v′ : Val) → y ≡ stepNumber (d .answer)
       → Seq K W (‵ (fobs γ (R .coded .code (placed h k (d .agent) (d .locks)))) ∷ ‵ (fbor κ (Body (mem R) b o γ)) ∷ ‵ (flft κ q) ∷ ‵ (u64 .own y (v′ ∷ []))
-      ∷ ‵ (fat fullShare decision-laws.mir l 0 (val d)) ∷ ‵ (fat fullShare τ l′ 0 (vptr b (k * 70 + (o + 320)))) ∷ ‵ (fat fullShare ρ l₁ 0 (vptr b o)) ∷ ‵ (fat fullShare (tyInt w64) l₀ 0 v′) ∷ Γ) (runs C Λ ((tyInt w64, l₀) ∷ (ρ, l₁) ∷ ls) rest p))
+      ∷ ‵ (fat fullShare decision-laws.mir l 0 (val d)) ∷ ‵ (fat fullShare τ l′ 0 (vptr b (k * agentSize + (o + agentsAt)))) ∷ ‵ (fat fullShare ρ l₁ 0 (vptr b o)) ∷ ‵ (fat fullShare (tyInt w64) l₀ 0 v′) ∷ Γ) (runs C Λ ((tyInt w64, l₀) ∷ (ρ, l₁) ∷ ls) rest p))
       → Seq K W (‵ (cellAt fullShare (R .mir) (mach h) b o) ∷ ‵ (fobor κ q (Body (mem R) b o γ)) ∷ ‵ (fobs γ u) ∷ ‵ (fauth γ w)
-      ∷ ‵ (fat fullShare decision-laws.mir l 0 (val d)) ∷ ‵ (fat fullShare τ l′ 0 (vptr b (k * 70 + (o + 320)))) ∷ ‵ (fat fullShare ρ l₁ 0 (vptr b o)) ∷ ‵ (froom (tyInt w64) l₀ 0) ∷ Γ)
+      ∷ ‵ (fat fullShare decision-laws.mir l 0 (val d)) ∷ ‵ (fat fullShare τ l′ 0 (vptr b (k * agentSize + (o + agentsAt)))) ∷ ‵ (fat fullShare ρ l₁ 0 (vptr b o)) ∷ ‵ (froom (tyInt w64) l₀ 0) ∷ Γ)
       (runs C Λ ((tyInt w64, l₀) ∷ (ρ, l₁) ∷ ls)
       (seq (assign (place j (deref agent-laws.mir ∷ [])) (rvOpd (copy (place i (field 2 ∷ [])))))
       (seq (assign (place 1 (deref T′.mir ∷ field 1 ∷ [])) (rvOpd (copy (place i (field 3 ∷ []))))) (seq (call g (copy (place i (field 4 ∷ [])) ∷ []) (place 0 [])) rest))) p)

@@ -16,10 +16,11 @@ use Rattle.sets.specs.WordLaws.{bit-lt}
 use Rattle.table.specs.BaseLaws.{Told, yea, nay, told, eq?, upd-at, upd-other, upd-all}
 use Rattle.table.specs.Cell.{State, cellOf, bareTable}
 use Rattle.table.specs.declared.Agent.{Agent}
+use Rattle.meaning.specs.Refusals.{cutShort, afterEnd}
 use Rattle.meaning.specs.declared.Record.{Record}
 use Rattle.meaning.specs.declared.Record.the-variants.{PlaceRecord, AgentRecord, ActionRecord, EndRecord, Faulty}
 use Rattle.meaning.specs.Update.{withHome}
-use Rattle.meaning.specs.File.{byteAt, recordAt, addPlace, addAgent, withAction, addAction, isFull, Load, accepted, refused, loadRecord, loadFrom, load}
+use Rattle.meaning.specs.File.{byteAt, Known, recordAt, addPlace, addAgent, withAction, addAction, isFull, knownIn, Load, accepted, refused, loadRecord, loadFrom, load}
 use Rattle.meaning.specs.FileLaws.{Fits, place, agent, action, end, faulty, record-fits, bare-agent}
 use Rattle.lengths.specs.Sums.{sumBelow, sum-ext, sum-most, sum-more}
 
@@ -131,9 +132,9 @@ module _ (s : List ℕ) (b : ℕ) (wide : 5633 ≤ b) (long : b ≤ length s) wh
   same-byte i l = getD-take b s i 0 l
 
   -- a record that begins early enough is the same
-  same-record : (used given full : ℕ → Bool) (at : ℕ) → at ≤ 5627 → recordAt used given full start at ≡ recordAt used given full s at
+  same-record : (k : Known) (at : ℕ) → at ≤ 5627 → recordAt k start at ≡ recordAt k s at
   unfolding recordAt
-  same-record used given full at l = rw (
+  same-record k at l = rw (
     same-byte at (omega arith),
     same-byte (at + 1) (omega arith),
     same-byte (at + 2) (omega arith),
@@ -154,15 +155,15 @@ module _ (s : List ℕ) (b : ℕ) (wide : 5633 ≤ b) (long : b ≤ length s) wh
       rw (
         lt-ltb at (length start) (omega (arith, start-long, l)),
         lt-ltb at (length s) (omega (arith, l)),
-        same-record (c .land .used) (c .given) (isFull c) at l,
+        same-record (knownIn c) at l,
       )
-      (go (recordAt (c .land .used) (c .given) (isFull c) s at) (record-fits (c .land .used) (c .given) (isFull c) s at)
+      (go (recordAt (knownIn c) s at) (record-fits (knownIn c) s at)
       (λ d i g x y. same-load k m d i g x y))
     where
       l : at ≤ 5627
       l = at-most c at h
 
-      go : (r : Record) → Fits (c .land .used) (c .given) (isFull c) r
+      go : (r : Record) → Fits (knownIn c) r
           → ((d : State) (i : ℕ) → Took d i → b < k + i → length s < m + i → loadFrom k d start i ≡ loadFrom m d s i)
           → loadRecord (λ d i. loadFrom k d start i) c start at r ≡ loadRecord (λ d i. loadFrom m d s i) c s at r
       go (PlaceRecord n x y) (place one low under new known named) r =
@@ -197,21 +198,21 @@ short-from : (s : List ℕ) (turns : ℕ) (c : State) (at : ℕ) → Took c at �
 unfolding loadFrom
 short-from s zero c at h = tt
 short-from s (suc turns) c at h =
-    before (ltb at (length s)) _ (go (recordAt (c .land .used) (c .given) (isFull c) s at) (record-fits (c .land .used) (c .given) (isFull c) s at)
+    before (ltb at (length s)) _ (go (recordAt (knownIn c) s at) (record-fits (knownIn c) s at)
     (λ d i g. short-from s turns d i g))
   where
-    before : (b : Bool) (l : Load) → ShortIf s l → ShortIf s (cond b l (refused 1 (length s)))
+    before : (b : Bool) (l : Load) → ShortIf s l → ShortIf s (cond b l (refused cutShort (length s)))
     before true l g = g
     before false l g = tt
 
-    go : (r : Record) → Fits (c .land .used) (c .given) (isFull c) r → ((d : State) (i : ℕ) → Took d i → ShortIf s (loadFrom turns d s i))
+    go : (r : Record) → Fits (knownIn c) r → ((d : State) (i : ℕ) → Took d i → ShortIf s (loadFrom turns d s i))
         → ShortIf s (loadRecord (λ d i. loadFrom turns d s i) c s at r)
     go (PlaceRecord n x y) (place one low under new known named) r = unfold loadRecord in r (addPlace c n x y) (at + 5) (took-place c at n x y h low new)
     go (AgentRecord n x) (agent low under new known) r = unfold loadRecord in r (addAgent c n x) (at + 3) (took-agent c at n x h low new)
     go (ActionRecord n x y) (action low known room one three named) r = unfold loadRecord in r (addAction c n x y) (at + 5) (took-action c n x y at h low room)
     go EndRecord end r = unfold loadRecord in last (told (ltb (at + 1) (length s)))
       where
-        last : Told (ltb (at + 1) (length s)) → ShortIf s (cond (ltb (at + 1) (length s)) (refused 9 (at + 1)) (accepted c))
+        last : Told (ltb (at + 1) (length s)) → ShortIf s (cond (ltb (at + 1) (length s)) (refused afterEnd (at + 1)) (accepted c))
         last (yea e) = rw e tt
         last (nay e) = rw e (omega (arith, ltb-false (at + 1) (length s) e, at-most c at h))
     go (Faulty n) faulty r = unfold loadRecord in tt

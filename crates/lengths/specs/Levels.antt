@@ -6,8 +6,8 @@ use Prim.Native.Nat.{ℕ, zero, suc, _+_, _*_, _≤_, zero-le}
 use native.Mathlib.Nat.{le-refl, suc-mul}
 use native.Mathlib.Omega.{arith}
 use lib.Dec.{eqb, ltb}
-use borrow.Author.Tests.{eqb-true}
-use Rattle.table.specs.BaseLaws.{Told, yea, nay, told, clash, not-true, and-left, and-right}
+use borrow.Author.Tests.{eqb-true, not-true}
+use Rattle.table.specs.BaseLaws.{Told, yea, nay, told, clash, and-left, and-right}
 use Rattle.table.specs.Cell.{State}
 use Rattle.meaning.specs.Listing.{listsIn, standsUnder}
 use Rattle.lengths.specs.Sums.{sumBelow, pick, sum-le, sum-both, sum-none, sum-at, sum-most, pick-le, picks-add, gathered}

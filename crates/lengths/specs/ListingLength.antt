@@ -14,6 +14,7 @@ use Rattle.table.specs.BaseLaws.{Told, yea, nay, told}
 use Rattle.table.specs.Sound.{sound}
 use Rattle.table.specs.Bounds.{Names16}
 use Rattle.table.specs.declared.Cell.{Cell}
+use Rattle.meaning.specs.Refusals.{unsoundTable}
 use Rattle.meaning.specs.Text.{ascii, decimal}
 use Rattle.meaning.specs.Listing.{kindText, actionText, isUnused, actionTurn, agentText, listsIn, agentTurn, agentsText, standsUnder, bracketed, placeTurn, contentsText, listing, listAnswer}
 use Rattle.meaning.specs.declared.Listed.the-variants.{Length, Unlisted}
@@ -116,6 +117,6 @@ listing-longest t n = omega (
 
 -- a listing call that is lent 13,043 bytes is never refused by 12
 pub enough-room : (t : Cell) → Names16 t → (b : List ℕ) → 13043 ≤ length b
-    → listAnswer (cellOf t) b ≡ cond (sound (cellOf t)) (Length (length (listing (cellOf t)))) (Unlisted 10)
+    → listAnswer (cellOf t) b ≡ cond (sound (cellOf t)) (Length (length (listing (cellOf t)))) (Unlisted unsoundTable)
 unfolding listAnswer
 enough-room t n b l = rw (le-leb (length (listing (cellOf t))) (length b) (omega (arith, listing-longest t n)))

@@ -4,8 +4,7 @@ use mathlib.Core.List.{List, [], _∷_}
 use Prim.Native.Nat.{ℕ, zero, suc, _*_, _≤_}
 use native.Mathlib.Omega.{arith}
 use lib.ListN.{take}
-use Rattle.meaning.specs.Run.{Call}
-use Rattle.meaning.specs.Report.{callsIn, reportOf, report}
+use Rattle.meaning.specs.Report.{Pair, callsIn, reportOf, report}
 use Rattle.lengths.specs.FileLength.{prefix}
 
 -- whatever follows two bytes for each call, the calls are the same
@@ -17,7 +16,7 @@ calls-prefix (suc limit) (suc zero) order l = absurd (omega arith)
 calls-prefix (suc limit) (suc (suc b)) [] l = refl
 calls-prefix (suc limit) (suc (suc b)) (agent ∷ []) l = refl
 calls-prefix (suc limit) (suc (suc b)) (agent ∷ wish ∷ order) l =
-    ap (λ (calls : List Call). record { agent = agent; wish = wish } ∷ calls) (calls-prefix limit b order (omega arith))
+    ap (λ (calls : List Pair). record { agent = agent; wish = wish } ∷ calls) (calls-prefix limit b order (omega arith))
 
 -- whatever follows the first 5,633 bytes of the cell file and the first 32,768 of the order, the report is the same
 pub report-prefix : (cell order : List ℕ) (b d : ℕ) → 5633 ≤ b → 32768 ≤ d → report (take b cell) (take d order) ≡ report cell order

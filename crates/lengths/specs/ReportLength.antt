@@ -8,10 +8,11 @@ use lib.Dec.{eqb, ltb, leb}
 use lib.ListN.{length, length-append, getD, take}
 use Rattle.sets.specs.WordLaws.{count-most}
 use Rattle.table.specs.Base.{tab}
-use Rattle.table.specs.Cell.{State, none, linked, kindOf, cellOf, tableOf}
+use Rattle.table.specs.Cell.{State, none, linked, kindOf, cellOf, tableOf, openKind, looksHome}
 use Rattle.table.specs.Sound.{sound}
 use Rattle.table.specs.declared.Agent.{Agent}
 use Rattle.table.specs.declared.Cell.{Cell}
+use Rattle.meaning.specs.Refusals.{unsoundTable, noSuchAgent}
 use Rattle.meaning.specs.declared.Word.{Word}
 use Rattle.meaning.specs.declared.Word.the-variants.{Looked, Took, Held, Back, Slept, Left, Came, Opened, Asleep, Done}
 use Rattle.meaning.specs.declared.Answer.{Answer}
@@ -62,7 +63,7 @@ module _ (c : State) (x : ℕ) where
   few-act : (a : Agent) → Few (act c x a)
   unfolding act leave dissolve
   few-act a = few-cond (fires (c .land) a)
-      (few-cond (eqb (kindOf a) 3) {o = dissolve c x a (a .remembered) (a .chosen)} {p = leave c x a (destinationOf (c .land) a)}
+      (few-cond (eqb (kindOf a) openKind) {o = dissolve c x a (a .remembered) (a .chosen)} {p = leave c x a (destinationOf (c .land) a)}
       (record { most = count-most 64 _ }) (record { most = count-most 64 _ }))
       (few-release _ _ _ Back)
 
@@ -74,7 +75,7 @@ module _ (c : State) (x : ℕ) where
   step-few : (stage : ℕ) (a : Agent) (wish : ℕ) → Few (stepAt stage c x a wish)
   unfolding stepAt look lockFirst
   step-few stage a wish =
-      few-cond (eqb stage 0) (few-cond (eqb (kindOf a) 3) (few-turn _ Looked) (few-cond (linked (c .land) (a .home)) (few-turn _ Looked) (few-turn _ Slept)))
+      few-cond (eqb stage 0) (few-cond (looksHome (kindOf a)) (few-turn _ Looked) (few-cond (linked (c .land) (a .home)) (few-turn _ Looked) (few-turn _ Slept)))
       (few-cond (eqb stage 1) (few-take _ _)
       (few-cond (eqb stage 2) (few-hold a wish)
       (few-cond (eqb stage 3) (few-act a)
@@ -92,7 +93,7 @@ step-number : (t : Cell) (x w : ℕ) → numberIn (stepOf t x w .answer) < 100
 unfolding stepOf made turnedAway step
 step-number t x w = go (sound (cellOf t)) (cellOf t .given x)
   where
-    go : (s g : Bool) → numberIn (cond s (cond g (made (step (cellOf t) x w)) (turnedAway t 11)) (turnedAway t 10) .answer) < 100
+    go : (s g : Bool) → numberIn (cond s (cond g (made (step (cellOf t) x w)) (turnedAway t noSuchAgent)) (turnedAway t unsoundTable) .answer) < 100
     go true true = omega (arith, step-few (cellOf t) x (cellOf t .agent x .stage) (cellOf t .agent x) w .most)
     go true false = omega arith
     go false g = omega arith

@@ -7,11 +7,12 @@ use mathlib.Core.List.{List}
 use Prim.Native.Nat.{ℕ, zero, suc, _+_, _<_, _≤_}
 use native.Mathlib.Omega.{arith}
 use lib.Dec.{eqb}
-use borrow.Author.Tests.{eqb-true, eqb-false}
+use borrow.Author.Tests.{eqb-true, eqb-false, not-true}
 use Rattle.table.specs.Base.{allBelow, iter}
-use Rattle.table.specs.BaseLaws.{not-true, and-left, and-right, cond-cong, all-at}
+use Rattle.table.specs.BaseLaws.{and-left, and-right, cond-cong, all-at}
 use Rattle.table.specs.Cell.{State}
-use Rattle.table.specs.Sound.{sound, leads, agentSound, placeSound}
+use Rattle.table.specs.Sound.{coreSound, sound, leads, agentSound, placeSound}
+use Rattle.table.specs.SoundParts.{sound-core}
 use Rattle.meaning.specs.Text.{joined}
 use Rattle.meaning.specs.Listing.{standsUnder, bracketed, agentsText, contentsText}
 use Rattle.lister.specs.Sheet.{bar}
@@ -31,14 +32,14 @@ module _ (c : State) (s : sound c ≡ true) where
   Far n p = (j : ℕ) → j < n → iter up j p ≢ 0
 
   floor : c .land .used 0 ≡ true
-  unfolding sound
-  floor = and-left (c .land .used 0) (allBelow (agentSound c) 64 && (allBelow (placeSound c) 64 && allBelow (leads c) 64)) s
+  unfolding coreSound
+  floor = and-left (c .land .used 0) (allBelow (agentSound c) 64 && (allBelow (placeSound c) 64 && allBelow (leads c) 64)) (sound-core c s)
 
   to-floor : (p : ℕ) → p < 64 → c .land .used p ≡ true → iter up 64 p ≡ 0
-  unfolding sound
+  unfolding coreSound
   to-floor p l u = eqb-true (iter up 64 p) 0 (sym (rw u) ∙ all-at (leads c) 64 p l
       (and-right (allBelow (placeSound c) 64) (allBelow (leads c) 64) (and-right (allBelow (agentSound c) 64) (allBelow (placeSound c) 64 && allBelow (leads c) 64)
-      (and-right (c .land .used 0) (allBelow (agentSound c) 64 && (allBelow (placeSound c) 64 && allBelow (leads c) 64)) s))))
+      (and-right (c .land .used 0) (allBelow (agentSound c) 64 && (allBelow (placeSound c) 64 && allBelow (leads c) 64)) (sound-core c s)))))
 
   used-under : (p q : ℕ) → under p q ≡ true → c .land .used q ≡ true
   unfolding standsUnder

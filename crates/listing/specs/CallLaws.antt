@@ -10,6 +10,7 @@ use lib.ListN.{length}
 use borrow.Author.Tests.{lt-ltb, le-ltb, le-leb, lt-leb}
 use Rattle.table.specs.Cell.{State}
 use Rattle.table.specs.Sound.{sound}
+use Rattle.meaning.specs.Refusals.{unsoundTable, tooLong}
 use Rattle.meaning.specs.Text.{overlay}
 use Rattle.meaning.specs.Listing.{listing, listAnswer, listBuffer}
 use Rattle.meaning.specs.declared.Listed.{Listed}
@@ -25,7 +26,7 @@ pub told-truly : (c : State) (b e : List ℕ) (r : Listed) (known : Bool) → kn
 unfolding knownAnswer knownBuffer listAnswer listBuffer
 told-truly c b e r known t (f, g) = (f ∙ ap (λ (z : Bool). knownAnswer z c b) t, g ∙ ap (λ (z : Bool). knownBuffer z c b) t)
 
-pub refused-unsound : (c : State) (b : List ℕ) (known : Bool) → known ≡ false → (Unlisted 10 ≡ knownAnswer known c b) × (b ≡ knownBuffer known c b)
+pub refused-unsound : (c : State) (b : List ℕ) (known : Bool) → known ≡ false → (Unlisted unsoundTable ≡ knownAnswer known c b) × (b ≡ knownBuffer known c b)
 unfolding knownAnswer knownBuffer
 refused-unsound c b known e = (rw e, rw e)
 
@@ -37,7 +38,7 @@ module _ (c : State) {b e : List ℕ} {n : ℕ} (room : length b < 1844674407370
       go true = refl
       go false = over-length (listing c) b
 
-  pub refused-long : length e < n → (Unlisted 12 ≡ knownAnswer known c b) × (e ≡ knownBuffer known c b)
+  pub refused-long : length e < n → (Unlisted tooLong ≡ knownAnswer known c b) × (e ≡ knownBuffer known c b)
   unfolding knownAnswer knownBuffer
   refused-long l =
       let k : length b < length (listing c) = below-length (length b) (length (listing c)) room (omega (arith, if-length, w .count)) in

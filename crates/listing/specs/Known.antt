@@ -5,6 +5,7 @@ use Prim.Native.Nat.{ℕ}
 use lib.Dec.{leb}
 use lib.ListN.{length}
 use Rattle.table.specs.Cell.{State}
+use Rattle.meaning.specs.Refusals.{unsoundTable, tooLong}
 use Rattle.meaning.specs.Text.{overlay}
 use Rattle.meaning.specs.Listing.{listing}
 use Rattle.meaning.specs.declared.Listed.{Listed}
@@ -12,7 +13,8 @@ use Rattle.meaning.specs.declared.Listed.the-variants.{Length, Unlisted}
 
 -- refused by 10, then by 12, else the length
 unfoldable pub knownAnswer : Bool → State → List ℕ → Listed
-knownAnswer known c buffer = cond known (cond (leb (length (listing c)) (length buffer)) (Length (length (listing c))) (Unlisted 12)) (Unlisted 10)
+knownAnswer known c buffer =
+    cond known (cond (leb (length (listing c)) (length buffer)) (Length (length (listing c))) (Unlisted tooLong)) (Unlisted unsoundTable)
 
 -- a refusal leaves the whole buffer
 unfoldable pub knownBuffer : Bool → State → List ℕ → List ℕ

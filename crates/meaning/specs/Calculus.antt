@@ -6,7 +6,7 @@ use mathlib.Core.Bool.{Bool, true, false, not, _&&_, cond}
 use mathlib.Core.List.{List, [], _∷_}
 use lib.Dec.{eqb}
 use Rattle.table.specs.Base.{upd}
-use Rattle.table.specs.Cell.{noAction}
+use Rattle.table.specs.Cell.{noAction, enterKind, exitKind, openKind, answersTo}
 use Rattle.table.specs.declared.Action.{Action}
 
 -- the places in use with their names and where each stands, the agents' homes and unused actions in order
@@ -16,6 +16,25 @@ pub record Tree : Type 0 where
   pub parent : ℕ → ℕ
   pub home : ℕ → ℕ
   pub unused : ℕ → List Action
+
+-- ---- one part of a tree written anew: besides treeFrom the only definitions that write one out
+
+abbrev pub withTreeUsed : Tree → (ℕ → Bool) → Tree
+withTreeUsed t f = record { used = f; name = t .name; parent = t .parent; home = t .home; unused = t .unused }
+
+abbrev pub withTreeNames : Tree → (ℕ → ℕ) → Tree
+withTreeNames t f = record { used = t .used; name = f; parent = t .parent; home = t .home; unused = t .unused }
+
+abbrev pub withTreeParents : Tree → (ℕ → ℕ) → Tree
+withTreeParents t f = record { used = t .used; name = t .name; parent = f; home = t .home; unused = t .unused }
+
+abbrev pub withTreeHomes : Tree → (ℕ → ℕ) → Tree
+withTreeHomes t f = record { used = t .used; name = t .name; parent = t .parent; home = f; unused = t .unused }
+
+abbrev pub withTreeUnused : Tree → (ℕ → List Action) → Tree
+withTreeUnused t f = record { used = t .used; name = t .name; parent = t .parent; home = t .home; unused = f }
+
+-- ---- actions
 
 -- "only an agent's next action counts"
 abbrev pub firstOf : List Action → Action
@@ -42,53 +61,50 @@ unfoldable pub mayEnter : Tree → ℕ → ℕ → Bool
 unfolding standsAt
 mayEnter t a m =
     not (eqb (t .home a) 0)
-    && (standsAt t m (t .parent (t .home a)) && (not (eqb m (t .home a)) && eqb (t .name m) (nextOf t a .name)))
+    && (standsAt t m (t .parent (t .home a)) && (not (eqb m (t .home a)) && eqb (answersTo enterKind (t .name m)) (nextOf t a .name)))
 
 -- "exit n if its own stands in a place named n": m[n[exit m.P | Q] | R]
 unfoldable pub mayExit : Tree → ℕ → ℕ → Bool
-mayExit t a m = not (eqb (t .home a) 0) && (eqb m (t .parent (t .home a)) && eqb (t .name m) (nextOf t a .name))
+mayExit t a m = not (eqb (t .home a) 0) && (eqb m (t .parent (t .home a)) && eqb (answersTo exitKind (t .name m)) (nextOf t a .name))
 
 -- "open n if a place named n stands in its own": open n.P | n[Q]
 unfoldable pub mayOpen : Tree → ℕ → ℕ → Bool
 unfolding standsAt
-mayOpen t a m = standsAt t m (t .home a) && eqb (t .name m) (nextOf t a .name)
+mayOpen t a m = standsAt t m (t .home a) && eqb (answersTo openKind (t .name m)) (nextOf t a .name)
 
 -- the calculus permits agent a its next action on place m: the one entered, left or opened
 unfoldable pub permits : Tree → ℕ → ℕ → Bool
 unfolding mayEnter mayExit mayOpen
 permits t a m =
-    cond (eqb (nextOf t a .kind) 1) (mayEnter t a m)
-    (cond (eqb (nextOf t a .kind) 2) (mayExit t a m)
-    (cond (eqb (nextOf t a .kind) 3) (mayOpen t a m) false))
+    cond (eqb (nextOf t a .kind) enterKind) (mayEnter t a m)
+    (cond (eqb (nextOf t a .kind) exitKind) (mayExit t a m)
+    (cond (eqb (nextOf t a .kind) openKind) (mayOpen t a m) false))
 
 -- ---- what a move makes
 
+-- the action is used up
+abbrev pub usedUp : Tree → ℕ → Tree
+usedUp t a = withTreeUnused t (upd (t .unused) a (restOf (t .unused a)))
+
 -- the agent's own place stands in d, the action is used up
 unfoldable pub putInto : Tree → ℕ → ℕ → Tree
-putInto t a d = record {
-  used = t .used;
-  name = t .name;
-  parent = upd (t .parent) (t .home a) d;
-  home = t .home;
-  unused = upd (t .unused) a (restOf (t .unused a));
-}
+putInto t a d = usedUp (withTreeParents t (upd (t .parent) (t .home a) d)) a
 
 -- places and agents in m go to the agent's own place, m's number becomes unused, the action is used up
 unfoldable pub openUp : Tree → ℕ → ℕ → Tree
-openUp t a m = record {
-  used = upd (t .used) m false;
-  name = upd (t .name) m 0;
-  parent = λ q. cond (eqb q m) 0 (cond (eqb (t .parent q) m) (t .home a) (t .parent q));
-  home = λ x. cond (eqb (t .home x) m) (t .home a) (t .home x);
-  unused = upd (t .unused) a (restOf (t .unused a));
-}
+openUp t a m = usedUp
+    (withTreeHomes
+    (withTreeParents (withTreeNames (withTreeUsed t (upd (t .used) m false)) (upd (t .name) m 0))
+    (λ q. cond (eqb q m) 0 (cond (eqb (t .parent q) m) (t .home a) (t .parent q))))
+    (λ x. cond (eqb (t .home x) m) (t .home a) (t .home x)))
+    a
 
 -- the tree after agent a's next action on m: enter m, exit to where the place around its own stands, or open m
 unfoldable pub move : Tree → ℕ → ℕ → Tree
 unfolding putInto openUp
 move t a m =
-    cond (eqb (nextOf t a .kind) 1) (putInto t a m)
-    (cond (eqb (nextOf t a .kind) 2) (putInto t a (t .parent (t .parent (t .home a))))
+    cond (eqb (nextOf t a .kind) enterKind) (putInto t a m)
+    (cond (eqb (nextOf t a .kind) exitKind) (putInto t a (t .parent (t .parent (t .home a))))
     (openUp t a m))
 
 -- one move of agent a that the calculus permits, from t to u

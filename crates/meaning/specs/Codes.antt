@@ -17,16 +17,17 @@ use Rattle.meaning.specs.declared.Checked.{Checked}
 use Rattle.meaning.specs.declared.Checked.the-variants.{Sound, Unsound}
 use Rattle.meaning.specs.declared.Idled.{Idled}
 use Rattle.meaning.specs.declared.Idled.the-variants.{Idle, Busy, Unknown}
+use Rattle.meaning.specs.Refusals.{unsoundTable}
 
 -- ---- calls that only ask
 
 -- "a soundness check": 10 unsound table
 unfoldable pub checkOf : Cell → Checked
-checkOf t = cond (sound (cellOf t)) Sound (Unsound 10)
+checkOf t = cond (sound (cellOf t)) Sound (Unsound unsoundTable)
 
 -- "whether all agents are asleep or done": 10 first
 unfoldable pub idleOf : Cell → Idled
-idleOf t = cond (sound (cellOf t)) (cond (idle (cellOf t)) Idle Busy) (Unknown 10)
+idleOf t = cond (sound (cellOf t)) (cond (idle (cellOf t)) Idle Busy) (Unknown unsoundTable)
 
 -- ---- answers as numbers
 

@@ -5,13 +5,14 @@ use mathlib.Core.List.{List}
 use lib.Dec.{ltb, leb, eqb}
 use lib.ListN.{length, getD, set}
 use Rattle.table.specs.Base.{upd}
-use Rattle.table.specs.Cell.{State, cellOf, tableOf, bareTable}
+use Rattle.table.specs.Cell.{State, cellOf, tableOf, bareTable, looking, lastKind}
 use Rattle.table.specs.declared.Agent.{Agent}
 use Rattle.table.specs.declared.Cell.{Cell}
 use Rattle.meaning.specs.declared.Record.{Record}
 use Rattle.meaning.specs.declared.Record.the-variants.{PlaceRecord, AgentRecord, ActionRecord, EndRecord, Faulty}
 use Rattle.meaning.specs.declared.Verdict.the-variants.{Accepted, Rejected}
 use Rattle.meaning.specs.declared.Loaded.{Loaded}
+use Rattle.meaning.specs.Refusals.{cutShort, unknownKind, tooLarge, givenTwice, notYetGiven, nameZero, wrongKind, seventeenth, afterEnd}
 use Rattle.meaning.specs.Update.{linkedPlace, withHome, withStage, withCount, withActions, withPlaces, withUsed, withLand, withGiven, withAgent}
 
 -- "Two-byte numbers have the low byte first"
@@ -27,57 +28,63 @@ byteAt s i = getD s i 0
 -- 3 number too large, or place number 0; 4 number given twice; 5 not yet given; 6 name 0
 unfoldable pub placeRecord : Bool → Bool → ℕ → ℕ → ℕ → Record
 placeRecord taken known number parent name =
-    cond (ltb number 1) (Faulty 3)
-    (cond (leb 64 number) (Faulty 3)
-    (cond (leb 64 parent) (Faulty 3)
-    (cond taken (Faulty 4)
-    (cond known (cond (ltb name 1) (Faulty 6) (PlaceRecord number parent name)) (Faulty 5)))))
+    cond (ltb number 1) (Faulty tooLarge)
+    (cond (leb 64 number) (Faulty tooLarge)
+    (cond (leb 64 parent) (Faulty tooLarge)
+    (cond taken (Faulty givenTwice)
+    (cond known (cond (ltb name 1) (Faulty nameZero) (PlaceRecord number parent name)) (Faulty notYetGiven)))))
 
 -- an agent: 3 its number or home too large, 4 number given twice, 5 home not yet given
 unfoldable pub agentRecord : Bool → Bool → ℕ → ℕ → Record
 agentRecord taken known number home =
-    cond (leb 64 number) (Faulty 3)
-    (cond (leb 64 home) (Faulty 3)
-    (cond taken (Faulty 4)
-    (cond known (AgentRecord number home) (Faulty 5))))
+    cond (leb 64 number) (Faulty tooLarge)
+    (cond (leb 64 home) (Faulty tooLarge)
+    (cond taken (Faulty givenTwice)
+    (cond known (AgentRecord number home) (Faulty notYetGiven))))
 
 -- an action of a given agent: 7 kind not 1 to 3, 6 name 0, 8 seventeenth action
 abbrev pub givenAction : Bool → ℕ → ℕ → ℕ → Record
 givenAction full agent kind name =
-    cond (ltb kind 1) (Faulty 7)
-    (cond (leb 4 kind) (Faulty 7)
-    (cond (ltb name 1) (Faulty 6)
-    (cond full (Faulty 8) (ActionRecord agent kind name))))
+    cond (ltb kind 1) (Faulty wrongKind)
+    (cond (ltb lastKind kind) (Faulty wrongKind)
+    (cond (ltb name 1) (Faulty nameZero)
+    (cond full (Faulty seventeenth) (ActionRecord agent kind name))))
 
 -- an action: 3 its agent's number too large, 5 agent not yet given
 unfoldable pub actionRecord : Bool → Bool → ℕ → ℕ → ℕ → Record
-actionRecord known full agent kind name = cond (leb 64 agent) (Faulty 3) (cond known (givenAction full agent kind name) (Faulty 5))
+actionRecord known full agent kind name = cond (leb 64 agent) (Faulty tooLarge) (cond known (givenAction full agent kind name) (Faulty notYetGiven))
 
 -- a record of n bytes with its kind: 1 where its body is incomplete
 abbrev pub complete : List ℕ → ℕ → ℕ → Record → Record
-complete s at n r = cond (ltb (length s - at) n) (Faulty 1) r
+complete s at n r = cond (ltb (length s - at) n) (Faulty cutShort) r
 
 -- the name in a record of five bytes
 abbrev pub nameAt : List ℕ → ℕ → ℕ
 nameAt s at = twoBytes (byteAt s (at + 3)) (byteAt s (at + 4))
 
--- the three bodies. used, given: the places and agents so far; full: the agents with sixteen actions
-abbrev pub placeAt : (ℕ → Bool) → List ℕ → ℕ → Record
-placeAt used s at = placeRecord (used (byteAt s (at + 1))) (used (byteAt s (at + 2))) (byteAt s (at + 1)) (byteAt s (at + 2)) (nameAt s at)
+-- what was given so far: the places, the agents, and the agents with sixteen actions
+pub record Known : Type 0 where
+  pub places : ℕ → Bool
+  pub agents : ℕ → Bool
+  pub full : ℕ → Bool
 
-abbrev pub agentAt : (ℕ → Bool) → (ℕ → Bool) → List ℕ → ℕ → Record
-agentAt used given s at = agentRecord (given (byteAt s (at + 1))) (used (byteAt s (at + 2))) (byteAt s (at + 1)) (byteAt s (at + 2))
+-- the three bodies
+abbrev pub placeAt : Known → List ℕ → ℕ → Record
+placeAt k s at = placeRecord (k .places (byteAt s (at + 1))) (k .places (byteAt s (at + 2))) (byteAt s (at + 1)) (byteAt s (at + 2)) (nameAt s at)
 
-abbrev pub actionAt : (ℕ → Bool) → (ℕ → Bool) → List ℕ → ℕ → Record
-actionAt given full s at = actionRecord (given (byteAt s (at + 1))) (full (byteAt s (at + 1))) (byteAt s (at + 1)) (byteAt s (at + 2)) (nameAt s at)
+abbrev pub agentAt : Known → List ℕ → ℕ → Record
+agentAt k s at = agentRecord (k .agents (byteAt s (at + 1))) (k .places (byteAt s (at + 2))) (byteAt s (at + 1)) (byteAt s (at + 2))
+
+abbrev pub actionAt : Known → List ℕ → ℕ → Record
+actionAt k s at = actionRecord (k .agents (byteAt s (at + 1))) (k .full (byteAt s (at + 1))) (byteAt s (at + 1)) (byteAt s (at + 2)) (nameAt s at)
 
 -- "One byte of kind, then a body whose length the kind fixes": 2 unknown kind
-unfoldable pub recordAt : (ℕ → Bool) → (ℕ → Bool) → (ℕ → Bool) → List ℕ → ℕ → Record
-recordAt used given full s at =
-    cond (eqb (byteAt s at) 1) (complete s at 5 (placeAt used s at))
-    (cond (eqb (byteAt s at) 2) (complete s at 3 (agentAt used given s at))
-    (cond (eqb (byteAt s at) 3) (complete s at 5 (actionAt given full s at))
-    (cond (eqb (byteAt s at) 4) EndRecord (Faulty 2))))
+unfoldable pub recordAt : Known → List ℕ → ℕ → Record
+recordAt k s at =
+    cond (eqb (byteAt s at) 1) (complete s at 5 (placeAt k s at))
+    (cond (eqb (byteAt s at) 2) (complete s at 3 (agentAt k s at))
+    (cond (eqb (byteAt s at) 3) (complete s at 5 (actionAt k s at))
+    (cond (eqb (byteAt s at) 4) EndRecord (Faulty unknownKind))))
 
 -- ---- what a record adds
 
@@ -94,7 +101,7 @@ addAgent c number home = withGiven (withAgent c number (withHome (c .agent numbe
 -- "put after that agent's earlier ones"; "one loaded with some at 0"
 unfoldable pub withAction : Agent → ℕ → ℕ → Agent
 withAction a kind name =
-    withStage (withCount (withActions a (set (a .actions) (a .count) (record { kind = kind; name = name }))) (a .count + 1)) 0
+    withStage (withCount (withActions a (set (a .actions) (a .count) (record { kind = kind; name = name }))) (a .count + 1)) looking
 
 unfoldable pub addAction : State → ℕ → ℕ → ℕ → State
 unfolding withAction
@@ -103,6 +110,10 @@ addAction c agent kind name = withAgent c agent (withAction (c .agent agent) kin
 -- "a row of sixteen actions at most": the row of agent x is full
 abbrev pub isFull : State → ℕ → Bool
 isFull c x = leb 16 (c .agent x .count)
+
+-- what the records that made a cell gave
+abbrev pub knownIn : State → Known
+knownIn c = record { places = c .land .used; agents = c .given; full = isFull c }
 
 -- ---- the whole file
 
@@ -117,18 +128,18 @@ unfolding addPlace addAgent addAction
 loadRecord rest c s at (PlaceRecord number parent name) = rest (addPlace c number parent name) (at + 5)
 loadRecord rest c s at (AgentRecord number home) = rest (addAgent c number home) (at + 3)
 loadRecord rest c s at (ActionRecord agent kind name) = rest (addAction c agent kind name) (at + 5)
-loadRecord rest c s at EndRecord = cond (ltb (at + 1) (length s)) (refused 9 (at + 1)) (accepted c)
+loadRecord rest c s at EndRecord = cond (ltb (at + 1) (length s)) (refused afterEnd (at + 1)) (accepted c)
 loadRecord rest c s at (Faulty n) = refused n at
 
 -- from an offset on, with the cell so far: "for a missing end, the file's length".
 -- A record has a byte at least, so as many turns as the file has bytes, and one, are enough
 unfoldable pub loadFrom : ℕ → State → List ℕ → ℕ → Load
 unfolding loadRecord recordAt
-loadFrom zero c s at = refused 1 (length s)
+loadFrom zero c s at = refused cutShort (length s)
 loadFrom (suc turns) c s at =
     cond (ltb at (length s))
-    (loadRecord (λ d next. loadFrom turns d s next) c s at (recordAt (c .land .used) (c .given) (isFull c) s at))
-    (refused 1 (length s))
+    (loadRecord (λ d next. loadFrom turns d s next) c s at (recordAt (knownIn c) s at))
+    (refused cutShort (length s))
 
 -- "A load starts from a bare floor"
 unfoldable pub load : List ℕ → Load

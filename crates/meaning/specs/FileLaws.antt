@@ -11,23 +11,23 @@ use lib.ListN.{length, getD, replicate, getD-replicate, List·getD-eq-default}
 use borrow.Author.Tests.{ltb-true, ltb-false, leb-false}
 use Rattle.sets.specs.WordLaws.{has-pow, has-none}
 use Rattle.table.specs.BaseLaws.{Told, yea, nay, told}
-use Rattle.table.specs.Cell.{cellOf, bareTable, noPlace, noAgent, freshAgent, none}
-use Rattle.table.specs.Bounds.{Sized, Bounded}
-use Rattle.table.specs.CellLaws.{bounded}
+use Rattle.table.specs.Cell.{cellOf, bareTable, noPlace, noAgent, freshAgent, none, lastKind}
+use Rattle.table.specs.Bounds.{Bounded}
+use Rattle.table.specs.CellLaws.{bounded, sized-bare}
 use Rattle.table.specs.declared.Cell.{Cell}
 use Rattle.meaning.specs.declared.Record.{Record}
 use Rattle.meaning.specs.declared.Record.the-variants.{PlaceRecord, AgentRecord, ActionRecord, EndRecord, Faulty}
-use Rattle.meaning.specs.File.{byteAt, placeRecord, agentRecord, actionRecord, recordAt, Load, refused, load, loaded, loadOf}
+use Rattle.meaning.specs.File.{byteAt, placeRecord, agentRecord, actionRecord, Known, recordAt, Load, refused, load, loaded, loadOf}
 
 -- ---- what a record that is not refused tells of its numbers
 
-module _ (used given full : ℕ → Bool) where
+module _ (k : Known) where
   -- numbers are in range, a place or agent is new, what it names was given earlier, and a row with an action more had room
   pub data Fits : Record → Type 0 where
-    place : {number parent name : ℕ} → 1 ≤ number → number < 64 → parent < 64 → used number ≡ false → used parent ≡ true → 1 ≤ name
+    place : {number parent name : ℕ} → 1 ≤ number → number < 64 → parent < 64 → k .places number ≡ false → k .places parent ≡ true → 1 ≤ name
         → Fits (PlaceRecord number parent name)
-    agent : {number home : ℕ} → number < 64 → home < 64 → given number ≡ false → used home ≡ true → Fits (AgentRecord number home)
-    action : {number kind name : ℕ} → number < 64 → given number ≡ true → full number ≡ false → 1 ≤ kind → kind ≤ 3 → 1 ≤ name
+    agent : {number home : ℕ} → number < 64 → home < 64 → k .agents number ≡ false → k .places home ≡ true → Fits (AgentRecord number home)
+    action : {number kind name : ℕ} → number < 64 → k .agents number ≡ true → k .full number ≡ false → 1 ≤ kind → kind ≤ lastKind → 1 ≤ name
         → Fits (ActionRecord number kind name)
     end : Fits EndRecord
     faulty : {number : ℕ} → Fits (Faulty number)
@@ -37,40 +37,40 @@ module _ (used given full : ℕ → Bool) where
   cond-fits true x y f g = f refl
   cond-fits false x y f g = g refl
 
-  place-fits : (number parent name : ℕ) → Fits (placeRecord (used number) (used parent) number parent name)
+  place-fits : (number parent name : ℕ) → Fits (placeRecord (k .places number) (k .places parent) number parent name)
   unfolding placeRecord
   place-fits n p m =
       cond-fits (ltb n 1) _ _ (λ e. faulty) (λ one.
       cond-fits (leb 64 n) _ _ (λ e. faulty) (λ low.
       cond-fits (leb 64 p) _ _ (λ e. faulty) (λ under.
-      cond-fits (used n) _ _ (λ e. faulty) (λ new.
-      cond-fits (used p) _ _ (λ known.
+      cond-fits (k .places n) _ _ (λ e. faulty) (λ new.
+      cond-fits (k .places p) _ _ (λ known.
       cond-fits (ltb m 1) _ _ (λ e. faulty)
       (λ named. place (ltb-false n 1 one) (leb-false 64 n low) (leb-false 64 p under) new known (ltb-false m 1 named)))
       (λ e. faulty)))))
 
-  agent-fits : (number home : ℕ) → Fits (agentRecord (given number) (used home) number home)
+  agent-fits : (number home : ℕ) → Fits (agentRecord (k .agents number) (k .places home) number home)
   unfolding agentRecord
   agent-fits n h =
       cond-fits (leb 64 n) _ _ (λ e. faulty) (λ low.
       cond-fits (leb 64 h) _ _ (λ e. faulty) (λ under.
-      cond-fits (given n) _ _ (λ e. faulty) (λ new.
-      cond-fits (used h) _ _ (λ known. agent (leb-false 64 n low) (leb-false 64 h under) new known) (λ e. faulty))))
+      cond-fits (k .agents n) _ _ (λ e. faulty) (λ new.
+      cond-fits (k .places h) _ _ (λ known. agent (leb-false 64 n low) (leb-false 64 h under) new known) (λ e. faulty))))
 
-  action-fits : (number kind name : ℕ) → Fits (actionRecord (given number) (full number) number kind name)
+  action-fits : (number kind name : ℕ) → Fits (actionRecord (k .agents number) (k .full number) number kind name)
   unfolding actionRecord
-  action-fits n k m =
+  action-fits n kind m =
       cond-fits (leb 64 n) _ _ (λ e. faulty) (λ low.
-      cond-fits (given n) _ _ (λ known.
-      cond-fits (ltb k 1) _ _ (λ e. faulty) (λ one.
-      cond-fits (leb 4 k) _ _ (λ e. faulty) (λ three.
+      cond-fits (k .agents n) _ _ (λ known.
+      cond-fits (ltb kind 1) _ _ (λ e. faulty) (λ one.
+      cond-fits (ltb lastKind kind) _ _ (λ e. faulty) (λ three.
       cond-fits (ltb m 1) _ _ (λ e. faulty) (λ named.
-      cond-fits (full n) _ _ (λ e. faulty)
-      (λ room. action (leb-false 64 n low) known room (ltb-false k 1 one) (omega (arith, leb-false 4 k three)) (ltb-false m 1 named))))))
+      cond-fits (k .full n) _ _ (λ e. faulty)
+      (λ room. action (leb-false 64 n low) known room (ltb-false kind 1 one) (ltb-false lastKind kind three) (ltb-false m 1 named))))))
       (λ e. faulty))
 
   -- the record at an offset fits the cell so far, or is refused, or ends the file
-  pub record-fits : (s : List ℕ) (at : ℕ) → Fits (recordAt used given full s at)
+  pub record-fits : (s : List ℕ) (at : ℕ) → Fits (recordAt k s at)
   unfolding recordAt
   record-fits s at =
       cond-fits (eqb (byteAt s at) 1) _ _ (λ e. cond-fits (ltb (length s - at) 5) _ _ (λ e. faulty)
@@ -88,28 +88,28 @@ past-refusal : {A : Type 0} (b : Bool) (x y z : A) → (b ≡ false → x ≡ y)
 past-refusal true x y z h = refl
 past-refusal false x y z h = h refl
 
-module _ (used used′ given given′ full full′ : ℕ → Bool) (same-used : (j : ℕ) → j < 64 → used j ≡ used′ j)
-    (same-given : (j : ℕ) → j < 64 → given j ≡ given′ j) (same-full : (j : ℕ) → j < 64 → full j ≡ full′ j) where
+module _ (k k′ : Known) (same-places : (j : ℕ) → j < 64 → k .places j ≡ k′ .places j)
+    (same-agents : (j : ℕ) → j < 64 → k .agents j ≡ k′ .agents j) (same-full : (j : ℕ) → j < 64 → k .full j ≡ k′ .full j) where
   place-same : (number parent name : ℕ)
-      → placeRecord (used number) (used parent) number parent name ≡ placeRecord (used′ number) (used′ parent) number parent name
+      → placeRecord (k .places number) (k .places parent) number parent name ≡ placeRecord (k′ .places number) (k′ .places parent) number parent name
   unfolding placeRecord
   place-same number parent name =
       past-refusal (ltb number 1) _ _ _ (λ e. past-refusal (leb 64 number) _ _ _ (λ low. past-refusal (leb 64 parent) _ _ _ (λ under.
-      rw (same-used number (leb-false 64 number low), same-used parent (leb-false 64 parent under)))))
+      rw (same-places number (leb-false 64 number low), same-places parent (leb-false 64 parent under)))))
 
-  agent-same : (number home : ℕ) → agentRecord (given number) (used home) number home ≡ agentRecord (given′ number) (used′ home) number home
+  agent-same : (number home : ℕ) → agentRecord (k .agents number) (k .places home) number home ≡ agentRecord (k′ .agents number) (k′ .places home) number home
   unfolding agentRecord
   agent-same number home = past-refusal (leb 64 number) _ _ _ (λ low. past-refusal (leb 64 home) _ _ _ (λ under.
-      rw (same-given number (leb-false 64 number low), same-used home (leb-false 64 home under))))
+      rw (same-agents number (leb-false 64 number low), same-places home (leb-false 64 home under))))
 
   action-same : (number kind name : ℕ)
-      → actionRecord (given number) (full number) number kind name ≡ actionRecord (given′ number) (full′ number) number kind name
+      → actionRecord (k .agents number) (k .full number) number kind name ≡ actionRecord (k′ .agents number) (k′ .full number) number kind name
   unfolding actionRecord
   action-same number kind name = past-refusal (leb 64 number) _ _ _ (λ low.
-      rw (same-given number (leb-false 64 number low), same-full number (leb-false 64 number low)))
+      rw (same-agents number (leb-false 64 number low), same-full number (leb-false 64 number low)))
 
   -- so sets that agree below 64 give the same record
-  pub record-same : (s : List ℕ) (at : ℕ) → recordAt used given full s at ≡ recordAt used′ given′ full′ s at
+  pub record-same : (s : List ℕ) (at : ℕ) → recordAt k s at ≡ recordAt k′ s at
   unfolding recordAt
   record-same s at = rw (
     place-same (byteAt s (at + 1)) (byteAt s (at + 2)),
@@ -118,10 +118,6 @@ module _ (used used′ given given′ full full′ : ℕ → Bool) (same-used : 
   )
 
 -- ---- the bare floor that a load starts from
-
-sized-bare : Sized bareTable
-unfolding bareTable
-sized-bare = record { places = refl; locks = refl; agents = refl; used = omega arith; given = omega arith }
 
 pub bare-bounded : Bounded (cellOf bareTable)
 bare-bounded = bounded bareTable sized-bare

@@ -1,3 +1,4 @@
+pub mod Refusals
 pub mod Update
 pub mod File
 pub mod Step

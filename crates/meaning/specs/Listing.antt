@@ -6,19 +6,20 @@ use mathlib.Core.List.{List, [], _++_}
 use lib.Dec.{ltb, leb, eqb}
 use lib.ListN.{length, getD}
 use Rattle.table.specs.Base.{tab, foldUp}
-use Rattle.table.specs.Cell.{Land, State, noAction}
+use Rattle.table.specs.Cell.{Land, State, noAction, enterKind, exitKind}
 use Rattle.table.specs.Sound.{sound}
 use Rattle.table.specs.declared.Action.{Action}
 use Rattle.table.specs.declared.Agent.{Agent}
 use Rattle.meaning.specs.declared.Listed.{Listed}
 use Rattle.meaning.specs.declared.Listed.the-variants.{Length, Unlisted}
+use Rattle.meaning.specs.Refusals.{unsoundTable, tooLong}
 use Rattle.meaning.specs.Text.{ascii, decimal, gap, joined, overlay}
 
 -- ---- agents
 
 unfoldable pub kindText : ℕ → List ℕ
 unfolding tab
-kindText kind = cond (eqb kind 1) (ascii "enter ") (cond (eqb kind 2) (ascii "exit ") (ascii "open "))
+kindText kind = cond (eqb kind enterKind) (ascii "enter ") (cond (eqb kind exitKind) (ascii "exit ") (ascii "open "))
 
 -- an action, such as `enter 9`
 unfoldable pub actionText : Action → List ℕ
@@ -92,7 +93,8 @@ Alike c d = listing c ≡ listing d
 unfoldable pub listAnswer : State → List ℕ → Listed
 unfolding listing sound
 listAnswer c buffer =
-    cond (sound c) (cond (leb (length (listing c)) (length buffer)) (Length (length (listing c))) (Unlisted 12)) (Unlisted 10)
+    cond (sound c) (cond (leb (length (listing c)) (length buffer)) (Length (length (listing c))) (Unlisted tooLong))
+    (Unlisted unsoundTable)
 
 -- "bytes past the listing stay untouched", and a refusal leaves the whole buffer
 unfoldable pub listBuffer : State → List ℕ → List ℕ

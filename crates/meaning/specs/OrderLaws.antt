@@ -5,12 +5,11 @@ use Prim.Native.Nat.{ℕ, zero, suc, _+_, _*_, _≤_, _<_}
 use native.Mathlib.Omega.{arith}
 use lib.ListN.{length, getD}
 use Rattle.meaning.specs.File.{load}
-use Rattle.meaning.specs.Run.{Call}
-use Rattle.meaning.specs.Report.{callsIn, reportOf, report}
+use Rattle.meaning.specs.Report.{Pair, callsIn, reportOf, report}
 
 -- "pairs agent, wish; at most 16,384"; "An odd last byte and pairs past the limit are passed over": the calls that walk makes of an order
 pub record Reported (cell order : List ℕ) : Type 0 where
-  pub calls : List Call
+  pub calls : List Pair
   -- at most 16,384, whole pairs only, and as many as there are
   pub limit : length calls ≤ 16384
   pub whole : 2 * length calls ≤ length order
@@ -47,7 +46,7 @@ calls-all (suc n) (a ∷ w ∷ s) l = omega (arith, calls-all n s (omega arith))
 after-next : (i : ℕ) → suc (suc (2 * i)) ≡ 2 * suc i
 after-next i = omega arith
 
-module _ (d : Call) where
+module _ (d : Pair) where
   calls-agent : (n : ℕ) (s : List ℕ) (i : ℕ) → i < length (callsIn n s) → getD (callsIn n s) i d .agent ≡ getD s (2 * i) 0
   unfolding callsIn
   calls-agent zero s i l = absurd (omega arith)

@@ -6,14 +6,14 @@ use mathlib.Core.Bool.{Bool, true, false, _||_, cond}
 use mathlib.Core.List.{List, [], _∷_}
 use lib.Dec.{eqb}
 use Rattle.table.specs.Base.{upd}
-use Rattle.table.specs.Cell.{Land, State, none, unused}
+use Rattle.table.specs.Cell.{Land, State, none, unused, exitKind, looksHome}
+use Rattle.table.specs.declared.Action.{Action}
 use Rattle.meaning.specs.declared.Word.{Word}
 use Rattle.meaning.specs.declared.Word.the-variants.{Looked, Took, Held, Back, Slept, Left, Came, Opened, Asleep, Done}
-use Rattle.meaning.specs.declared.Answer.{Answer}
 use Rattle.meaning.specs.declared.Answer.the-variants.{Did, Refused}
 use Rattle.meaning.specs.Step.{choose}
 use Rattle.meaning.specs.Calculus.{Tree, nextOf, move, Move}
-use Rattle.meaning.specs.Run.{Call}
+use Rattle.meaning.specs.Run.{Call, agentOf, wishOf, Reply, stepReply}
 
 -- "It knows each place's name and where it stands, each agent's home and unused actions, which places travel, and a pick for each agent";
 -- 64 is no pick
@@ -22,16 +22,33 @@ pub record Plain : Type 0 where
   pub travels : ℕ → Bool
   pub pick : ℕ → ℕ
 
--- the tree of a cell: "the same place numbers are in use, with the same names and parents (the destination for a place on its way), and
--- each agent has the same home and the same unused actions in order"; what is not in use reads as 0 and without actions
-unfoldable pub treeOf : State → Tree
-treeOf c = record {
-  used = c .land .used;
-  name = λ q. cond (c .land .used q) (c .land .place q .name) 0;
-  parent = λ q. cond (c .land .used q) (c .land .place q .parent) 0;
-  home = λ x. cond (c .given x) (c .agent x .home) 0;
-  unused = λ x. cond (c .given x) (unused (c .agent x)) [];
+-- ---- one part of a plain tree written anew: besides plainOf the only definitions that write one out
+
+abbrev pub withTree : Plain → Tree → Plain
+withTree t u = record { tree = u; travels = t .travels; pick = t .pick }
+
+abbrev pub withTravels : Plain → (ℕ → Bool) → Plain
+withTravels t f = record { tree = t .tree; travels = f; pick = t .pick }
+
+abbrev pub withPicks : Plain → (ℕ → ℕ) → Plain
+withPicks t f = record { tree = t .tree; travels = t .travels; pick = f }
+
+-- ---- the start
+
+-- the tree of places, and of agents' homes and unused actions; a place that is not in use reads as 0
+abbrev pub treeFrom : Land → (ℕ → ℕ) → (ℕ → List Action) → Tree
+treeFrom l home unused = record {
+  used = l .used;
+  name = λ q. cond (l .used q) (l .place q .name) 0;
+  parent = λ q. cond (l .used q) (l .place q .parent) 0;
+  home = home;
+  unused = unused;
 }
+
+-- the tree of a cell: "the same place numbers are in use, with the same names and parents (the destination for a place on its way), and
+-- each agent has the same home and the same unused actions in order"; one that is not given reads as 0 and without actions
+unfoldable pub treeOf : State → Tree
+treeOf c = treeFrom (c .land) (λ x. cond (c .given x) (c .agent x .home) 0) (λ x. cond (c .given x) (unused (c .agent x)) [])
 
 -- "It starts as the file says, with nothing travelling and no picks": c is the cell that the file gives
 unfoldable pub plainOf : State → Plain
@@ -49,13 +66,13 @@ landIn t = record {
 
 -- "There p is where its own place stands (open: its own place)"
 abbrev pub heldIn : Tree → ℕ → ℕ
-heldIn t a = cond (eqb (nextOf t a .kind) 3) (t .home a) (t .parent (t .home a))
+heldIn t a = cond (looksHome (nextOf t a .kind)) (t .home a) (t .parent (t .home a))
 
 -- "the place that stage 2 would choose here with this wish, if any"; an exit chooses none
 unfoldable pub pickOf : Plain → ℕ → ℕ → ℕ
 unfolding landIn
 pickOf t a wish =
-    cond (eqb (nextOf (t .tree) a .kind) 2) none
+    cond (eqb (nextOf (t .tree) a .kind) exitKind) none
     (choose (landIn t) (nextOf (t .tree) a .kind) (nextOf (t .tree) a .name) (t .tree .home a) (heldIn (t .tree) a) wish)
 
 -- ---- one call
@@ -65,10 +82,10 @@ pickOf t a wish =
 -- pick's number becomes unused; the action is used up. came: its own place travels no more."
 unfoldable pub plainWord : Plain → ℕ → ℕ → Word → Plain
 unfolding pickOf
-plainWord t a wish Took = record { tree = t .tree; travels = t .travels; pick = upd (t .pick) a (pickOf t a wish) }
-plainWord t a wish Left = record { tree = move (t .tree) a (t .pick a); travels = upd (t .travels) (t .tree .home a) true; pick = t .pick }
-plainWord t a wish Opened = record { tree = move (t .tree) a (t .pick a); travels = t .travels; pick = t .pick }
-plainWord t a wish Came = record { tree = t .tree; travels = upd (t .travels) (t .tree .home a) false; pick = t .pick }
+plainWord t a wish Took = withPicks t (upd (t .pick) a (pickOf t a wish))
+plainWord t a wish Left = withTravels (withTree t (move (t .tree) a (t .pick a))) (upd (t .travels) (t .tree .home a) true)
+plainWord t a wish Opened = withTree t (move (t .tree) a (t .pick a))
+plainWord t a wish Came = withTravels t (upd (t .travels) (t .tree .home a) false)
 plainWord t a wish Looked = t
 plainWord t a wish Held = t
 plainWord t a wish Back = t
@@ -77,13 +94,13 @@ plainWord t a wish Asleep = t
 plainWord t a wish Done = t
 
 -- "Any other word, or a refusal: nothing."
-unfoldable pub plainStep : Plain → Call → Answer → Plain
+unfoldable pub plainStep : Plain → Call → Reply → Plain
 unfolding plainWord
-plainStep t k (Did word woken) = plainWord t (k .agent) (k .wish) word
-plainStep t k (Refused number) = t
+plainStep t k (stepReply (Did word woken)) = plainWord t (agentOf k) (wishOf k) word
+plainStep t k (stepReply (Refused number)) = t
 
 -- the plain tree after a list of calls and their answers
-unfoldable pub plainRun : Plain → List Call → List Answer → Plain
+unfoldable pub plainRun : Plain → List Call → List Reply → Plain
 unfolding plainStep
 plainRun t [] answers = t
 plainRun t (k ∷ calls) [] = t
@@ -104,15 +121,15 @@ isMove Came = false
 isMove Asleep = false
 isMove Done = false
 
-abbrev pub saysMove : Answer → Bool
-saysMove (Did word woken) = isMove word
-saysMove (Refused number) = false
+abbrev pub saysMove : Reply → Bool
+saysMove (stepReply (Did word woken)) = isMove word
+saysMove (stepReply (Refused number)) = false
 
 -- "the loaded tree after one calculus move for each call answered left or opened, in the order of the calls, each a move that the calculus
 -- permits in the tree before it", and no change of the tree for any other answer
-pub data History : Tree → List Call → List Answer → Tree → Type 0 where
+pub data History : Tree → List Call → List Reply → Tree → Type 0 where
   start : {t : Tree} → History t [] [] t
-  moved : {t u v : Tree} {k : Call} {calls : List Call} {a : Answer} {answers : List Answer}
-      → saysMove a ≡ true → Move t (k .agent) u → History u calls answers v → History t (k ∷ calls) (a ∷ answers) v
-  stayed : {t v : Tree} {k : Call} {calls : List Call} {a : Answer} {answers : List Answer}
+  moved : {t u v : Tree} {k : Call} {calls : List Call} {a : Reply} {answers : List Reply}
+      → saysMove a ≡ true → Move t (agentOf k) u → History u calls answers v → History t (k ∷ calls) (a ∷ answers) v
+  stayed : {t v : Tree} {k : Call} {calls : List Call} {a : Reply} {answers : List Reply}
       → saysMove a ≡ false → History t calls answers v → History t (k ∷ calls) (a ∷ answers) v

@@ -10,7 +10,7 @@ use Rattle.meaning.specs.declared.Answer.{Answer}
 use Rattle.meaning.specs.declared.Answer.the-variants.{Did, Refused}
 use Rattle.meaning.specs.Text.{ascii, decimal}
 use Rattle.meaning.specs.File.{Load, accepted, refused, load}
-use Rattle.meaning.specs.Run.{Call, stepOf}
+use Rattle.meaning.specs.Run.{stepOf}
 use Rattle.meaning.specs.Listing.{listing}
 
 -- ---- lines: "Fields have one space between them and each line ends with byte 0A."
@@ -47,22 +47,27 @@ listingLine word c = ((word ++ ascii " ") ++ listing c) ++ ascii "\n"
 
 -- ---- the report
 
+-- a pair of the order: "agent, wish"
+pub record Pair : Type 0 where
+  pub agent : ℕ
+  pub wish : ℕ
+
 -- "pairs agent, wish; at most 16,384"; "An odd last byte and pairs past the limit are passed over": at most so many calls
-unfoldable pub callsIn : ℕ → List ℕ → List Call
+unfoldable pub callsIn : ℕ → List ℕ → List Pair
 callsIn zero order = []
 callsIn (suc limit) [] = []
 callsIn (suc limit) (agent ∷ []) = []
 callsIn (suc limit) (agent ∷ wish ∷ order) = record { agent = agent; wish = wish } ∷ callsIn limit order
 
--- a line for each call, then the last line
-unfoldable pub reportRun : Cell → List Call → List ℕ
+-- a line for the step call of each pair, then the last line
+unfoldable pub reportRun : Cell → List Pair → List ℕ
 unfolding tab
 reportRun t [] = listingLine (ascii "end") (cellOf t)
 reportRun t (k ∷ calls) =
     stepLine (k .agent) (stepOf t (k .agent) (k .wish) .answer) ++ reportRun (stepOf t (k .agent) (k .wish) .cell) calls
 
 -- the report of a load and the order's calls
-unfoldable pub reportOf : Load → List Call → List ℕ
+unfoldable pub reportOf : Load → List Pair → List ℕ
 unfolding tab
 reportOf (accepted c) calls = listingLine (ascii "start") (cellOf (tableOf c)) ++ reportRun (tableOf c) calls
 reportOf (refused number offset) calls = refusedLine number offset

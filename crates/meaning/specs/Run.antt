@@ -12,14 +12,10 @@ use Rattle.meaning.specs.declared.Word.the-variants.{Looked, Took, Held,
 use Rattle.meaning.specs.declared.Answer.{Answer}
 use Rattle.meaning.specs.declared.Answer.the-variants.{Did, Refused}
 use Rattle.meaning.specs.declared.Stepped.{Stepped}
+use Rattle.meaning.specs.Refusals.{unsoundTable, noSuchAgent}
 use Rattle.meaning.specs.Step.{Outcome, step}
 
--- ---- one call
-
--- "A call names an agent and a wish, a byte"
-pub record Call : Type 0 where
-  pub agent : ℕ
-  pub wish : ℕ
+-- ---- the step call
 
 -- a step that was made, as the call answers it
 unfoldable pub made : Outcome → Stepped
@@ -33,20 +29,52 @@ turnedAway t number = record { cell = t; answer = Refused number }
 unfoldable pub stepOf : Cell → ℕ → ℕ → Stepped
 stepOf t agent wish =
     cond (sound (cellOf t))
-    (cond (cellOf t .given agent) (made (step (cellOf t) agent wish)) (turnedAway t 11))
-    (turnedAway t 10)
+    (cond (cellOf t .given agent) (made (step (cellOf t) agent wish)) (turnedAway t noSuchAgent))
+    (turnedAway t unsoundTable)
+
+-- ---- any call that may change a cell
+
+-- a step call: "A call names an agent and a wish, a byte"
+pub data Call : Type 0 where
+  stepCall : ℕ → ℕ → Call
+
+-- the agent that a call names, and the wish
+abbrev pub agentOf : Call → ℕ
+agentOf (stepCall agent wish) = agent
+
+abbrev pub wishOf : Call → ℕ
+wishOf (stepCall agent wish) = wish
+
+-- what a call answers
+pub data Reply : Type 0 where
+  stepReply : Answer → Reply
+
+-- the table after a call, and its reply
+pub record Called : Type 0 where
+  pub cell : Cell
+  pub reply : Reply
+
+-- a step call's result as that of any call
+abbrev pub byStep : Stepped → Called
+byStep s = record { cell = s .cell; reply = stepReply (s .answer) }
+
+-- a call on a table
+unfoldable pub callOf : Cell → Call → Called
+callOf t (stepCall agent wish) = byStep (stepOf t agent wish)
 
 -- ---- a run
 
 -- "each call gets the cell as the one before left it": the table after a list of calls
 unfoldable pub run : Cell → List Call → Cell
+unfolding callOf
 run t [] = t
-run t (k ∷ calls) = run (stepOf t (k .agent) (k .wish) .cell) calls
+run t (k ∷ calls) = run (callOf t k .cell) calls
 
--- the answer of each of the calls
-unfoldable pub answers : Cell → List Call → List Answer
+-- the reply to each of the calls
+unfoldable pub answers : Cell → List Call → List Reply
+unfolding callOf
 answers t [] = []
-answers t (k ∷ calls) = stepOf t (k .agent) (k .wish) .answer ∷ answers (stepOf t (k .agent) (k .wish) .cell) calls
+answers t (k ∷ calls) = callOf t k .reply ∷ answers (callOf t k .cell) calls
 
 -- ---- what can be said of a cell
 

@@ -2,9 +2,10 @@
 use Prim.Native.Nat.{ℕ}
 use mathlib.Core.Bool.{Bool, not, _&&_, _||_, cond}
 use lib.Dec.{ltb, leb, eqb}
-use Rattle.sets.specs.Word.{countOf, upto, chosenOf}
+use Rattle.sets.specs.Word.{countOf, lowestOf, upto}
 use Rattle.table.specs.Base.{upd, anyBelow}
-use Rattle.table.specs.Cell.{Land, State, none, noPlace, linked, linkedTo, travels, hasAction, kindOf, nameOf}
+use Rattle.table.specs.Cell.{Land, State, none, noPlace, linked, linkedTo, travels, hasAction, kindOf, nameOf, enterKind, exitKind, openKind}
+use Rattle.table.specs.Cell.{looksHome, answersTo, looking, found, holding, holdingBoth, onWay, onWayOwn, onWayBoth, asleep, done}
 use Rattle.table.specs.Sound.{secondPlace}
 use Rattle.table.specs.declared.Place.{Place}
 use Rattle.table.specs.declared.Agent.{Agent}
@@ -28,31 +29,36 @@ onWayTo l q r = travels l r && eqb (l .place r .parent) q
 unfoldable pub awaited : Land → ℕ → Bool
 awaited l q = anyBelow (onWayTo l q) 64
 
--- place q is named n
-abbrev pub named : Land → ℕ → ℕ → Bool
-named l q n = eqb (l .place q .name) n
+-- place q is named n, as an action of this kind asks
+abbrev pub named : ℕ → Land → ℕ → ℕ → Bool
+named kind l q n = eqb (answersTo kind (l .place q .name)) n
 
 -- "Enter n fires if another place linked to p is named n": q is such a place
 unfoldable pub entersAt : Land → ℕ → ℕ → ℕ → ℕ → Bool
-entersAt l n home p q = linkedTo l q p && (named l q n && not (eqb q home))
+entersAt l n home p q = linkedTo l q p && (named enterKind l q n && not (eqb q home))
 
 -- "Exit n fires if p is named n and p is linked"
 unfoldable pub exitsFrom : Land → ℕ → ℕ → Bool
-exitsFrom l n p = linked l p && named l p n
+exitsFrom l n p = linked l p && named exitKind l p n
 
 -- "Open n fires if a place linked to p is named n and nothing is on its way to it": q is such a place
 unfoldable pub opensAt : Land → ℕ → ℕ → ℕ → Bool
-opensAt l n p q = linkedTo l q p && (named l q n && not (awaited l q))
+opensAt l n p q = linkedTo l q p && (named openKind l q n && not (awaited l q))
 
 -- the action (kind, n) of an agent that lives in home and holds p fires on q; exit fires on p itself
 unfoldable pub qualifies : Land → ℕ → ℕ → ℕ → ℕ → ℕ → Bool
 qualifies l kind n home p q =
-    cond (eqb kind 1) (entersAt l n home p q)
-    (cond (eqb kind 2) (eqb q p && exitsFrom l n p)
+    cond (eqb kind enterKind) (entersAt l n home p q)
+    (cond (eqb kind exitKind) (eqb q p && exitsFrom l n p)
     (opensAt l n p q))
 
--- "Enter and open choose the wished place if it qualifies, else the lowest qualifying number. Other wishes are passed over";
--- 64 where the action can't fire
+-- what is chosen of those that qualify: "the wished place if it qualifies, else the lowest qualifying number. Other wishes are passed
+-- over"; 64 where there is none
+unfoldable pub chosenOf : (ℕ → Bool) → ℕ → ℕ
+unfolding lowestOf
+chosenOf f wish = cond (f wish) wish (lowestOf 64 f)
+
+-- what "enter and open choose"; 64 where the action can't fire
 unfoldable pub choose : Land → ℕ → ℕ → ℕ → ℕ → ℕ → ℕ
 choose l kind n home p wish = chosenOf (upto 64 (qualifies l kind n home p)) wish
 
@@ -62,7 +68,7 @@ choice l a wish = choose l (kindOf a) (nameOf a) (a .home) (a .remembered) wish
 
 -- stage 3: the place that the action is to fire on, the chosen one, for exit p
 abbrev pub targetOf : Agent → ℕ
-targetOf a = cond (eqb (kindOf a) 2) (a .remembered) (a .chosen)
+targetOf a = cond (eqb (kindOf a) exitKind) (a .remembered) (a .chosen)
 
 -- the action of an agent at stage 3 (on the chosen place) still fires
 unfoldable pub fires : Land → Agent → Bool
@@ -70,7 +76,7 @@ fires l a = qualifies l (kindOf a) (nameOf a) (a .home) (a .remembered) (targetO
 
 -- its place is still linked to p; an opener does not ask
 unfoldable pub stays : Land → Agent → Bool
-stays l a = eqb (kindOf a) 3 || linkedTo l (a .home) (a .remembered)
+stays l a = looksHome (kindOf a) || linkedTo l (a .home) (a .remembered)
 
 -- ---- locks
 
@@ -97,7 +103,7 @@ release c x p q a w = still (withLocks (withAgent c x a) (released (c .lock) p q
 
 -- an agent asleep on p, q or r
 unfoldable pub asleepOn : ℕ → ℕ → ℕ → Agent → Bool
-asleepOn p q r a = eqb (a .stage) 7 && (eqb (a .remembered) p || (eqb (a .remembered) q || eqb (a .remembered) r))
+asleepOn p q r a = eqb (a .stage) asleep && (eqb (a .remembered) p || (eqb (a .remembered) q || eqb (a .remembered) r))
 
 -- agent y is given and asleep on p, q or r
 abbrev pub sleeper : State → ℕ → ℕ → ℕ → ℕ → Bool
@@ -105,7 +111,7 @@ sleeper c p q r y = c .given y && asleepOn p q r (c .agent y)
 
 -- "Waking sets an agent to stage 0": the agents once all asleep on p, q or r are woken
 unfoldable pub wake : State → ℕ → ℕ → ℕ → ℕ → Agent
-wake c p q r y = cond (sleeper c p q r y) (atStage (c .agent y) 0 0 0) (c .agent y)
+wake c p q r y = cond (sleeper c p q r y) (atStage (c .agent y) looking 0 0) (c .agent y)
 
 -- "how many agents the step woke, counted from the set of sleepers"
 abbrev pub wokenOn : State → ℕ → ℕ → ℕ → ℕ
@@ -117,15 +123,15 @@ wokenOn c p q r = countOf 64 (sleeper c p q r)
 -- slept, stage 7 on its own place."
 unfoldable pub look : State → ℕ → Agent → Outcome
 look c x a =
-    cond (eqb (kindOf a) 3) (turn c x (atStage a 1 (a .home) 0) Looked)
-    (cond (linked (c .land) (a .home)) (turn c x (atStage a 1 (c .land .place (a .home) .parent) 0) Looked)
-    (turn c x (atStage a 7 (a .home) 0) Slept))
+    cond (looksHome (kindOf a)) (turn c x (atStage a found (a .home) 0) Looked)
+    (cond (linked (c .land) (a .home)) (turn c x (atStage a found (c .land .place (a .home) .parent) 0) Looked)
+    (turn c x (atStage a asleep (a .home) 0) Slept))
 
 -- ---- stage 1, found
 
 -- "Lock the remembered place p: took, stage 2, or held."
 unfoldable pub lockFirst : State → ℕ → Agent → Outcome
-lockFirst c x a = take c x (a .remembered) (atStage a 2 (a .remembered) 0)
+lockFirst c x a = take c x (a .remembered) (atStage a holding (a .remembered) 0)
 
 -- ---- stage 2, holding p
 
@@ -133,21 +139,21 @@ lockFirst c x a = take c x (a .remembered) (atStage a 2 (a .remembered) 0)
 unfoldable pub lockSecond : State → ℕ → Agent → ℕ → Outcome
 lockSecond c x a q =
     cond (ltb q 64)
-    (take c x (secondPlace (kindOf a) (a .home) q) (atStage a 3 (a .remembered) (cond (eqb (kindOf a) 2) 0 q)))
-    (release c x (a .remembered) (a .remembered) (atStage a 7 (a .remembered) 0) Slept)
+    (take c x (secondPlace (kindOf a) (a .home) q) (atStage a holdingBoth (a .remembered) (cond (eqb (kindOf a) exitKind) 0 q)))
+    (release c x (a .remembered) (a .remembered) (atStage a asleep (a .remembered) 0) Slept)
 
 -- "Enter or exit, and its place is no longer linked to p: release, back, stage 0."
 unfoldable pub hold : State → ℕ → Agent → ℕ → Outcome
 hold c x a wish =
     cond (stays (c .land) a)
     (lockSecond c x a (choice (c .land) a wish))
-    (release c x (a .remembered) (a .remembered) (atStage a 0 0 0) Back)
+    (release c x (a .remembered) (a .remembered) (atStage a looking 0 0) Back)
 
 -- ---- stage 3, holding both
 
 -- "After opened or came the agent is at stage 0, or 8 if no action is left"
 abbrev pub restStage : Agent → ℕ
-restStage a = cond (hasAction a) 0 8
+restStage a = cond (hasAction a) looking done
 
 -- place h is on its way to d
 abbrev pub sendTo : Land → ℕ → ℕ → Land
@@ -157,7 +163,7 @@ sendTo l h d = withPlaces l (upd (l .place) h (withWay (withParent (l .place h) 
 -- release both; wake all asleep on p or its own place; left, stage 4."
 unfoldable pub leave : State → ℕ → Agent → ℕ → Outcome
 leave c x a d = record {
-  cell = withLand (withLocks (withAgents c (upd (wake c (a .remembered) (a .home) (a .home)) x (atStage (useUp a) 4 0 0)))
+  cell = withLand (withLocks (withAgents c (upd (wake c (a .remembered) (a .home) (a .home)) x (atStage (useUp a) onWay 0 0)))
       (released (c .lock) (a .remembered) (a .home))) (sendTo (c .land) (a .home) d);
   word = Left;
   woken = wokenOn c (a .remembered) (a .home) (a .home);
@@ -177,17 +183,17 @@ dissolveLand l p t = withUsed
 -- stage 0 all that remembered it at stage 1"
 unfoldable pub dissolveAgent : ℕ → ℕ → Agent → Agent
 dissolveAgent p t a =
-    cond (eqb (a .home) t) (withHome (atStage a (cond (eqb (a .stage) 8) 8 0) 0 0) p)
-    (cond (eqb (a .stage) 1 && eqb (a .remembered) t) (atStage a 0 0 0)
-    (cond (asleepOn p t t a) (atStage a 0 0 0) a))
+    cond (eqb (a .home) t) (withHome (atStage a (cond (eqb (a .stage) done) done looking) 0 0) p)
+    (cond (eqb (a .stage) found && eqb (a .remembered) t) (atStage a looking 0 0)
+    (cond (asleepOn p t t a) (atStage a looking 0 0) a))
 
 -- "The count of woken agents is of those that were at stage 7": a moved agent that slept is woken too
 unfoldable pub wokenBy : ℕ → ℕ → Agent → Bool
-wokenBy p t a = eqb (a .stage) 7 && (eqb (a .home) t || (eqb (a .remembered) p || eqb (a .remembered) t))
+wokenBy p t a = eqb (a .stage) asleep && (eqb (a .home) t || (eqb (a .remembered) p || eqb (a .remembered) t))
 
 -- "a lock that one of them held at stage 2": agent y is given, lives in t and is at stage 2
 abbrev pub letsGo : State → ℕ → ℕ → Bool
-letsGo c t y = c .given y && (eqb (c .agent y .home) t && eqb (c .agent y .stage) 2)
+letsGo c t y = c .given y && (eqb (c .agent y .home) t && eqb (c .agent y .stage) holding)
 
 -- "being released": the lock of q once t is dissolved; that of a number that is not in use stays as it is
 unfoldable pub dissolveLock : State → ℕ → ℕ → ℕ
@@ -205,14 +211,14 @@ dissolve c x a p t = record {
 
 -- enter goes to the chosen place, exit to "p's parent as it is now"
 abbrev pub destinationOf : Land → Agent → ℕ
-destinationOf l a = cond (eqb (kindOf a) 1) (a .chosen) (l .place (a .remembered) .parent)
+destinationOf l a = cond (eqb (kindOf a) enterKind) (a .chosen) (l .place (a .remembered) .parent)
 
 -- "If the action (on the chosen place) no longer fires: release both, back, stage 0."
 unfoldable pub act : State → ℕ → Agent → Outcome
 act c x a =
     cond (fires (c .land) a)
-    (cond (eqb (kindOf a) 3) (dissolve c x a (a .remembered) (a .chosen)) (leave c x a (destinationOf (c .land) a)))
-    (release c x (a .remembered) (secondPlace (kindOf a) (a .home) (a .chosen)) (atStage a 0 0 0) Back)
+    (cond (eqb (kindOf a) openKind) (dissolve c x a (a .remembered) (a .chosen)) (leave c x a (destinationOf (c .land) a)))
+    (release c x (a .remembered) (secondPlace (kindOf a) (a .home) (a .chosen)) (atStage a looking 0 0) Back)
 
 -- ---- stages 4 to 6, on its way
 
@@ -236,8 +242,8 @@ arrive c x a d = record {
 -- "4 on its way. Lock its own place: took, stage 5, or held. 5. Lock the destination: took, stage 6, or held."
 unfoldable pub travel : State → ℕ → Agent → Outcome
 travel c x a =
-    cond (eqb (a .stage) 4) (take c x (a .home) (atStage a 5 0 0))
-    (cond (eqb (a .stage) 5) (take c x (c .land .place (a .home) .parent) (atStage a 6 0 0))
+    cond (eqb (a .stage) onWay) (take c x (a .home) (atStage a onWayOwn 0 0))
+    (cond (eqb (a .stage) onWayOwn) (take c x (c .land .place (a .home) .parent) (atStage a onWayBoth 0 0))
     (arrive c x a (c .land .place (a .home) .parent)))
 
 -- ---- the step
@@ -245,12 +251,12 @@ travel c x a =
 -- "The agent's stage, a number from 0 to 8, decides the step": agent x, which is a, with its stage and wish
 unfoldable pub stepAt : ℕ → State → ℕ → Agent → ℕ → Outcome
 stepAt stage c x a wish =
-    cond (eqb stage 0) (look c x a)
-    (cond (eqb stage 1) (lockFirst c x a)
-    (cond (eqb stage 2) (hold c x a wish)
-    (cond (eqb stage 3) (act c x a)
-    (cond (leb stage 6) (travel c x a)
-    (cond (eqb stage 7) (still c Asleep)
+    cond (eqb stage looking) (look c x a)
+    (cond (eqb stage found) (lockFirst c x a)
+    (cond (eqb stage holding) (hold c x a wish)
+    (cond (eqb stage holdingBoth) (act c x a)
+    (cond (leb stage onWayBoth) (travel c x a)
+    (cond (eqb stage asleep) (still c Asleep)
     (still c Done))))))
 
 -- one step of agent x

@@ -1,6 +1,6 @@
 -- The step that opens a place: the walk over the agents that are given, and the table after it. Assumes nothing.
 -- Idea: each turn stores one agent and gathers it where it lets a lock go and where it is woken; what is not in use is not walked over.
-use mathlib.Core.Path.{_≡_, refl, ap, _∙_}
+use mathlib.Core.Path.{_≡_, refl, sym, ap, _∙_}
 use mathlib.Core.Bool.{Bool, true, false, _&&_, cond}
 use mathlib.Core.List.{List}
 use Prim.Native.Nat.{ℕ, _<_}
@@ -14,10 +14,9 @@ use Rattle.sets.specs.WalkLaws.{lowestIn}
 use Rattle.sets.specs.declared.Set.{Set}
 use Rattle.table.specs.Base.{tab, upd}
 use Rattle.table.specs.BaseLaws.{tab-ext, getD-tab}
-use Rattle.table.specs.Cell.{none, noPlace, noAgent, cellOf}
+use Rattle.table.specs.Cell.{none, noPlace, noAgent, cellOf, tableOf, putPlaces, putLocks, putAgents, putUsed}
 use Rattle.table.specs.Bounds.{Sized}
-use Rattle.table.specs.CellLaws.{agents-are, given-are}
-use Rattle.table.specs.CellLaws as cells
+use Rattle.table.specs.CellLaws.{agents-are, back}
 use Rattle.table.specs.declared.Place.{Place}
 use Rattle.table.specs.declared.Agent.{Agent}
 use Rattle.table.specs.declared.Cell.{Cell}
@@ -56,7 +55,7 @@ module _ (t : Cell) (p o : ℕ) where
     pub row : Storing noAgent (t .given) was gone (d .agents) rest
     pub held : Gathered (member (t .given)) holds holders rest
     pub slept : Gathered (member (t .given)) wakes sleepers rest
-    pub given : d .given ≡ t .given
+    pub others : d ≡ putAgents t (d .agents)
 
   pub opening-start : Sized t → Opening t emptySet emptySet (t .given)
   unfolding cellOf
@@ -64,7 +63,7 @@ module _ (t : Cell) (p o : ℕ) where
     row = storing-start noAgent (t .given) was gone (z .given) (t .agents) (agents-are t z);
     held = gathered-start (t .given) holds (z .given);
     slept = gathered-start (t .given) wakes (z .given);
-    given = refl;
+    others = refl;
   }
 
   module _ {d : Cell} {holders sleepers rest : Set} (a : Opening d holders sleepers rest) (k : 0 < rest .bits) where
@@ -75,13 +74,13 @@ module _ (t : Cell) (p o : ℕ) where
     pub opening-more : (h s : Bool) (b : Agent)
         → h ≡ (eqb (getD (d .agents) (lowestIn rest) noAgent .home) o && eqb (getD (d .agents) (lowestIn rest) noAgent .stage) 2)
         → s ≡ wokenBy p o (getD (d .agents) (lowestIn rest) noAgent) → b ≡ dissolveAgent p o (getD (d .agents) (lowestIn rest) noAgent)
-        → Opening (record { places = d .places; locks = d .locks; agents = set (d .agents) (lowestIn rest) b; used = d .used; given = d .given })
+        → Opening (putAgents d (set (d .agents) (lowestIn rest) b))
         (insertedIf holders (lowestIn rest) h) (insertedIf sleepers (lowestIn rest) s) (removed rest (lowestIn rest))
     opening-more h s b f g e = record {
       row = storing-more noAgent (t .given) was gone (a .row) k b (e ∙ ap (dissolveAgent p o) at);
       held = gathered-more (a .held) k h (f ∙ ap (λ (c : Agent). eqb (c .home) o && eqb (c .stage) 2) at);
       slept = gathered-more (a .slept) k s (g ∙ ap (wokenBy p o) at);
-      given = a .given;
+      others = ap (λ (u : Cell). putAgents u (set (d .agents) (lowestIn rest) b)) (a .others);
     }
 
   -- two locks released in a table that was made
@@ -116,14 +115,14 @@ module _ (t : Cell) (p o : ℕ) where
         → ms ≡ tab (λ q. cond (member (t .used) q) (cond (member holders (getD (t .locks) q 0)) none (getD (t .locks) q 0)) (getD (t .locks) q 0)) 64 0
         → ls ≡ tab (released (λ q. getD ms q 0) p o) 64 0 → es ≡ tab (upd after x b) 64 0 → b ≡ atStage (useUp a) (restStage (useUp a)) 0 0
         → us ≡ removed (t .used) o → n ≡ countOf 64 (member sleepers)
-        → record { cell = record { places = ps; locks = ls; agents = es; used = us; given = d .given }; answer = Did Opened n }
+        → record { cell = putUsed (putLocks (putPlaces (putAgents d es) ps) ls) us; answer = Did Opened n }
         ≡ made (dissolve (cellOf t) x a p o)
-    unfolding cellOf dissolve
+    unfolding cellOf tableOf dissolve
     opening-end x a b n ps ms ls es us e f g v r u m = did _ Opened n (dissolve (cellOf t) x a p o)
-        (cells.made _ _ e
-        (g ∙ release-tab _ ms (f ∙ tab-ext 0 64 _ _ (λ q _. freed q)))
-        (v ∙ ap (λ (c : Agent). tab (upd after x c) 64 0) r)
-        (ap (λ (s : Set). s .bits) u)
-        (ap (λ (s : Set). s .bits) (w .given) ∙ given-are t z))
+        (λ i. putUsed (putLocks (putPlaces (putAgents ((w .others ∙ ap (λ (c : Cell). putAgents c (d .agents)) (sym (back t z))) i)
+        ((v ∙ ap (λ (c : Agent). tab (upd after x c) 64 0) r) i))
+        (e i))
+        ((g ∙ release-tab _ ms (f ∙ tab-ext 0 64 _ _ (λ q _. freed q))) i))
+        (u i))
         refl
         (m ∙ count-ext 64 _ _ (λ y i. ap (λ (s : Set). member s y) (gathered-end (w .slept) end) ∙ member-among (t .given) (z .given) wakes y))

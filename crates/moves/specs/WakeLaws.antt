@@ -13,10 +13,9 @@ use Rattle.sets.specs.WalkLaws.{rest-end, rest-lt, rest-member, rest-from, rest
 use Rattle.sets.specs.declared.Set.{Set}
 use Rattle.table.specs.Base.{tab, upd}
 use Rattle.table.specs.SweepLaws.{below, sweep-start, sweep-at, sweep-hit, sweep-miss, sweep-skip, sweep-end}
-use Rattle.table.specs.Cell.{noPlace, noAgent, cellOf}
+use Rattle.table.specs.Cell.{noPlace, noAgent, cellOf, tableOf, putPlaces, putLocks, putAgents}
 use Rattle.table.specs.Bounds.{Sized}
-use Rattle.table.specs.CellLaws.{agents-are, used-are, given-are}
-use Rattle.table.specs.CellLaws as cells
+use Rattle.table.specs.CellLaws.{agents-are, back}
 use Rattle.table.specs.declared.Place.{Place}
 use Rattle.table.specs.declared.Agent.{Agent}
 use Rattle.table.specs.declared.Cell.{Cell}
@@ -45,20 +44,14 @@ module _ (t : Cell) (p q r : ℕ) where
   pub record Waking (d : Cell) (found rest : Set) : Type 0 where
     pub walk : Gathered (member (t .given)) (λ y. asleepOn p q r (getD (t .agents) y noAgent)) found rest
     pub agents : d .agents ≡ tab (below noAgent was woken (walk .i)) 64 0
-    pub places : d .places ≡ t .places
-    pub locks : d .locks ≡ t .locks
-    pub used : d .used ≡ t .used
-    pub given : d .given ≡ t .given
+    pub others : d ≡ putAgents t (d .agents)
 
   pub waking-start : Sized t → Waking t emptySet (t .given)
   unfolding cellOf gathered-start
   waking-start z = record {
     walk = gathered-start (t .given) (λ y. asleepOn p q r (getD (t .agents) y noAgent)) (z .given);
     agents = sweep-start noAgent was woken (t .agents) (agents-are t z);
-    places = refl;
-    locks = refl;
-    used = refl;
-    given = refl;
+    others = refl;
   }
 
   -- an agent that is not given stays as it is
@@ -79,17 +72,14 @@ module _ (t : Cell) (p q r : ℕ) where
 
     -- a turn that wakes
     pub waking-hit : asleepOn p q r (getD (d .agents) (lowestIn rest) noAgent) ≡ true
-        → Waking (record { places = d .places; locks = d .locks; agents = set (d .agents) (lowestIn rest) (atStage (getD (d .agents) (lowestIn rest) noAgent) 0 0 0); used = d .used; given = d .given })
+        → Waking (putAgents d (set (d .agents) (lowestIn rest) (atStage (getD (d .agents) (lowestIn rest) noAgent) 0 0 0)))
         (insertedIf found (lowestIn rest) true) (removed rest (lowestIn rest))
     unfolding gathered-more
     waking-hit e = record {
       walk = gathered-more (a .walk) k true (sym e ∙ same);
       agents = sweep-hit noAgent was woken (d .agents) (lowestIn rest) _ (rest-lt (a .walk .left) k)
           (ap (λ (b : Agent). atStage b 0 0 0) at ∙ sym (rw (rest-member (a .walk .left) k, sym same ∙ e))) up;
-      places = a .places;
-      locks = a .locks;
-      used = a .used;
-      given = a .given;
+      others = ap (λ (u : Cell). putAgents u (set (d .agents) (lowestIn rest) (atStage (getD (d .agents) (lowestIn rest) noAgent) 0 0 0))) (a .others);
     }
 
     -- a turn that does not
@@ -98,10 +88,7 @@ module _ (t : Cell) (p q r : ℕ) where
     waking-miss e = record {
       walk = gathered-more (a .walk) k false (sym e ∙ same);
       agents = sweep-miss noAgent was woken (d .agents) (lowestIn rest) (rw (rest-member (a .walk .left) k, sym same ∙ e)) up;
-      places = a .places;
-      locks = a .locks;
-      used = a .used;
-      given = a .given;
+      others = a .others;
     }
 
   -- the table and the answer once the walk is over
@@ -112,15 +99,12 @@ module _ (t : Cell) (p q r : ℕ) where
 
     pub waking-end : (x h : ℕ) (y : Place) (b : Agent) (w : Word) (n : ℕ) (ps : List Place) (ls : List ℕ) (es : List Agent)
         → es ≡ tab (upd woken x b) 64 0 → ps ≡ tab (upd (λ j. getD (d .places) j noPlace) h y) 64 0 → ls ≡ tab (released (λ j. getD (d .locks) j 0) p q) 64 0 → n ≡ countOf 64 (member found)
-        → record { cell = record { places = ps; locks = ls; agents = es; used = d .used; given = d .given }; answer = Did w n }
+        → record { cell = putLocks (putPlaces (putAgents d es) ps) ls; answer = Did w n }
         ≡ made (movePlace (cellOf t) x h y p q r b w)
-    unfolding cellOf movePlace wake
+    unfolding cellOf tableOf movePlace wake
     waking-end x h y b w n ps ls es k f g m = did _ w n (movePlace (cellOf t) x h y p q r b w)
-        (cells.made _ _
-        (f ∙ ap (λ (s : List Place). tab (upd (λ j. getD s j noPlace) h y) 64 0) (a .places))
-        (g ∙ ap (λ (s : List ℕ). tab (released (λ j. getD s j 0) p q) 64 0) (a .locks))
-        k
-        (ap (λ (s : Set). s .bits) (a .used) ∙ used-are t z)
-        (ap (λ (s : Set). s .bits) (a .given) ∙ given-are t z))
+        (λ i. putLocks (putPlaces (putAgents ((a .others ∙ ap (λ (u : Cell). putAgents u (d .agents)) (sym (back t z))) i) (k i))
+        ((f ∙ ap (λ (u : Cell). tab (upd (λ j. getD (u .places) j noPlace) h y) 64 0) (a .others)) i))
+        ((g ∙ ap (λ (u : Cell). tab (released (λ j. getD (u .locks) j 0) p q) 64 0) (a .others)) i))
         refl
         (m ∙ count-ext 64 _ _ (λ j i. ap (λ (s : Set). member s j) (gathered-end (a .walk) e) ∙ member-set (λ y. member (t .given) y && sleeps y) j i))

@@ -1,1 +1,2 @@
+pub mod KnownSets
 pub mod LoadLaws

@@ -6,7 +6,7 @@ use mathlib.Core.List.{List}
 use mathlib.Core.Logic.{_≢_, _⊎_, inl, inr}
 use Prim.Native.Nat.{ℕ, zero, suc, _+_, _%_, _<_, _≤_}
 use native.Mathlib.Omega.{arith}
-use lib.Dec.{ltb, leb, eqb, lit<}
+use lib.Dec.{ltb, leb, eqb}
 use lib.ListN.{length, getD, set}
 use borrow.Author.Tests.{eq-eqb, ne-eqb, lt-ltb, le-ltb, le-leb, lt-leb, ltb-true, ltb-false, leb-false}
 use Rattle.sets.specs.Word.{wordOf}
@@ -15,17 +15,18 @@ use Rattle.sets.specs.SetLaws.{set-eq, member-set, set-ext}
 use Rattle.sets.specs.declared.Set.{Set}
 use Rattle.table.specs.Base.{upd, tab}
 use Rattle.table.specs.BaseLaws.{eq?, upd-at, upd-other, getD-tab, set-tab}
-use Rattle.table.specs.Cell.{State, noPlace, noAgent, bareTable, cellOf, tableOf}
-use Rattle.table.specs.Bounds.{Sized}
-use Rattle.table.specs.CellLaws.{table-eq, back}
+use Rattle.table.specs.Cell.{State, noPlace, noAgent, bareTable, cellOf, tableOf, putPlaces, putAgents, putUsed, putGiven}
+use Rattle.table.specs.CellLaws.{back, sized-bare}
 use Rattle.table.specs.declared.Place.{Place}
 use Rattle.table.specs.declared.Agent.{Agent}
 use Rattle.table.specs.declared.Cell.{Cell}
+use Rattle.meaning.specs.Refusals.{cutShort, afterEnd}
 use Rattle.meaning.specs.declared.Record.{Record}
 use Rattle.meaning.specs.declared.Record.the-variants.{PlaceRecord, AgentRecord, ActionRecord, EndRecord, Faulty}
 use Rattle.meaning.specs.declared.Verdict.the-variants.{Accepted, Rejected}
 use Rattle.meaning.specs.Update.{linkedPlace, withHome}
-use Rattle.meaning.specs.File.{recordAt, addPlace, withAction, addAgent, addAction, isFull, accepted, refused, loadRecord, loadFrom, load, loaded, loadOf}
+use Rattle.meaning.specs.File.{recordAt, addPlace, withAction, addAgent, addAction, isFull, knownIn, accepted, refused, loadRecord, loadFrom, load, loaded, loadOf}
+use Rattle.reader.specs.KnownSets.{knownBy}
 use Rattle.meaning.specs.FileLaws.{Fits, place, agent, action, end, record-fits, record-same}
 
 -- ---- the load from an offset on
@@ -38,10 +39,6 @@ pub record Rest (s : List ℕ) (at : ℕ) (d : Cell) (full : Set) : Type 0 where
   pub filled : full ≡ setOf (isFull cell)
   pub enough : length s < turns + at
   pub rest : loadFrom turns cell s at ≡ load s
-
-sized-bare : Sized bareTable
-unfolding bareTable
-sized-bare = record { places = refl; locks = refl; agents = refl; used = lit< tt; given = lit< tt }
 
 -- no row of the bare floor is full
 none-full : 0 ≡ setOf (isFull (cellOf bareTable)) .bits
@@ -77,22 +74,22 @@ module _ (s : List ℕ) (at : ℕ) (d : Cell) (full : Set) (r : Rest s at d full
 
   -- x is the record that the program reads
   abbrev Reads : Record → Type 0
-  Reads x = x ≡ recordAt (member (d .used)) (member (d .given)) (member full) s at
+  Reads x = x ≡ recordAt (knownBy (d .used) (d .given) full) s at
 
   -- it is the definition's
-  read : recordAt (member (d .used)) (member (d .given)) (member full) s at ≡ recordAt (c .land .used) (c .given) (isFull c) s at
-  read = record-same _ _ _ _ _ _ used-at given-at full-at s at
+  read : recordAt (knownBy (d .used) (d .given) full) s at ≡ recordAt (knownIn c) s at
+  read = record-same (knownBy (d .used) (d .given) full) (knownIn c) used-at given-at full-at s at
 
-  fits : {x : Record} → Reads x → Fits (member (d .used)) (member (d .given)) (member full) x
-  fits q = subst (Fits (member (d .used)) (member (d .given)) (member full)) (sym q) (record-fits (member (d .used)) (member (d .given)) (member full) s at)
+  fits : {x : Record} → Reads x → Fits (knownBy (d .used) (d .given) full) x
+  fits q = subst (Fits (knownBy (d .used) (d .given) full)) (sym q) (record-fits (knownBy (d .used) (d .given) full) s at)
 
   -- ---- the end of the file
 
-  pub short : length s ≤ at → refused 1 (length s) ≡ load s
+  pub short : length s ≤ at → refused cutShort (length s) ≡ load s
   unfolding loadFrom
   short l = go (r .turns) refl
     where
-      go : (k : ℕ) → r .turns ≡ k → refused 1 (length s) ≡ load s
+      go : (k : ℕ) → r .turns ≡ k → refused cutShort (length s) ≡ load s
       go zero e = sym (ap (λ (n : ℕ). loadFrom n c s at) e) ∙ r .rest
       go (suc k) e = sym (ap (λ (n : ℕ). loadFrom n c s at) e ∙ rw (le-ltb at (length s) l)) ∙ r .rest
 
@@ -113,7 +110,7 @@ module _ (s : List ℕ) (at : ℕ) (d : Cell) (full : Set) (r : Rest s at d full
     unfolding loadRecord
     stopped n q = turn-is (Faulty n) q
 
-    pub past-end : Reads EndRecord → at + 1 < length s → refused 9 (at + 1) ≡ load s
+    pub past-end : Reads EndRecord → at + 1 < length s → refused afterEnd (at + 1) ≡ load s
     unfolding loadRecord
     past-end q l = sym (rw (lt-ltb (at + 1) (length s) l)) ∙ turn-is EndRecord q
 
@@ -147,18 +144,17 @@ module _ (s : List ℕ) (at : ℕ) (d : Cell) (full : Set) (r : Rest s at d full
 
     -- the table with one place more
     abbrev newPlace : ℕ → ℕ → ℕ → Set → Cell
-    newPlace p m i u = record { places = set (d .places) i (linkedPlace m p); locks = d .locks; agents = d .agents; used = u; given = d .given }
+    newPlace p m i u = putUsed (putPlaces d (set (d .places) i (linkedPlace m p))) u
 
     pub rest-place : (n p m i : ℕ) (u : Set) → Reads (PlaceRecord n p m) → i ≡ n % 64 → u ≡ inserted (d .used) n → Rest s (at + 5) (newPlace p m i u) full
     unfolding tableOf addPlace loadRecord
     rest-place n p m i u q e f = go (fits q)
       where
-        go : Fits (member (d .used)) (member (d .given)) (member full) (PlaceRecord n p m) → Rest s (at + 5) (newPlace p m i u) full
+        go : Fits (knownBy (d .used) (d .given) full) (PlaceRecord n p m) → Rest s (at + 5) (newPlace p m i u) full
         go (place one l under new known named) = record {
           cell = addPlace c n p m;
           turns = more .0;
-          is = table-eq (place-put n i l e _) (ap (λ (t : Cell). t .locks) (r .is)) (ap (λ (t : Cell). t .agents) (r .is))
-              (one-more (c .land .used) (d .used) u n used-at f) (ap (λ (t : Cell). t .given .bits) (r .is));
+          is = λ j. putUsed (putPlaces (r .is j) (place-put n i l e (linkedPlace m p) j)) (record { bits = one-more (c .land .used) (d .used) u n used-at f j });
           filled = r .filled;
           enough = omega (arith, r .enough, more .1);
           rest = turn-is (PlaceRecord n p m) q;
@@ -176,20 +172,20 @@ module _ (s : List ℕ) (at : ℕ) (d : Cell) (full : Set) (r : Rest s at d full
 
     -- the table with one agent changed
     abbrev newAgent : ℕ → Agent → Set → Cell
-    newAgent i a u = record { places = d .places; locks = d .locks; agents = set (d .agents) i a; used = d .used; given = u }
+    newAgent i a u = putGiven (putAgents d (set (d .agents) i a)) u
 
     pub rest-agent : (n h i : ℕ) (a : Agent) (u : Set) → Reads (AgentRecord n h) → i ≡ n % 64 → a ≡ withHome (getD (d .agents) i noAgent) h
         → u ≡ inserted (d .given) n → Rest s (at + 3) (newAgent i a u) full
     unfolding tableOf addAgent loadRecord
     rest-agent n h i a u q e b f = go (fits q)
       where
-        go : Fits (member (d .used)) (member (d .given)) (member full) (AgentRecord n h) → Rest s (at + 3) (newAgent i a u) full
+        go : Fits (knownBy (d .used) (d .given) full) (AgentRecord n h) → Rest s (at + 3) (newAgent i a u) full
         go (agent l under new known) = record {
           cell = addAgent c n h;
           turns = more .0;
-          is = table-eq (ap (λ (t : Cell). t .places) (r .is)) (ap (λ (t : Cell). t .locks) (r .is))
-              (ap (set (d .agents) i) (b ∙ ap (λ (x : Agent). withHome x h) (agent-at n i l e)) ∙ agent-put n i l e (withHome (c .agent n) h))
-              (ap (λ (t : Cell). t .used .bits) (r .is)) (one-more (c .given) (d .given) u n given-at f);
+          is = λ j. putGiven (putAgents (r .is j)
+              ((ap (set (d .agents) i) (b ∙ ap (λ (x : Agent). withHome x h) (agent-at n i l e)) ∙ agent-put n i l e (withHome (c .agent n) h)) j))
+              (record { bits = one-more (c .given) (d .given) u n given-at f j });
           filled = r .filled ∙ set-ext _ _ (λ j k. home-full n h j);
           enough = omega (arith, r .enough, more .1);
           rest = turn-is (AgentRecord n h) q;
@@ -201,7 +197,7 @@ module _ (s : List ℕ) (at : ℕ) (d : Cell) (full : Set) (r : Rest s at d full
       low-room : (n < 64) × (isFull c n ≡ false)
       low-room = go (fits q)
         where
-          go : Fits (member (d .used)) (member (d .given)) (member full) (ActionRecord n k m) → (n < 64) × (isFull c n ≡ false)
+          go : Fits (knownBy (d .used) (d .given) full) (ActionRecord n k m) → (n < 64) × (isFull c n ≡ false)
           go (action l known room one three named) = (l, sym (full-at n l) ∙ room)
 
       abbrev l : n < 64
@@ -236,9 +232,7 @@ module _ (s : List ℕ) (at : ℕ) (d : Cell) (full : Set) (r : Rest s at d full
       rest-action a f b h = record {
         cell = addAction c n k m;
         turns = more .0;
-        is = table-eq (ap (λ (t : Cell). t .places) (r .is)) (ap (λ (t : Cell). t .locks) (r .is))
-            (ap (set (d .agents) i) new ∙ agent-put n i l e (withAction (c .agent n) k m))
-            (ap (λ (t : Cell). t .used .bits) (r .is)) (ap (λ (t : Cell). t .given .bits) (r .is));
+        is = λ j. putAgents (r .is j) ((ap (set (d .agents) i) new ∙ agent-put n i l e (withAction (c .agent n) k m)) j);
         filled = h ∙ filled-now (ltb 15 (a .count)) (ap (λ (x : Agent). ltb 15 (x .count)) new);
         enough = omega (arith, r .enough, more .1);
         rest = turn-is (ActionRecord n k m) q;

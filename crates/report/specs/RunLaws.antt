@@ -15,8 +15,8 @@ use Rattle.table.specs.Cell.{cellOf}
 use Rattle.table.specs.declared.Cell.{Cell}
 use Rattle.meaning.specs.declared.Stepped.{Stepped}
 use Rattle.meaning.specs.Text.{ascii}
-use Rattle.meaning.specs.Run.{Call, stepOf}
-use Rattle.meaning.specs.Report.{stepLine, listingLine, callsIn, reportRun}
+use Rattle.meaning.specs.Run.{stepOf}
+use Rattle.meaning.specs.Report.{Pair, stepLine, listingLine, callsIn, reportRun}
 use Rattle.text.specs.Wrote.{Wrote, least}
 use Rattle.text.specs.TextLaws.{wrote-as}
 
@@ -35,7 +35,7 @@ one-at-most (x ∷ []) (suc limit) l = refl
 one-at-most (x ∷ y ∷ s) (suc limit) l = absurd (not-suc-le-zero (le-of-suc-le-suc l))
 
 -- the calls from pair i on
-abbrev pub callsFrom : List ℕ → ℕ → List Call
+abbrev pub callsFrom : List ℕ → ℕ → List Pair
 callsFrom order i = callsIn (16384 - i) (drop (2 * i) order)
 
 -- while a pair is left, it is the next call
@@ -87,7 +87,7 @@ left-more {whole} {order} {before} {after} {d} {i} {at} l low room z e {last} {t
   wrote = w;
   rest = append-assoc (l .text) _ _
       ∙ ap (λ (y : Stepped). l .text ++ (stepLine (getD order (2 * i) 0) (y .answer) ++ reportRun (y .cell) (callsFrom order (i + 1)))) e
-      ∙ ap (λ (calls : List Call). l .text ++ reportRun d calls) (sym (calls-more order i low room)) ∙ l .rest;
+      ∙ ap (λ (calls : List Pair). l .text ++ reportRun d calls) (sym (calls-more order i low room)) ∙ l .rest;
 }
 
 -- no call more: the last line is what is left
@@ -95,4 +95,4 @@ pub left-none : {whole order before after : List ℕ} {d : Cell} {i at : ℕ} �
     → {last : List ℕ} {to : ℕ} → Wrote (l .text ++ listingLine (ascii "end") (cellOf d)) before last to → Wrote whole before last to
 unfolding reportRun tab
 left-none {whole} {order} {before} {after} {d} {i} {at} l done w =
-    wrote-as (sym (ap (λ (calls : List Call). l .text ++ reportRun d calls) (calls-none order i done)) ∙ l .rest) w
+    wrote-as (sym (ap (λ (calls : List Pair). l .text ++ reportRun d calls) (calls-none order i done)) ∙ l .rest) w

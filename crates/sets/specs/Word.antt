@@ -27,11 +27,6 @@ unfoldable pub lowestOf : ℕ → (ℕ → Bool) → ℕ
 lowestOf zero f = 0
 lowestOf (suc n) f = cond (f 0) 0 (suc (lowestOf n (λ i. f (suc i))))
 
--- the wished number where it is a member, else the lowest member, else 64
-unfoldable pub chosenOf : (ℕ → Bool) → ℕ → ℕ
-unfolding lowestOf
-chosenOf f w = cond (f w) w (lowestOf 64 f)
-
 -- the members below n
 abbrev pub upto : ℕ → (ℕ → Bool) → ℕ → Bool
 upto n f j = ltb j n && f j

@@ -1,6 +1,6 @@
 // A set of numbers below 64, one bit of a word for each.
 ghost use mathlib.Core.Path.{_≡_};
-ghost use Rattle.sets.specs.Word.{countOf, lowestOf, chosenOf};
+ghost use Rattle.sets.specs.Word.{countOf, lowestOf};
 ghost use Rattle.sets.specs.Set.{member, inserted, insertedIf, removed, united};
 
 #[repr(C)]
@@ -101,12 +101,5 @@ impl Set {
                 bits: self.bits & (self.bits - 1),
             }
         }
-    }
-
-    // The member w, or else the lowest member, or 64 where there is none.
-    pub fn choose(self, w: u8) -> u8
-        ensures { λ r. ⌜ r ≡ chosenOf (member self) w ⌝ }
-    {
-        if self.has(w) { w } else { self.first() }
     }
 }

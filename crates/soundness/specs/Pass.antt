@@ -8,8 +8,9 @@ use lib.ListN.{getD}
 use Rattle.sets.specs.Set.{member}
 use Rattle.sets.specs.declared.Set.{Set}
 use Rattle.table.specs.Base.{allBelow, tab}
-use Rattle.table.specs.Cell.{none, noPlace, hasAction}
-use Rattle.table.specs.Sound.{ready, stageFits}
+use Rattle.table.specs.Cell.{none, noPlace, noAction, hasAction, looking, found, asleep, done}
+use Rattle.table.specs.Sound.{actionFits, ready, stageFits}
+use Rattle.table.specs.declared.Action.{Action}
 use Rattle.table.specs.declared.Agent.{Agent}
 use Rattle.table.specs.declared.Place.{Place}
 
@@ -19,14 +20,21 @@ use Rattle.table.specs.declared.Place.{Place}
 abbrev pub Known : Bool → ℕ → ℕ → Type 0
 Known fit m n = fit ≡ true → m ≡ n
 
+-- all sixteen actions of a row are in range
+unfoldable pub sixteenFit : List Action → Bool
+sixteenFit row = allBelow (λ j. actionFits (getD row j noAction)) 16
+
 -- the stages at which an agent holds no lock and is not on its way
 unfoldable pub quiet : ℕ → Bool
-quiet s = leb s 1 || leb 7 s
+quiet s = leb s found || leb asleep s
 
 -- what such a stage asks
 unfoldable pub quietFits : ℕ → Bool → Bool → Bool → ℕ → Bool
 quietFits s some known same kind =
-    cond (eqb s 0) some (cond (eqb s 1) (ready some known same kind) (cond (eqb s 7) (some && known) (cond (eqb s 8) (not some) false)))
+    cond (eqb s looking) some
+    (cond (eqb s found) (ready some known same kind)
+    (cond (eqb s asleep) (some && known)
+    (cond (eqb s done) (not some) false)))
 
 -- the lock of q is x's, if q is any
 unfoldable pub lockIsAt : Bool → ℕ → ℕ → ℕ → Bool

@@ -21,7 +21,7 @@ use Rattle.table.specs.BaseLaws.{Told, yea, nay, told, and-left, and-right, all
 use Rattle.table.specs.TestLaws.{Tested, tested-start, tested-end, tested-stop, tested-more}
 use Rattle.table.specs.Cell.{none, noAgent, State, cellOf}
 use Rattle.table.specs.Bounds.{Sized}
-use Rattle.table.specs.Sound.{firstHeld, secondHeldIn, agentFits, agentSound, goingFrom, claims, goes, stands, travellersFit, placeFits, placeSound, leads, sound}
+use Rattle.table.specs.Sound.{firstHeld, secondHeldIn, agentFits, agentSound, goingFrom, claims, goes, stands, travellersFit, placeFits, placeSound, leads, coreSound}
 use Rattle.soundness.specs.Pass.{quiet}
 use Rattle.soundness.specs.AgentLaws.{quiet-first, quiet-second, quiet-from, from-home}
 use Rattle.table.specs.declared.Agent.{Agent}
@@ -100,8 +100,8 @@ module _ (c : Cell) (z : Sized c) (claimed going rest : Set) (p : Passed c claim
     sound-at = rw given-x
 
     -- an agent that does not fit
-    pub passed-stop : agentFits (cellOf c) (lowestIn rest) (getD (c .agents) (lowestIn rest) noAgent) ≡ false → false ≡ sound (cellOf c)
-    unfolding sound
+    pub passed-stop : agentFits (cellOf c) (lowestIn rest) (getD (c .agents) (lowestIn rest) noAgent) ≡ false → false ≡ coreSound (cellOf c)
+    unfolding coreSound
     passed-stop e = sym (never (w .land .used 0) (allBelow (agentSound w) 64) _ (tested-stop (has (c .given .bits)) (agentSound w) not-given (p .tested) k (sound-at ∙ e)))
       where
         never : (b d f : Bool) → d ≡ false → (b && (d && f)) ≡ false
@@ -127,9 +127,9 @@ module _ (c : Cell) (z : Sized c) (claimed going rest : Set) (p : Passed c claim
           let both : countBelow (goes w m) (suc x) ≡ 2 = ap₂ (λ (n : ℕ) (b : Bool). n + bit b) one (goes-x m ∙ eq-eqb m m refl) in
           subst (λ (n : ℕ). n ≤ countBelow (goes w m) 64) both (count-le (goes w m) (suc x) 64 x-lt)
 
-      module _ (s : sound w ≡ true) where
+      module _ (s : coreSound w ≡ true) where
         rest-of : (allBelow (agentSound w) 64 && (allBelow (placeSound w) 64 && allBelow (leads w) 64)) ≡ true
-        unfolding sound
+        unfolding coreSound
         rest-of = and-right (w .land .used 0) _ s
 
         fits : agentFits w x a ≡ true
@@ -164,10 +164,10 @@ module _ (c : Cell) (z : Sized c) (claimed going rest : Set) (p : Passed c claim
             most false true = lit≤ tt
             most false false = lit≤ tt
 
-      pub passed-twice : false ≡ sound (cellOf c)
-      passed-twice = go (told (sound w))
+      pub passed-twice : false ≡ coreSound (cellOf c)
+      passed-twice = go (told (coreSound w))
         where
-          go : Told (sound w) → false ≡ sound w
+          go : Told (coreSound w) → false ≡ coreSound w
           go (nay s) = sym s
           go (yea s) = absurd (let h = one-only s in let l = two in omega arith)
 

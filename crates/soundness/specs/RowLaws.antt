@@ -1,14 +1,16 @@
 -- An agent's row of actions, read from the next one to the last. Assumes nothing.
 -- Idea: before next and from count on nothing is asked of an action.
-use mathlib.Core.Path.{_≡_, sym, ap, _∙_}
-use mathlib.Core.Bool.{Bool, true, false, _&&_}
+use mathlib.Core.Path.{_≡_, refl, sym, ap, _∙_}
+use mathlib.Core.Bool.{Bool, true, false, _&&_, cond}
 use Prim.Native.Nat.{ℕ, _+_, _≤_, _<_}
 use native.Mathlib.Nat.{le-trans}
 use native.Mathlib.Omega.{arith}
+use lib.Dec.{ltb}
 use lib.ListN.{getD}
 use borrow.Author.Tests.{lt-ltb, le-ltb, le-leb, lt-leb}
 use Rattle.table.specs.Base.{allBelow}
-use Rattle.table.specs.BaseLaws.{all-yes, all-no, all-more, all-rest}
+use Rattle.table.specs.BaseLaws.{all-yes, all-no, all-at, all-more, all-rest}
+use Rattle.soundness.specs.Pass.{sixteenFit}
 use Rattle.table.specs.Cell.{noAction, nextAction, kindOf}
 use Rattle.table.specs.Sound.{actionFits, actionAt, actionsFit}
 use Rattle.table.specs.declared.Action.{Action}
@@ -59,3 +61,16 @@ module _ (a : Agent) (n : a .next ≤ a .count) (m : a .count ≤ 16) where
   row-end j g h b =
       let e : j ≡ a .count = omega arith in
       sym (row-is ∙ sym (all-rest (actionAt a) (a .count) 16 m (λ k l _. rw (le-ltb k (a .next) (le-trans n l), le-ltb k (a .count) l))) ∙ sym (ap (allBelow (actionAt a)) e) ∙ b)
+
+  -- a row of which all sixteen are in range
+  pub row-full : sixteenFit (a .actions) ≡ true → true ≡ actionsFit a
+  unfolding sixteenFit
+  row-full e = sym (row-is ∙ all-yes (actionAt a) 16 (λ j l. fits j (all-at (λ i. actionFits (getD (a .actions) i noAction)) 16 j l e)))
+    where
+      both : (b c : Bool) → cond b true (cond c true true) ≡ true
+      both true c = refl
+      both false true = refl
+      both false false = refl
+
+      fits : (j : ℕ) → actionFits (getD (a .actions) j noAction) ≡ true → actionAt a j ≡ true
+      fits j h = ap (λ (b : Bool). cond (ltb j (a .next)) true (cond (ltb j (a .count)) b true)) h ∙ both (ltb j (a .next)) (ltb j (a .count))

@@ -17,7 +17,7 @@ use Rattle.table.specs.BaseLaws.{Told, yea, nay, told, and-left, and-right, and
 use Rattle.table.specs.Cell.{none, noPlace, State, cellOf}
 use Rattle.table.specs.Bounds.{Sized}
 use Rattle.table.specs.CellLaws.{in-use}
-use Rattle.table.specs.Sound.{claims, goes, stands, travellersFit, placeFits, placeSound, leads, sound}
+use Rattle.table.specs.Sound.{claims, goes, stands, travellersFit, placeFits, placeSound, leads, coreSound}
 use Rattle.soundness.specs.Pass.{parentsOf, farUp, zerosOf, floorStands, floorFits, childStands, childFits, childTest, childAt, childrenFit, landsFit}
 use Rattle.soundness.specs.LeadLaws.{lead-same}
 use Rattle.soundness.specs.PassLaws.{Passed, passed-fit, passed-held, passed-moved}
@@ -115,8 +115,8 @@ module _ (c : Cell) (z : Sized c) where
         others q l n = unfold cellOf in rw (ne-eqb q 0 n) (cond-cong (u q) _ _ true (λ e. child-same q l n))
 
   -- the whole, once nobody is left
-  pub lands-same : (claimed going rest : Set) → Passed c claimed going rest → rest .bits ≡ 0 → landsFit (c .places) (c .locks) (c .used) claimed going ≡ sound (cellOf c)
-  unfolding landsFit childrenFit sound cellOf
+  pub lands-same : (claimed going rest : Set) → Passed c claimed going rest → rest .bits ≡ 0 → landsFit (c .places) (c .locks) (c .used) claimed going ≡ coreSound (cellOf c)
+  unfolding landsFit childrenFit coreSound cellOf
   lands-same claimed going rest p e =
       let held = passed-held c z claimed going rest p e in
       let moved = passed-moved c z claimed going rest p e in

@@ -1,13 +1,16 @@
 // What soundness asks of one agent.
+use super::lands::joined;
 use sets::Set;
+use table::Action;
 use table::Agent;
 use table::Place;
 ghost use mathlib.Core.Path.{_≡_};
 ghost use mathlib.Core.Bool.{_&&_};
+ghost use lib.Dec.{eqb};
 ghost use Rattle.sets.specs.Word.{has};
 ghost use Rattle.table.specs.Cell.{kindOf};
-ghost use Rattle.table.specs.Sound.{actionsFit, stageFits, firstHeld, secondHeld, goingFrom, ready, holdsBoth};
-ghost use Rattle.soundness.specs.Pass.{Known, quiet, quietFits, lockIsAt, linkedAt, busyFits};
+ghost use Rattle.table.specs.Sound.{actionFits, actionsFit, stageFits, firstHeld, secondHeld, goingFrom, ready, holdsBoth};
+ghost use Rattle.soundness.specs.Pass.{Known, sixteenFit, quiet, quietFits, lockIsAt, linkedAt, busyFits};
 
 // ---- actions
 
@@ -21,6 +24,41 @@ const OUT_OF_RANGE: Row = Row {
     fit: false,
     kind: 0,
 };
+
+// A number that is 0 only where the action is in range.
+fn fault(x: Action) -> u8
+    ensures { λ r. ⌜ eqb r 0 ≡ actionFits x ⌝ }
+{
+    if x.kind < 1 {
+        return 1;
+    }
+    if x.kind > 3 {
+        return 1;
+    }
+    if x.name < 1 { 1 } else { 0 }
+}
+
+// Whether all sixteen actions of a row are in range. No early exit: the compiler tests several at once.
+fn all_sixteen(row: [Action; 16]) -> bool
+    ensures { λ r. ⌜ r ≡ sixteenFit row ⌝ }
+{
+    let mut bad: u8 = 0;
+    let mut j: usize = 0;
+    while j < 16 {
+        let x = row[j];
+        let f = fault(x);
+        bad = joined(bad, f);
+        j += 1;
+    }
+    bad == 0
+}
+
+// Whether a row is full and all its actions are in range.
+fn all_fit(count: u8, row: [Action; 16]) -> bool
+    ensures { λ r. ⌜ r ≡ (eqb count 16 && sixteenFit row) ⌝ }
+{
+    if count == 16 { all_sixteen(row) } else { false }
+}
 
 // Whether the unused actions are in range, and the kind of the next one, or 0 where none is left.
 pub(super) fn row_of(a: Agent) -> Row
@@ -38,6 +76,13 @@ pub(super) fn row_of(a: Agent) -> Row
     }
     let first = a.next as usize;
     let kind = a.actions[first].kind;
+    let row = a.actions;
+    if all_fit(a.count, row) {
+        return Row {
+            fit: true,
+            kind: kind,
+        };
+    }
     let mut j: u8 = a.next;
     while j < a.count {
         let k = j as usize;

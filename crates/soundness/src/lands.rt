@@ -73,7 +73,7 @@ fn child_stands(x: Place, known: bool, going: bool) -> bool
 }
 
 // A number that is 0 only where both are.
-fn joined(a: u8, b: u8) -> u8
+pub(super) fn joined(a: u8, b: u8) -> u8
     ensures { λ r. ⌜ eqb r 0 ≡ (eqb b 0 && eqb a 0) ⌝ }
 {
     a | b

@@ -4,7 +4,7 @@ use mathlib.Core.Path.{_≡_, refl}
 use mathlib.Core.Bool.{Bool, true, false, cond}
 use Prim.Native.Nat.{ℕ}
 use lib.Dec.{ltb, leb, eqb}
-use Rattle.table.specs.Cell.{State, linked, kindOf}
+use Rattle.table.specs.Cell.{State, linked, kindOf, openKind, looksHome}
 use Rattle.table.specs.declared.Agent.{Agent}
 use Rattle.meaning.specs.Step.{Outcome, choice, stays, fires, look, lockFirst, lockSecond, hold, act, travel, stepAt}
 use Rattle.stages.specs.declared.Change.{Change}
@@ -18,7 +18,7 @@ module _ (c : State) (x : ℕ) (a : Agent) where
 
   looked : carried c x a (looks (c .land) a) ≡ look c x a
   unfolding looks look
-  looked = either (eqb (kindOf a) 3) _ _ _ _ refl (either (linked (c .land) (a .home)) _ _ _ _ refl refl)
+  looked = either (looksHome (kindOf a)) _ _ _ _ refl (either (linked (c .land) (a .home)) _ _ _ _ refl refl)
 
   second-locked : (q : ℕ) → carried c x a (locksSecond a q) ≡ lockSecond c x a q
   unfolding locksSecond lockSecond
@@ -30,7 +30,7 @@ module _ (c : State) (x : ℕ) (a : Agent) where
 
   acted : carried c x a (acts (c .land) a) ≡ act c x a
   unfolding acts act
-  acted = either (fires (c .land) a) _ _ _ _ (either (eqb (kindOf a) 3) _ _ _ _ refl refl) refl
+  acted = either (fires (c .land) a) _ _ _ _ (either (eqb (kindOf a) openKind) _ _ _ _ refl refl) refl
 
   travelled : carried c x a (travels (c .land) a) ≡ travel c x a
   unfolding travels travel

@@ -2,30 +2,22 @@
 -- the steps of the meaning (ChangeLaws).
 use Prim.Native.Nat.{ℕ}
 use mathlib.Core.Bool.{Bool, _&&_, cond}
-use mathlib.Core.List.{List}
 use lib.Dec.{ltb, leb, eqb}
-use lib.ListN.{getD}
-use Rattle.sets.specs.Set.{member}
-use Rattle.sets.specs.declared.Set.{Set}
-use Rattle.table.specs.Cell.{Land, State, noPlace, linked, linkedTo, kindOf}
+use Rattle.table.specs.Cell.{Land, State, linked, linkedTo, kindOf, exitKind, openKind, looksHome}
+use Rattle.table.specs.Cell.{looking, found, holding, holdingBoth, onWay, onWayOwn, onWayBoth, asleep}
 use Rattle.table.specs.Sound.{secondPlace}
-use Rattle.table.specs.declared.Place.{Place}
 use Rattle.table.specs.declared.Agent.{Agent}
 use Rattle.meaning.specs.declared.Word.the-variants.{Looked, Back, Slept, Asleep, Done}
 use Rattle.meaning.specs.Update.{atStage}
-use Rattle.meaning.specs.Step.{Outcome, named, choice, stays, fires, destinationOf, still, turn, take, release}
+use Rattle.meaning.specs.Step.{Outcome, choice, stays, fires, destinationOf, still, turn, take, release}
 use Rattle.moves.specs.Motions.{shifted}
 use Rattle.moves.specs.declared.Motion.the-variants.{Leave, Arrive, Dissolve}
 use Rattle.stages.specs.declared.Change.{Change}
 use Rattle.stages.specs.declared.Change.the-variants.{Still, Turn, Take, Release, Move}
 
--- the land of a table's places and the set of those in use
-abbrev pub landOf : List Place → Set → Land
-landOf ps used = record { place = λ q. getD ps q noPlace; used = member used }
-
 -- q is a place linked to p and named n
 abbrev pub childNamed : Land → ℕ → ℕ → ℕ → Bool
-childNamed l p n q = linkedTo l q p && named l q n
+childNamed l p n q = linkedTo l q p && eqb (l .place q .name) n
 
 -- what a change of agent x, which is a, makes of a cell
 abbrev pub carried : State → ℕ → Agent → Change → Outcome
@@ -40,47 +32,47 @@ carried c x a (Move m) = shifted c x a m
 -- stage 0, looking
 unfoldable pub looks : Land → Agent → Change
 looks l a =
-    cond (eqb (kindOf a) 3) (Turn 1 (a .home) Looked)
-    (cond (linked l (a .home)) (Turn 1 (l .place (a .home) .parent) Looked)
-    (Turn 7 (a .home) Slept))
+    cond (looksHome (kindOf a)) (Turn found (a .home) Looked)
+    (cond (linked l (a .home)) (Turn found (l .place (a .home) .parent) Looked)
+    (Turn asleep (a .home) Slept))
 
 -- stage 1, found
 abbrev pub locksFirst : Agent → Change
-locksFirst a = Take (a .remembered) 2 (a .remembered) 0
+locksFirst a = Take (a .remembered) holding (a .remembered) 0
 
 -- stage 2, holding p, with the choice q
 unfoldable pub locksSecond : Agent → ℕ → Change
 locksSecond a q =
-    cond (ltb q 64) (Take (secondPlace (kindOf a) (a .home) q) 3 (a .remembered) (cond (eqb (kindOf a) 2) 0 q))
-    (Release (a .remembered) (a .remembered) 7 (a .remembered) Slept)
+    cond (ltb q 64) (Take (secondPlace (kindOf a) (a .home) q) holdingBoth (a .remembered) (cond (eqb (kindOf a) exitKind) 0 q))
+    (Release (a .remembered) (a .remembered) asleep (a .remembered) Slept)
 
 -- stage 2, holding p
 unfoldable pub holds : Land → Agent → ℕ → Change
-holds l a wish = cond (stays l a) (locksSecond a (choice l a wish)) (Release (a .remembered) (a .remembered) 0 0 Back)
+holds l a wish = cond (stays l a) (locksSecond a (choice l a wish)) (Release (a .remembered) (a .remembered) looking 0 Back)
 
 -- stage 3, holding both
 unfoldable pub acts : Land → Agent → Change
 acts l a =
-    cond (fires l a) (cond (eqb (kindOf a) 3) (Move Dissolve) (Move (Leave (destinationOf l a))))
-    (Release (a .remembered) (secondPlace (kindOf a) (a .home) (a .chosen)) 0 0 Back)
+    cond (fires l a) (cond (eqb (kindOf a) openKind) (Move Dissolve) (Move (Leave (destinationOf l a))))
+    (Release (a .remembered) (secondPlace (kindOf a) (a .home) (a .chosen)) looking 0 Back)
 
 -- stages 4 to 6, on its way
 unfoldable pub travels : Land → Agent → Change
 travels l a =
-    cond (eqb (a .stage) 4) (Take (a .home) 5 0 0)
-    (cond (eqb (a .stage) 5) (Take (l .place (a .home) .parent) 6 0 0)
+    cond (eqb (a .stage) onWay) (Take (a .home) onWayOwn 0 0)
+    (cond (eqb (a .stage) onWayOwn) (Take (l .place (a .home) .parent) onWayBoth 0 0)
     (Move (Arrive (l .place (a .home) .parent))))
 
 -- stages 7 and 8, asleep and done
 abbrev pub idles : ℕ → Change
-idles stage = cond (eqb stage 7) (Still Asleep) (Still Done)
+idles stage = cond (eqb stage asleep) (Still Asleep) (Still Done)
 
 -- "The agent's stage, a number from 0 to 8, decides the step"
 unfoldable pub changeAt : ℕ → Land → Agent → ℕ → Change
 changeAt stage l a wish =
-    cond (eqb stage 0) (looks l a)
-    (cond (eqb stage 1) (locksFirst a)
-    (cond (eqb stage 2) (holds l a wish)
-    (cond (eqb stage 3) (acts l a)
-    (cond (leb stage 6) (travels l a)
+    cond (eqb stage looking) (looks l a)
+    (cond (eqb stage found) (locksFirst a)
+    (cond (eqb stage holding) (holds l a wish)
+    (cond (eqb stage holdingBoth) (acts l a)
+    (cond (leb stage onWayBoth) (travels l a)
     (idles stage)))))

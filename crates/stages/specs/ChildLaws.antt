@@ -15,7 +15,7 @@ use Rattle.sets.specs.declared.Set.{Set}
 use Rattle.table.specs.Base.{anyBelow}
 use Rattle.table.specs.BaseLaws.{eq?, any-rest}
 use Rattle.table.specs.Cell.{Land, linkedTo, travels}
-use Rattle.meaning.specs.Step.{onWayTo, awaited, named}
+use Rattle.meaning.specs.Step.{onWayTo, awaited}
 use Rattle.stages.specs.Changes.{childNamed}
 
 -- ---- children

@@ -8,19 +8,19 @@ use Prim.Native.Nat.{ℕ, _^_, _≤_, _<_}
 use lib.Dec.{eqb, ltb, lit<}
 use lib.ListN.{getD}
 use borrow.Author.Tests.{ltb-false, ne-eqb}
-use Rattle.sets.specs.Word.{upto, chosenOf}
+use Rattle.sets.specs.Word.{upto}
 use Rattle.sets.specs.WordLaws.{has-past, has-none}
 use Rattle.sets.specs.Set.{member, setOf, insertedIf, removed}
 use Rattle.sets.specs.SetLaws.{emptySet, set-ext, set-member, member-set}
 use Rattle.sets.specs.declared.Set.{Set}
 use Rattle.table.specs.BaseLaws.{Told, yea, nay, told, eq?}
-use Rattle.table.specs.Cell.{Land, noPlace, linked, linkedTo, nextAction}
+use Rattle.table.specs.Cell.{Land, noPlace, landOf, linked, linkedTo, nextAction, enterKind, exitKind, openKind, looksHome}
 use Rattle.table.specs.declared.Place.{Place}
 use Rattle.table.specs.declared.Action.{Action}
 use Rattle.table.specs.declared.Agent.{Agent}
-use Rattle.meaning.specs.Step.{named, awaited, entersAt, exitsFrom, opensAt, qualifies, choose, choice, fires, stays}
+use Rattle.meaning.specs.Step.{named, awaited, entersAt, exitsFrom, opensAt, qualifies, chosenOf, choose, choice, fires, stays}
 use Rattle.updates.specs.GatherLaws.{member-upto}
-use Rattle.stages.specs.Changes.{landOf, childNamed}
+use Rattle.stages.specs.Changes.{childNamed}
 
 -- ---- reading a set
 
@@ -32,9 +32,9 @@ chosen-set f w = ap (λ (g : ℕ → Bool). chosenOf g w) (fun-ext (member-upto 
 
 module _ (l : Land) (kind n home p : ℕ) where
   -- enter: the children named n but its own place
-  pub enter-set : eqb kind 1 ≡ true → removed (setOf (childNamed l p n)) home ≡ setOf (qualifies l kind n home p)
+  pub enter-set : eqb kind enterKind ≡ true → removed (setOf (childNamed l p n)) home ≡ setOf (qualifies l kind n home p)
   unfolding qualifies entersAt
-  enter-set e = set-ext _ _ (λ q b. ap (λ (x : Bool). not (eqb q home) && x) (member-set (childNamed l p n) q b) ∙ go (eqb q home) (linkedTo l q p) (named l q n) ∙ sym (rw e))
+  enter-set e = set-ext _ _ (λ q b. ap (λ (x : Bool). not (eqb q home) && x) (member-set (childNamed l p n) q b) ∙ go (eqb q home) (linkedTo l q p) (named enterKind l q n) ∙ sym (rw e))
     where
       go : (h x y : Bool) → (not h && (x && y)) ≡ (x && (y && not h))
       go true true true = refl
@@ -45,7 +45,7 @@ module _ (l : Land) (kind n home p : ℕ) where
       go false false y = refl
 
   -- exit: p itself, if it is linked and named n
-  pub exit-set : (b : Bool) → b ≡ exitsFrom l n p → eqb kind 1 ≡ false → eqb kind 2 ≡ true → insertedIf emptySet p b ≡ setOf (qualifies l kind n home p)
+  pub exit-set : (b : Bool) → b ≡ exitsFrom l n p → eqb kind enterKind ≡ false → eqb kind exitKind ≡ true → insertedIf emptySet p b ≡ setOf (qualifies l kind n home p)
   unfolding qualifies
   exit-set b t e f = go b ∙ set-ext _ _ (λ q _. ap (λ (x : Bool). eqb q p && x) t ∙ sym (rw (e, f)))
     where
@@ -62,10 +62,10 @@ module _ (l : Land) (kind n home p : ℕ) where
           here false = refl
 
   -- open: the children named n that nothing is on its way to
-  pub open-set : eqb kind 1 ≡ false → eqb kind 2 ≡ false
+  pub open-set : eqb kind enterKind ≡ false → eqb kind exitKind ≡ false
       → setOf (λ q. member (setOf (childNamed l p n)) q && not (awaited l q)) ≡ setOf (qualifies l kind n home p)
   unfolding qualifies opensAt
-  open-set e f = set-ext _ _ (λ q b. ap (λ (x : Bool). x && not (awaited l q)) (member-set (childNamed l p n) q b) ∙ go (linkedTo l q p) (named l q n) (not (awaited l q)) ∙ sym (rw (e, f)))
+  open-set e f = set-ext _ _ (λ q b. ap (λ (x : Bool). x && not (awaited l q)) (member-set (childNamed l p n) q b) ∙ go (linkedTo l q p) (named openKind l q n) (not (awaited l q)) ∙ sym (rw (e, f)))
     where
       go : (x y z : Bool) → ((x && y) && z) ≡ (x && (y && z))
       go true y z = refl
@@ -76,9 +76,9 @@ module _ (l : Land) (kind n home p : ℕ) where
   -- on a place that is not in use no action fires
   pub unused-not : (q : ℕ) → l .used q ≡ false → qualifies l kind n home p q ≡ false
   unfolding qualifies entersAt opensAt exitsFrom linkedTo linked
-  unused-not q e = go (told (eqb kind 1)) (told (eqb kind 2)) (eq? q p)
+  unused-not q e = go (told (eqb kind enterKind)) (told (eqb kind exitKind)) (eq? q p)
     where
-      go : Told (eqb kind 1) → Told (eqb kind 2) → (q ≡ p) ⊎ (q ≢ p) → qualifies l kind n home p q ≡ false
+      go : Told (eqb kind enterKind) → Told (eqb kind exitKind) → (q ≡ p) ⊎ (q ≢ p) → qualifies l kind n home p q ≡ false
       go (yea s) t m = rw (s, e)
       go (nay s) (yea t) (inl m) = rw (s, t, sym m, e) (never (eqb q q))
         where
@@ -101,9 +101,9 @@ module _ (l : Land) (kind n home p : ℕ) where
 module _ (ps : List Place) (used : Set) (a : Agent) (x : Action) (e : x ≡ nextAction a) where
   -- its place is still linked to p
   pub stays-test : (u : Bool) (h : Place) → u ≡ member used (a .home) → h ≡ getD ps (a .home) noPlace
-      → (eqb (x .kind) 3 || (u && (eqb (h .way) 0 && eqb (h .parent) (a .remembered)))) ≡ stays (landOf ps used) a
+      → (looksHome (x .kind) || (u && (eqb (h .way) 0 && eqb (h .parent) (a .remembered)))) ≡ stays (landOf ps used) a
   unfolding stays linkedTo
-  stays-test u h f g = λ i. eqb (e i .kind) 3 || (f i && (eqb (g i .way) 0 && eqb (g i .parent) (a .remembered)))
+  stays-test u h f g = λ i. looksHome (e i .kind) || (f i && (eqb (g i .way) 0 && eqb (g i .parent) (a .remembered)))
 
   module _ (s : Set) (f : s ≡ setOf (qualifies (landOf ps used) (x .kind) (x .name) (a .home) (a .remembered))) where
     -- the choice
@@ -113,8 +113,8 @@ module _ (ps : List Place) (used : Set) (a : Agent) (x : Action) (e : x ≡ next
         ∙ (λ i. chosenOf (upto 64 (qualifies (landOf ps used) (e i .kind) (e i .name) (a .home) (a .remembered))) w)
 
     -- the action fires
-    pub fires-test : used .bits < 2 ^ 64 → (t : ℕ) (b : Bool) → t ≡ cond (eqb (x .kind) 2) (a .remembered) (a .chosen) → b ≡ member s t → b ≡ fires (landOf ps used) a
+    pub fires-test : used .bits < 2 ^ 64 → (t : ℕ) (b : Bool) → t ≡ cond (eqb (x .kind) exitKind) (a .remembered) (a .chosen) → b ≡ member s t → b ≡ fires (landOf ps used) a
     unfolding fires
     fires-test h t b g k = k ∙ ap₂ (λ (z : Set) (n : ℕ). member z n) f g
-        ∙ fires-member (landOf ps used) (x .kind) (x .name) (a .home) (a .remembered) (cond (eqb (x .kind) 2) (a .remembered) (a .chosen)) (λ m. has-past 64 (used .bits) _ h m)
-        ∙ (λ i. qualifies (landOf ps used) (e i .kind) (e i .name) (a .home) (a .remembered) (cond (eqb (e i .kind) 2) (a .remembered) (a .chosen)))
+        ∙ fires-member (landOf ps used) (x .kind) (x .name) (a .home) (a .remembered) (cond (eqb (x .kind) exitKind) (a .remembered) (a .chosen)) (λ m. has-past 64 (used .bits) _ h m)
+        ∙ (λ i. qualifies (landOf ps used) (e i .kind) (e i .name) (a .home) (a .remembered) (cond (eqb (e i .kind) exitKind) (a .remembered) (a .chosen)))

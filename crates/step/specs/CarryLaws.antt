@@ -12,22 +12,22 @@ use borrow.Author.Tests.{eq-eqb, ne-eqb, eqb-true, eqb-false}
 use Rattle.sets.specs.Set.{member}
 use Rattle.table.specs.Base.{tab, upd}
 use Rattle.table.specs.BaseLaws.{Told, yea, nay, told}
-use Rattle.table.specs.Cell.{none, noAgent, cellOf}
+use Rattle.table.specs.Cell.{none, noAgent, cellOf, tableOf, landOf, putLocks, putAgents}
 use Rattle.table.specs.Sound.{sound}
 use Rattle.table.specs.Bounds.{Sized}
-use Rattle.table.specs.CellLaws.{places-are, locks-are, used-are, given-are, back, agent-set, is-given}
-use Rattle.table.specs.CellLaws as cells
+use Rattle.table.specs.CellLaws.{locks-are, back, agent-set, is-given}
 use Rattle.table.specs.declared.Agent.{Agent}
 use Rattle.table.specs.declared.Cell.{Cell}
 use Rattle.meaning.specs.declared.Word.{Word}
 use Rattle.meaning.specs.declared.Word.the-variants.{Took, Held}
 use Rattle.meaning.specs.declared.Answer.the-variants.{Did, Refused}
-use Rattle.meaning.specs.Update.{atStage, released}
+use Rattle.meaning.specs.Refusals.{unsoundTable, noSuchAgent}
+use Rattle.meaning.specs.Update.{atStage, withLocks, withAgent, released}
 use Rattle.meaning.specs.Step.{still, turn, take, release, stepAt, step}
 use Rattle.meaning.specs.Run.{made, turnedAway, stepOf}
 use Rattle.soundness.specs.Seen.{seenOf}
 use Rattle.updates.specs.UpdateLaws.{did}
-use Rattle.stages.specs.Changes.{landOf, carried, changeAt}
+use Rattle.stages.specs.Changes.{carried, changeAt}
 use Rattle.stages.specs.ChangeLaws.{step-carried}
 use Rattle.stages.specs.declared.Change.{Change}
 use Rattle.stages.specs.declared.Change.the-variants.{Still, Turn, Take, Release, Move}
@@ -42,7 +42,7 @@ index x l = omega arith
 -- the agent and the locks as they were
 pub unsettled : (t : Cell) (x : ℕ) (a : Agent) (ls : List ℕ) → a ≡ getD (t .agents) (x % 64) noAgent → ls ≡ t .locks → settled t x a ls ≡ t
 unsettled t x a ls f e = ap₂ (λ (b : Agent) (ms : List ℕ). settled t x b ms) f e
-    ∙ ap (λ (row : List Agent). record { places = t .places; locks = t .locks; agents = row; used = t .used; given = t .given }) (set-getD (t .agents) (x % 64) noAgent)
+    ∙ ap (putAgents t) (set-getD (t .agents) (x % 64) noAgent)
 
 -- ---- the changes
 
@@ -62,21 +62,26 @@ module _ (t : Cell) (z : Sized t) (x : ℕ) (l : x < 64) (ls : List ℕ) (e : ls
     stored : set (t .agents) (x % 64) b ≡ tab (upd (cellOf t .agent) x b) 64 0
     stored = ap (λ (i : ℕ). set (t .agents) i b) (index x l) ∙ agent-set t z x b l
 
+    -- the table with that agent and other locks is that of the cell with them
+    changed : (ms : List ℕ) (f : ℕ → ℕ) → ms ≡ tab f 64 0 → settled t x b ms ≡ tableOf (withLocks (withAgent (cellOf t) x b) f)
+    unfolding tableOf
+    changed ms f g = λ i. putLocks (putAgents (sym (back t z) i) (stored i)) (g i)
+
     pub carry-turn : (w : Word) → carriedOut t x (staying b ls (Did w 0)) ≡ made (turn (cellOf t) x b w)
     unfolding turn still carriedOut
-    carry-turn w = did _ w 0 (turn (cellOf t) x b w) (cells.made _ _ (places-are t z) (e ∙ locks-are t z) stored (used-are t z) (given-are t z)) refl refl
+    carry-turn w = did _ w 0 (turn (cellOf t) x b w) (changed _ _ (e ∙ locks-are t z)) refl refl
 
     -- and takes the lock of q
     pub carry-took : (q : ℕ) (ms : List ℕ) → getD ls q 0 ≡ 64 → ms ≡ tab (upd (λ j. getD ls j 0) q x) 64 0 → carriedOut t x (staying b ms (Did Took 0)) ≡ made (take (cellOf t) x q b)
     unfolding take still cellOf carriedOut
     carry-took q ms h f = rw (eq-eqb (getD (t .locks) q 0) 64 (ap (λ (ns : List ℕ). getD ns q 0) (sym e) ∙ h))
-        (did _ Took 0 _ (cells.made _ _ (places-are t z) (f ∙ ap (λ (ns : List ℕ). tab (upd (λ j. getD ns j 0) q x) 64 0) e) stored (used-are t z) (given-are t z)) refl refl)
+        (did _ Took 0 _ (changed _ _ (f ∙ ap (λ (ns : List ℕ). tab (upd (λ j. getD ns j 0) q x) 64 0) e)) refl refl)
 
     -- and the locks of p and q are released
     pub carry-release : (p q : ℕ) (w : Word) (ms : List ℕ) → ms ≡ tab (released (λ j. getD ls j 0) p q) 64 0 → carriedOut t x (staying b ms (Did w 0)) ≡ made (release (cellOf t) x p q b w)
     unfolding release still cellOf carriedOut
     carry-release p q w ms f = did _ w 0 (release (cellOf t) x p q b w)
-        (cells.made _ _ (places-are t z) (f ∙ ap (λ (ns : List ℕ). tab (released (λ j. getD ns j 0) p q) 64 0) e) stored (used-are t z) (given-are t z)) refl refl
+        (changed _ _ (f ∙ ap (λ (ns : List ℕ). tab (released (λ j. getD ns j 0) p q) 64 0) e)) refl refl
 
 -- ---- the call
 
@@ -122,6 +127,6 @@ module _ (t : Cell) (z : Sized t) (x wish : ℕ) where
   decided-step = go (told (sound (cellOf t))) (told (member (t .given) x))
     where
       go : Told (sound (cellOf t)) → Told (member (t .given) x) → carriedOut t x (decided (seenOf t x) t x wish) ≡ stepOf t x wish
-      go (nay s) _ = rw s (turned 10)
-      go (yea s) (nay g) = rw (s, g) (turned 11)
+      go (nay s) _ = rw s (turned unsoundTable)
+      go (yea s) (nay g) = rw (s, g) (turned noSuchAgent)
       go (yea s) (yea g) = rw (s, g) (stepped s g)

@@ -6,7 +6,7 @@ use lib.Dec.{eqb}
 use lib.ListN.{getD, set}
 use Rattle.sets.specs.Set.{member}
 use Rattle.table.specs.Base.{tab, upd}
-use Rattle.table.specs.Cell.{none, cellOf}
+use Rattle.table.specs.Cell.{none, cellOf, landOf, putLocks, putAgents}
 use Rattle.table.specs.declared.Agent.{Agent}
 use Rattle.table.specs.declared.Cell.{Cell}
 use Rattle.soundness.specs.declared.sound.Seen.{Seen}
@@ -15,12 +15,13 @@ use Rattle.meaning.specs.declared.Word.the-variants.{Took, Held, Left, Came, Op
 use Rattle.meaning.specs.declared.Answer.{Answer}
 use Rattle.meaning.specs.declared.Answer.the-variants.{Did, Refused}
 use Rattle.meaning.specs.declared.Stepped.{Stepped}
+use Rattle.meaning.specs.Refusals.{unsoundTable, noSuchAgent}
 use Rattle.meaning.specs.Update.{atStage, released}
 use Rattle.meaning.specs.Run.{made}
 use Rattle.moves.specs.Motions.{shifted}
 use Rattle.moves.specs.declared.Motion.{Motion}
 use Rattle.moves.specs.declared.Motion.the-variants.{Leave, Arrive, Dissolve}
-use Rattle.stages.specs.Changes.{landOf, changeAt}
+use Rattle.stages.specs.Changes.{changeAt}
 use Rattle.stages.specs.declared.Change.{Change}
 use Rattle.stages.specs.declared.Change.the-variants.{Still, Turn, Take, Release, Move}
 use Rattle.step.specs.declared.Decision.{Decision}
@@ -57,14 +58,14 @@ unfoldable pub decided : Seen → Cell → ℕ → ℕ → Decision
 decided s t x wish =
     cond (s .sound)
     (cond (member (t .given) x) (settling (changeAt (s .agent .stage) (landOf (t .places) (t .used)) (s .agent) wish) x (s .agent) (t .locks))
-    (staying (s .agent) (t .locks) (Refused 11)))
-    (staying (s .agent) (t .locks) (Refused 10))
+    (staying (s .agent) (t .locks) (Refused noSuchAgent)))
+    (staying (s .agent) (t .locks) (Refused unsoundTable))
 
 -- ---- carried out
 
 -- agent x of the table is a, and its locks are ls; past 63 agents are numbered from 0 again
 abbrev pub settled : Cell → ℕ → Agent → List ℕ → Cell
-settled t x a ls = record { places = t .places; locks = ls; agents = set (t .agents) (x % 64) a; used = t .used; given = t .given }
+settled t x a ls = putLocks (putAgents t (set (t .agents) (x % 64) a)) ls
 
 -- what a decision for agent x makes of a table
 unfoldable pub carriedOut : Cell → ℕ → Decision → Stepped

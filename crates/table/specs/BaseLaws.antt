@@ -51,10 +51,6 @@ pub and-right : (a b : Bool) → (a && b) ≡ true → b ≡ true
 and-right true b e = e
 and-right false b e = clash e refl
 
-pub not-true : (b : Bool) → not b ≡ true → b ≡ false
-not-true true e = sym e
-not-true false e = refl
-
 pub and-cong : (u x y : Bool) → (u ≡ true → x ≡ y) → (u && x) ≡ (u && y)
 and-cong true x y h = h refl
 and-cong false x y h = refl

@@ -5,11 +5,50 @@ use mathlib.Core.List.{List, [], _∷_}
 use lib.Dec.{ltb, eqb}
 use lib.ListN.{getD, replicate}
 use Rattle.sets.specs.Word.{has, wordOf}
+use Rattle.sets.specs.Set.{member}
+use Rattle.sets.specs.declared.Set.{Set}
 use Rattle.table.specs.Base.{tab}
 use Rattle.table.specs.declared.Place.{Place}
 use Rattle.table.specs.declared.Action.{Action}
 use Rattle.table.specs.declared.Agent.{Agent}
 use Rattle.table.specs.declared.Cell.{Cell}
+
+-- ---- the stages of an agent
+
+-- "0 looking"
+abbrev pub looking : ℕ
+looking = 0
+
+-- "1 found"
+abbrev pub found : ℕ
+found = 1
+
+-- "2 holding p"
+abbrev pub holding : ℕ
+holding = 2
+
+-- "3 holding both"
+abbrev pub holdingBoth : ℕ
+holdingBoth = 3
+
+-- "4 on its way"
+abbrev pub onWay : ℕ
+onWay = 4
+
+-- on its way, holding its own place
+abbrev pub onWayOwn : ℕ
+onWayOwn = 5
+
+-- on its way, holding its own place and the destination
+abbrev pub onWayBoth : ℕ
+onWayBoth = 6
+
+-- "7: asleep. 8: done."
+abbrev pub asleep : ℕ
+asleep = 7
+
+abbrev pub done : ℕ
+done = 8
 
 -- ---- empty values
 
@@ -23,11 +62,11 @@ noAction = record { kind = 0; name = 0 }
 
 -- what is read past the last agent
 abbrev pub noAgent : Agent
-noAgent = record { home = 0; stage = 0; remembered = 0; chosen = 0; next = 0; count = 0; actions = [] }
+noAgent = record { home = 0; stage = looking; remembered = 0; chosen = 0; next = 0; count = 0; actions = [] }
 
 -- an agent that no record gave: on the floor, without actions, done
 abbrev pub freshAgent : Agent
-freshAgent = record { home = 0; stage = 8; remembered = 0; chosen = 0; next = 0; count = 0; actions = replicate 16 noAction }
+freshAgent = record { home = 0; stage = done; remembered = 0; chosen = 0; next = 0; count = 0; actions = replicate 16 noAction }
 
 -- "Place 0 is the floor: name 0, no parent, never moves": it is not linked
 abbrev pub floorPlace : Place
@@ -51,10 +90,14 @@ pub record State : Type 0 where
   pub agent : ℕ → Agent
   pub given : ℕ → Bool
 
+-- the land of a table's places and the set of those in use
+abbrev pub landOf : List Place → Set → Land
+landOf ps used = record { place = λ q. getD ps q noPlace; used = member used }
+
 -- the cell that a table holds
 unfoldable pub cellOf : Cell → State
 cellOf t = record {
-  land = record { place = λ q. getD (t .places) q noPlace; used = has (t .used .bits) };
+  land = landOf (t .places) (t .used);
   lock = λ q. getD (t .locks) q 0;
   agent = λ x. getD (t .agents) x noAgent;
   given = has (t .given .bits);
@@ -80,6 +123,23 @@ bareTable = record {
   given = record { bits = 0 };
 }
 
+-- ---- one array or set of a table written anew: besides tableOf and bareTable the only definitions that write a table out
+
+abbrev pub putPlaces : Cell → List Place → Cell
+putPlaces t ps = record { places = ps; locks = t .locks; agents = t .agents; used = t .used; given = t .given }
+
+abbrev pub putLocks : Cell → List ℕ → Cell
+putLocks t ls = record { places = t .places; locks = ls; agents = t .agents; used = t .used; given = t .given }
+
+abbrev pub putAgents : Cell → List Agent → Cell
+putAgents t s = record { places = t .places; locks = t .locks; agents = s; used = t .used; given = t .given }
+
+abbrev pub putUsed : Cell → Set → Cell
+putUsed t s = record { places = t .places; locks = t .locks; agents = t .agents; used = s; given = t .given }
+
+abbrev pub putGiven : Cell → Set → Cell
+putGiven t s = record { places = t .places; locks = t .locks; agents = t .agents; used = t .used; given = s }
+
 -- ---- reading
 
 -- "a place other than the floor is linked to a parent or on its way to a destination"
@@ -94,6 +154,29 @@ linkedTo l q p = l .used q && (eqb (l .place q .way) 0 && eqb (l .place q .paren
 unfoldable pub travels : Land → ℕ → Bool
 travels l q = l .used q && (not (eqb q 0) && not (eqb (l .place q .way) 0))
 
+-- ---- the kinds of an action: "1 enter, 2 exit, 3 open"
+
+abbrev pub enterKind : ℕ
+enterKind = 1
+
+abbrev pub exitKind : ℕ
+exitKind = 2
+
+abbrev pub openKind : ℕ
+openKind = 3
+
+-- the highest of them
+abbrev pub lastKind : ℕ
+lastKind = 3
+
+-- an action of this kind looks at its agent's own place, any other at the place around that: open
+abbrev pub looksHome : ℕ → Bool
+looksHome kind = eqb kind openKind
+
+-- what the number of an action of this kind is compared with, on a place of this name: the name
+abbrev pub answersTo : ℕ → ℕ → ℕ
+answersTo kind name = name
+
 -- an action is left
 abbrev pub hasAction : Agent → Bool
 hasAction a = ltb (a .next) (a .count)
@@ -102,7 +185,7 @@ hasAction a = ltb (a .next) (a .count)
 unfoldable pub nextAction : Agent → Action
 nextAction a = cond (hasAction a) (cond (ltb (a .next) 16) (getD (a .actions) (a .next) noAction) noAction) noAction
 
--- "a kind (1 enter, 2 exit, 3 open) and a name" of the next action
+-- "a kind and a name" of the next action
 abbrev pub kindOf : Agent → ℕ
 kindOf a = nextAction a .kind
 

@@ -1,17 +1,17 @@
 -- A table and its cell determine each other: back and forth. Assumes nothing.
 -- Idea: an array of 64 is the table of its elements, a word that of its members; past 63 a bounded cell has nothing to lose.
-use mathlib.Core.Path.{_≡_, sym, ap, _∙_, subst, fun-ext}
+use mathlib.Core.Path.{_≡_, refl, sym, ap, _∙_, subst, fun-ext}
 use mathlib.Core.List.{List}
 use mathlib.Core.Bool.{Bool, true, false}
 use Prim.Native.Nat.{ℕ, _≤_, _<_}
-use lib.Dec.{ltb}
+use lib.Dec.{ltb, lit<}
 use lib.ListN.{getD, length, set, List·getD-eq-default}
 use borrow.Author.Tests.{ltb-true, ltb-false}
 use Rattle.sets.specs.Word.{has, wordOf}
 use Rattle.sets.specs.WordLaws.{word-has, has-word, has-past, has-lt, word-lt}
 use Rattle.table.specs.Base.{tab, upd}
 use Rattle.table.specs.BaseLaws.{Told, yea, nay, told, tab-getD, getD-tab, length-tab, set-list, set-tab}
-use Rattle.table.specs.Cell.{noPlace, noAgent, State, cellOf, tableOf}
+use Rattle.table.specs.Cell.{noPlace, noAgent, State, cellOf, tableOf, bareTable}
 use Rattle.table.specs.Bounds.{Sized, Bounded}
 use Rattle.table.specs.declared.Place.{Place}
 use Rattle.table.specs.declared.Agent.{Agent}
@@ -133,3 +133,8 @@ sized-table c = record {
   used = word-lt 64 (c .land .used);
   given = word-lt 64 (c .given);
 }
+
+-- and so has the bare floor
+pub sized-bare : Sized bareTable
+unfolding bareTable
+sized-bare = record { places = refl; locks = refl; agents = refl; used = lit< tt; given = lit< tt }

@@ -3,11 +3,11 @@ use Prim.Native.Nat.{ℕ}
 use mathlib.Core.Bool.{Bool, true, cond}
 use lib.Dec.{leb}
 use Rattle.table.specs.Base.{allBelow}
-use Rattle.table.specs.Cell.{State}
+use Rattle.table.specs.Cell.{State, asleep}
 
 -- "7: asleep. 8: done."
 abbrev pub restsAt : ℕ → Bool
-restsAt stage = leb 7 stage
+restsAt stage = leb asleep stage
 
 -- every agent given is asleep or done; with no agents that is so
 unfoldable pub idle : State → Bool

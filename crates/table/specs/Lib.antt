@@ -6,5 +6,7 @@ pub mod Bounds
 pub mod ElementLaws
 pub mod CellLaws
 pub mod Sound
+pub mod SoundParts
 pub mod Idle
+pub mod Kinds
 pub mod TestLaws

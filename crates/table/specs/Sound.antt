@@ -10,7 +10,8 @@ use mathlib.Core.Bool.{Bool, true, false, not, _&&_, _||_, cond}
 use lib.Dec.{ltb, leb, eqb}
 use lib.ListN.{getD}
 use Rattle.table.specs.Base.{allBelow, anyBelow, countBelow, iter}
-use Rattle.table.specs.Cell.{noAction, none, Land, State, hasAction, kindOf, linkedTo}
+use Rattle.table.specs.Cell.{looking, holding, holdingBoth, onWay, onWayOwn, onWayBoth, asleep, done}
+use Rattle.table.specs.Cell.{noAction, none, Land, State, hasAction, kindOf, linkedTo, enterKind, exitKind, openKind, lastKind, looksHome}
 use Rattle.table.specs.declared.Action.{Action}
 use Rattle.table.specs.declared.Agent.{Agent}
 use Rattle.table.specs.declared.Place.{Place}
@@ -19,7 +20,7 @@ use Rattle.table.specs.declared.Place.{Place}
 
 -- an action is a kind 1 to 3 and a name that is not 0
 abbrev pub actionFits : Action → Bool
-actionFits x = leb 1 (x .kind) && (leb (x .kind) 3 && leb 1 (x .name))
+actionFits x = leb 1 (x .kind) && (leb (x .kind) lastKind && leb 1 (x .name))
 
 -- the action at j is in range, if it is one of the unused ones
 abbrev pub actionAt : Agent → ℕ → Bool
@@ -33,37 +34,41 @@ actionsFit a = leb (a .next) (a .count) && (leb (a .count) 16 && allBelow (actio
 
 -- an agent that remembers a place in use and has an action left; "an opener at stages 1 to 3 remembers its home"
 unfoldable pub ready : Bool → Bool → Bool → ℕ → Bool
-ready some known same kind = some && (known && cond (eqb kind 3) same true)
+ready some known same kind = some && (known && cond (looksHome kind) same true)
 
 -- "an agent at stage 3 has its place, and for enter its chosen place too, linked under the held parent (open: its target)"
 unfoldable pub holdsBoth : ℕ → Bool → Bool → Bool
-holdsBoth kind here there = cond (eqb kind 1) (here && there) (cond (eqb kind 2) here there)
+holdsBoth kind here there = cond (eqb kind enterKind) (here && there) (cond (eqb kind exitKind) here there)
 
 -- what each stage asks. some: an action is left; known: the remembered place is in use; same: it is the home;
 -- here, there: the home and the chosen place are linked to it
 unfoldable pub stageFits : ℕ → Bool → Bool → Bool → ℕ → Bool → Bool → Bool
 stageFits s some known same kind here there =
-    cond (eqb s 0) some
-    (cond (leb s 2) (ready some known same kind)
-    (cond (leb s 3) (ready some known same kind && holdsBoth kind here there)
-    (cond (leb s 6) true
-    (cond (leb s 7) (some && known)
-    (cond (leb s 8) (not some) false)))))
+    cond (eqb s looking) some
+    (cond (leb s holding) (ready some known same kind)
+    (cond (leb s holdingBoth) (ready some known same kind && holdsBoth kind here there)
+    (cond (leb s onWayBoth) true
+    (cond (leb s asleep) (some && known)
+    (cond (leb s done) (not some) false)))))
 
 -- ---- locks
 
 -- the place whose lock the agent took first, by its stage: the remembered place at 2 and 3, its home at 5 and 6
 unfoldable pub firstHeld : Agent → ℕ
-firstHeld a = cond (ltb (a .stage) 2) none (cond (leb (a .stage) 3) (a .remembered) (cond (ltb (a .stage) 5) none (cond (leb (a .stage) 6) (a .home) none)))
+firstHeld a =
+    cond (ltb (a .stage) holding) none
+    (cond (leb (a .stage) holdingBoth) (a .remembered)
+    (cond (ltb (a .stage) onWayOwn) none
+    (cond (leb (a .stage) onWayBoth) (a .home) none)))
 
 -- "The second place is the agent's own for enter and exit, the chosen one for open"
 abbrev pub secondPlace : ℕ → ℕ → ℕ → ℕ
-secondPlace kind home chosen = cond (eqb kind 3) chosen home
+secondPlace kind home chosen = cond (eqb kind openKind) chosen home
 
 -- the place whose lock it took second: the second place at stage 3, the destination at stage 6
 unfoldable pub secondHeld : Agent → ℕ → ℕ → ℕ
 secondHeld a kind destination =
-    cond (eqb (a .stage) 3) (secondPlace kind (a .home) (a .chosen)) (cond (eqb (a .stage) 6) destination none)
+    cond (eqb (a .stage) holdingBoth) (secondPlace kind (a .home) (a .chosen)) (cond (eqb (a .stage) onWayBoth) destination none)
 
 -- where a place in use stands
 abbrev pub standsIn : Land → ℕ → ℕ
@@ -102,7 +107,7 @@ agentSound c x = cond (c .given x) (agentFits c x (c .agent x)) true
 
 -- the home of an agent at stages 4 to 6
 unfoldable pub goingFrom : Agent → ℕ
-goingFrom a = cond (ltb (a .stage) 4) none (cond (leb (a .stage) 6) (a .home) none)
+goingFrom a = cond (ltb (a .stage) onWay) none (cond (leb (a .stage) onWayBoth) (a .home) none)
 
 -- x is an agent at stages 4 to 6 of place q
 unfoldable pub goes : State → ℕ → ℕ → Bool
@@ -132,5 +137,11 @@ leads c q = cond (c .land .used q) (eqb (iter (λ r. c .land .place r .parent) 6
 
 -- ---- the table
 
+-- the floor, the agents given and the places in use are as they should be
+unfoldable pub coreSound : State → Bool
+coreSound c = c .land .used 0 && (allBelow (agentSound c) 64 && (allBelow (placeSound c) 64 && allBelow (leads c) 64))
+
+-- "A table is sound when": the whole test
 unfoldable pub sound : State → Bool
-sound c = c .land .used 0 && (allBelow (agentSound c) 64 && (allBelow (placeSound c) 64 && allBelow (leads c) 64))
+unfolding coreSound
+sound c = coreSound c

@@ -1,6 +1,6 @@
 -- Each return is the case of the definition that its tests pick.
 use Rattle.table.proofs.Rules.{tests}
-use borrow.Author.Tests.{lt-ltb, le-ltb, le-leb, lt-leb}
+use borrow.Author.Tests.{lt-ltb, le-ltb, lt-leb}
 use Rattle.meaning.specs.File.{actionRecord}
 use Rattle.reader.proofs.action_record.Statement.{statement}
 use Rattle.reader.proofs.action_record.Tie as tie
@@ -16,7 +16,7 @@ action-record-spec =
       lt-leb _ _ (c .before .before .before .if1 .left),
       c .before .before .if2 .taken,
       le-ltb _ _ (c .before .if3 .left),
-      le-leb _ _ (c .if4 .taken),
+      lt-ltb _ _ (c .if4 .taken),
     ))
     (λ c.
     let t = c .before .before in
@@ -24,7 +24,7 @@ action-record-spec =
       lt-leb _ _ (t .before .before .if1 .left),
       t .before .if2 .taken,
       le-ltb _ _ (t .if3 .left),
-      lt-leb _ _ (c .before .if4 .left),
+      le-ltb _ _ (c .before .if4 .left),
       lt-ltb _ _ (c .if5 .taken),
     ))
     (λ c.
@@ -33,7 +33,7 @@ action-record-spec =
       lt-leb _ _ (t .before .before .if1 .left),
       t .before .if2 .taken,
       le-ltb _ _ (t .if3 .left),
-      lt-leb _ _ (c .before .before .if4 .left),
+      le-ltb _ _ (c .before .before .if4 .left),
       le-ltb _ _ (c .before .if5 .left),
       c .if6 .taken,
     ))
@@ -43,7 +43,7 @@ action-record-spec =
       lt-leb _ _ (t .before .before .if1 .left),
       t .before .if2 .taken,
       le-ltb _ _ (t .if3 .left),
-      lt-leb _ _ (c .before .before .if4 .left),
+      le-ltb _ _ (c .before .before .if4 .left),
       le-ltb _ _ (c .before .if5 .left),
       c .if6 .left,
     ))

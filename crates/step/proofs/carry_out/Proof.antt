@@ -2,6 +2,7 @@
 use mathlib.Core.Path.{ap}
 use Prim.Native.Nat.{ℕ}
 use lib.ListN.{set}
+use Rattle.table.specs.Cell.{putLocks, putAgents}
 use Rattle.step.specs.Decided.{carriedOut}
 use borrow.Author.Needs.{needs}
 use Rattle.step.proofs.carry_out.Statement.{statement}
@@ -13,13 +14,7 @@ returns-2 c =
     let s = c .before .before .before .before .args in
     rw (c .before .before .if1 .left)
     (ap (λ (i : ℕ). record {
-      cell = record {
-        places = s .c .places;
-        locks = s .d .locks;
-        agents = set (s .c .agents) i (s .d .agent);
-        used = s .c .used;
-        given = s .c .given;
-      };
+      cell = putLocks (putAgents (s .c) (set (s .c .agents) i (s .d .agent))) (s .d .locks);
       answer = s .d .answer;
     })
     (c .at .ensures))

@@ -1,5 +1,5 @@
 -- Copies of no_place's and fresh_agent's answers, with the floor in front.
-use Rattle.table.specs.Cell.{bareTable, floorPlace, none}
+use Rattle.table.specs.Cell.{bareTable, floorPlace, putPlaces, putAgents}
 use mathlib.Core.List.{_∷_}
 use lib.ListN.{replicate}
 use borrow.Author.Needs.{needs}
@@ -8,13 +8,7 @@ use Rattle.table.proofs.bare.Tie as tie
 
 returns : tie.Need-returns
 unfolding bareTable
-returns c = λ i. record {
-  places = floorPlace ∷ replicate 63 (c .before .no-place .ensures i);
-  locks = replicate 64 none;
-  agents = replicate 64 (c .fresh-agent .ensures i);
-  used = record { bits = 1 };
-  given = record { bits = 0 };
-}
+returns c = λ i. putAgents (putPlaces bareTable (floorPlace ∷ replicate 63 (c .before .no-place .ensures i))) (replicate 64 (c .fresh-agent .ensures i))
 
 pub bare-spec : {M : Type 1} → statement M
 bare-spec = tie.close (tie.spec (λ c κs. search needs) (λ c. search needs) (λ c κs. search needs) returns)

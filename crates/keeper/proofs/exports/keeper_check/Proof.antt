@@ -12,6 +12,7 @@ use Rattle.soundness.specs.declared.sound.Seen.{Seen}
 use Rattle.soundness.specs.Seen.{seenOf}
 use Rattle.soundness.proofs.sound.Seen as Seen′
 use Rattle.soundness.proofs.sound.Seen.Laws as seen-laws
+use Rattle.meaning.specs.Refusals.{unsoundTable}
 use Rattle.meaning.specs.declared.Checked.{Checked}
 use Rattle.meaning.proofs.Checked as Checked′
 use Rattle.meaning.proofs.Checked.Laws as checked-laws
@@ -33,7 +34,7 @@ use Rattle.keeper.proofs.exports.keeper_check.Code as code
 
 -- the answer of a check, and the number of the answer
 abbrev answer : Bool → Checked
-answer y = cond y Checked.Sound (Checked.Unsound 10)
+answer y = cond y Checked.Sound (Checked.Unsound unsoundTable)
 
 abbrev ask : Cell → ℕ
 ask c = checkNumber (checkOf c)

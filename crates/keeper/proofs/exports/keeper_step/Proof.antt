@@ -38,6 +38,7 @@ use Rattle.table.proofs.at.Symbol as at-def
 use Rattle.table.proofs.at.Met as at-thm
 use Rattle.numbers.proofs.step_number.Symbol as number
 use Rattle.numbers.proofs.step_number.Met as number-thm
+use Rattle.lending.proofs.Offsets.{agentSize}
 use Rattle.lending.proofs.Walk.{_≡_, refl, sym, ap, subst, _∙_, ℕ, _<_, _^_, List, [], _∷_, URA, fullShare, named, w8, w64, Val, vint, vptr, SProp, ent, emp, id⊢, GName, Lft, Share, ftrue, fat, flft, fobs, fbor, Memory, Routine, Heap, Calls, Loops, WpFn, Atoms, Fun, givenOf, tables, Given, ‵, raw, _⊛_, ⋆, _$_, _∵_, !, qed, by, move, drop, split, join, rewrite, fsplit, fsplit3, fjoin, fjoin3, feqI, suffices, frame, done, look, look-raw, init, forget, stop, hop, fld, from, load, lit, addr, of-opd, and-then, no-more, assigns, land, returns, enter, alloc1, alloc0, params1, pass1, pass0, whole, sub, look-in, Body, FmC, owns, Is, mem, uint-vals, uint-tells, uint-makes, uint-lawful, u8, u64, RefT, MutRef, ptr-vals, mut-tells, plain, only, owned, nothing, Contract, Triple, onEntry, tripleOf, cited, says, Stays, stay-ref, stay-none, walkOf, goes-ref, goes-none, ends-at, yes, exported}
 use Rattle.lending.proofs.Placed.{placed}
 use Rattle.lending.proofs.Lent.{R, mach, is-typed, had, opened, called, Equates, applied}
@@ -62,7 +63,7 @@ stayed = (stay-ref (0 ∷ []) tt (plain (λ _. R)), (stay-none (λ _. u8) yes, (
 small : (k m : ℕ) → k ≡ m % 64 → k < 64
 small k m e = omega (arith, e)
 
-times : (k : ℕ) → k < 64 → k * 70 < 2 ^ 64
+times : (k : ℕ) → k < 64 → k * agentSize < 2 ^ 64
 times k h = omega (arith, h)
 
 -- a test that failed

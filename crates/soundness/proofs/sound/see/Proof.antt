@@ -5,10 +5,12 @@ use Prim.Native.Nat.{ℕ}
 use mathlib.Core.Path.{sym, ap, ap₂, _∙_, subst}
 use mathlib.Core.Bool.{true}
 use native.Mathlib.Omega.{arith}
+use borrow.Author.Tests.{not-true}
 use Rattle.sets.specs.Set.{inserted}
 use Rattle.sets.specs.declared.Set.{Set}
-use Rattle.table.specs.BaseLaws.{not-true}
+use Rattle.table.specs.BaseLaws.{same-test}
 use Rattle.table.specs.Cell.{cellOf}
+use Rattle.table.specs.SoundParts.{sound-core, core-sound}
 use Rattle.table.specs.Sound.{firstHeld, secondHeldIn, goingFrom, agentFits}
 use Rattle.soundness.specs.Pass.{quiet}
 use Rattle.soundness.specs.AgentLaws.{home-out, row-out}
@@ -82,7 +84,8 @@ returns-6 c =
     let x = s .before .args .t1 in
     seen-as s _ (c .lands-fit .ensures
     ∙ lands-same x (sized x (s .before .good .0)) (l .loop .claimed) (l .loop .going) (l .loop .rest) (l .loop .inv)
-    (c .before .before .before .if1 .left))
+    (c .before .before .before .if1 .left)
+    ∙ same-test _ _ (core-sound (cellOf x)) (sound-core (cellOf x)))
 
 pub see-spec : {M : Type 1} → statement M
 see-spec =

@@ -11,7 +11,7 @@ use Rattle.sets.specs.Set.{member}
 use Rattle.sets.specs.WalkLaws.{rest-lt, removed-less}
 use Rattle.sets.specs.declared.Set.{Set}
 use Rattle.table.specs.Cell.{noPlace}
-use Rattle.stages.specs.Changes.{landOf}
+use Rattle.table.specs.Cell.{landOf}
 use Rattle.updates.specs.GatherLaws.{Gathered, gathered-start, gathered-end, gathered-more}
 use Rattle.stages.specs.ChildLaws.{child-split}
 use Rattle.stages.proofs.choose.children_named.Statement.{statement}

@@ -4,7 +4,7 @@ use borrow.Author.Needs.{needs}
 use borrow.Author.Tests.{eq-eqb, ne-eqb}
 use Rattle.table.specs.Cell.{linked}
 use Rattle.meaning.specs.Step.{exitsFrom}
-use Rattle.stages.specs.Changes.{landOf}
+use Rattle.table.specs.Cell.{landOf}
 use Rattle.stages.specs.ChooseLaws.{enter-set, exit-set, open-set}
 use Rattle.stages.proofs.choose.qualifying.Statement.{statement}
 use Rattle.stages.proofs.choose.qualifying.Tie as tie

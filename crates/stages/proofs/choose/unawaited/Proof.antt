@@ -10,7 +10,7 @@ use borrow.Author.Needs.{needs}
 use Rattle.sets.specs.WalkLaws.{rest-lt, removed-less, rest-start}
 use Rattle.sets.specs.declared.Set.{Set}
 use Rattle.table.specs.Cell.{noPlace}
-use Rattle.stages.specs.Changes.{landOf}
+use Rattle.table.specs.Cell.{landOf}
 use Rattle.stages.specs.ChildLaws.{Unmet, unmet-start, unmet-end, unmet-more}
 use Rattle.stages.proofs.choose.unawaited.Statement.{statement}
 use Rattle.stages.proofs.choose.unawaited.Tie as tie

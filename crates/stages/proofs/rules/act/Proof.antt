@@ -7,7 +7,8 @@ use borrow.Author.Needs.{needs}
 use borrow.Author.Tests.{eq-eqb, ne-eqb}
 use Rattle.table.specs.Cell.{nextAction}
 use Rattle.meaning.specs.Step.{fires}
-use Rattle.stages.specs.Changes.{landOf, acts}
+use Rattle.table.specs.Cell.{landOf}
+use Rattle.stages.specs.Changes.{acts}
 use Rattle.stages.specs.ChooseLaws.{fires-test}
 use Rattle.updates.specs.UpdateLaws.{kind-test}
 use Rattle.stages.proofs.rules.act.Statement.{statement}

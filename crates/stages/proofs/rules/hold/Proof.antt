@@ -2,7 +2,8 @@
 use mathlib.Core.Path.{_≡_, sym, ap, _∙_}
 use borrow.Author.Needs.{needs}
 use Rattle.meaning.specs.Step.{stays}
-use Rattle.stages.specs.Changes.{landOf, locksSecond, holds}
+use Rattle.table.specs.Cell.{landOf}
+use Rattle.stages.specs.Changes.{locksSecond, holds}
 use Rattle.stages.specs.ChooseLaws.{stays-test, choice-test}
 use Rattle.stages.proofs.rules.hold.Statement.{statement}
 use Rattle.stages.proofs.rules.hold.Tie as tie
@@ -24,7 +25,7 @@ returns c =
     rw (sym (stayed m) ∙ c .before .before .before .if1 .taken)
     (c .lock-second .ensures
     ∙ ap (locksSecond (a .a)) (choice-test (a .ps) (a .used) (a .a) _ (m .before .before .before .next-action .ensures) _
-    (c .before .before .qualifying .ensures) (a .wish) _ (c .before .choose .ensures)))
+    (c .before .before .qualifying .ensures) (a .wish) _ (c .before .chosen .ensures)))
 
 pub hold-spec : {M : Type 1} → statement M
 unfolding holds

@@ -9,7 +9,8 @@ use Rattle.sets.specs.Set.{member}
 use Rattle.sets.specs.WalkLaws.{rest-lt, removed-less, lowestIn}
 use Rattle.sets.specs.declared.Set.{Set}
 use Rattle.table.specs.Cell.{noPlace, noAgent, cellOf, kindOf}
-use Rattle.table.specs.Sound.{sound, actionsFit, secondHeld, secondHeldIn, goingFrom, agentFits}
+use Rattle.table.specs.SoundParts.{core-fails}
+use Rattle.table.specs.Sound.{coreSound, sound, actionsFit, secondHeld, secondHeldIn, goingFrom, agentFits}
 use Rattle.soundness.specs.Pass.{quiet}
 use Rattle.soundness.specs.AgentLaws.{second-same, busy-same, quiet-same}
 use Rattle.soundness.specs.Seen.{seenOf}
@@ -86,8 +87,8 @@ module _ (c : tie.After-has Inv-loop μ-loop) where
   moved-to P b e = ap (λ (n : ℕ). P n (agent n)) (sym lowest) ∙ e
 
   -- what is handed out where the table is not sound
-  pub refused : false ≡ sound (cellOf table) → seen false own ≡ seenOf table asked
-  refused e = seen-as (c .before .before .before .before .before .before .before .before .before .before) false e
+  pub refused : false ≡ coreSound (cellOf table) → seen false own ≡ seenOf table asked
+  refused e = seen-as (c .before .before .before .before .before .before .before .before .before .before) false (core-fails (cellOf table) e)
 
   pub unfit : agentFits (cellOf table) number this ≡ false → seen false own ≡ seenOf table asked
   unfit e = refused (let l = c .before .before .before .before .before .before .loop in

@@ -1,12 +1,12 @@
 -- By the wish's membership: the wished number, or what first answers.
-use Rattle.sets.specs.Word.{chosenOf}
+use Rattle.meaning.specs.Step.{chosenOf}
 use borrow.Author.Needs.{needs}
-use Rattle.sets.proofs.Set.choose.Statement.{statement}
-use Rattle.sets.proofs.Set.choose.Tie as tie
+use Rattle.stages.proofs.choose.chosen.Statement.{statement}
+use Rattle.stages.proofs.choose.chosen.Tie as tie
 
-pub choose-spec : {M : Type 1} → statement M
+pub chosen-spec : {M : Type 1} → statement M
 unfolding chosenOf
-choose-spec =
+chosen-spec =
     tie.close
     (tie.spec
     (λ c κs. search needs) (λ c κs. search needs)

@@ -1,0 +1,54 @@
+-- The numbers of the refusals (document 01, "Turned-away calls").
+use Prim.Native.Nat.{ℕ}
+
+-- ---- of a file
+
+-- "cut short: a body incomplete, or no end record"
+abbrev pub cutShort : ℕ
+cutShort = 1
+
+-- "unknown kind, not 1 to 4"
+abbrev pub unknownKind : ℕ
+unknownKind = 2
+
+-- "number too large, or place number 0"
+abbrev pub tooLarge : ℕ
+tooLarge = 3
+
+-- "number given twice"
+abbrev pub givenTwice : ℕ
+givenTwice = 4
+
+-- "not yet given"
+abbrev pub notYetGiven : ℕ
+notYetGiven = 5
+
+-- "name 0 in a place or action"
+abbrev pub nameZero : ℕ
+nameZero = 6
+
+-- "action kind not 1 to 3"
+abbrev pub wrongKind : ℕ
+wrongKind = 7
+
+-- "seventeenth action"
+abbrev pub seventeenth : ℕ
+seventeenth = 8
+
+-- "bytes after the end record"
+abbrev pub afterEnd : ℕ
+afterEnd = 9
+
+-- ---- of a call on a table
+
+-- "unsound table"
+abbrev pub unsoundTable : ℕ
+unsoundTable = 10
+
+-- "no such agent"
+abbrev pub noSuchAgent : ℕ
+noSuchAgent = 11
+
+-- "listing longer than the buffer"
+abbrev pub tooLong : ℕ
+tooLong = 12
