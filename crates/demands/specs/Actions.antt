@@ -3,13 +3,14 @@
 use mathlib.Core.Path.{_≡_, refl, sym, ap, ap₂, _∙_, subst}
 use mathlib.Core.List.{List, []}
 use mathlib.Core.Bool.{true, false}
-use Prim.Native.Nat.{ℕ, zero, suc, _+_, _-_, _≤_}
+use Prim.Native.Nat.{ℕ, zero, suc, _+_, _-_, _≤_, _<_}
 use native.Mathlib.Omega.{arith}
 use native.Mathlib.Numerals.{add-one}
+use lib.Dec.{ltb}
 use borrow.Author.Tests.{ltb-true, ltb-false, lt-ltb}
 use Rattle.table.specs.Base.{tab}
 use Rattle.table.specs.BaseLaws.{Told, yea, nay, told}
-use Rattle.table.specs.Cell.{noAction, hasAction, nextAction, kindOf, nameOf, unused, lastKind}
+use Rattle.table.specs.Cell.{noAction, hasAction, nextAction, kindOf, nameOf, rowEnd, unused, lastKind}
 use Rattle.table.specs.Kinds.{Kind, kind-is}
 use Rattle.table.specs.declared.Action.{Action}
 use Rattle.table.specs.declared.Agent.{Agent}
@@ -37,10 +38,25 @@ unfolding tab
 rest-tab f zero m k e = empty-tab f m (k + 1) (omega arith)
 rest-tab f (suc n) m k e = ap₂ (tab f) (let z : m ≡ n = omega arith in z) (add-one k)
 
+-- a row ends with its last action or the sixteenth, whichever is first
+pub end-most : (n : ℕ) → (rowEnd n ≤ n) × (rowEnd n ≤ 16)
+end-most n = go (told (ltb n 16))
+  where
+    go : Told (ltb n 16) → (rowEnd n ≤ n) × (rowEnd n ≤ 16)
+    go (yea e) = let z : rowEnd n ≡ n = unfold rowEnd in rw e in (omega arith, omega (arith, ltb-true n 16 e))
+    go (nay e) = let z : rowEnd n ≡ 16 = unfold rowEnd in rw e in (omega (arith, ltb-false n 16 e), omega arith)
+
+pub end-past : (n j : ℕ) → j < n → j < 16 → j < rowEnd n
+end-past n j l m = go (told (ltb n 16))
+  where
+    go : Told (ltb n 16) → j < rowEnd n
+    go (yea e) = let z : rowEnd n ≡ n = unfold rowEnd in rw e in omega arith
+    go (nay e) = let z : rowEnd n ≡ 16 = unfold rowEnd in rw e in omega arith
+
 -- without an action left the row is empty
 pub unused-none : (a : Agent) → hasAction a ≡ false → unused a ≡ []
 unfolding unused
-unused-none a e = let l = ltb-false (a .next) (a .count) e in empty-tab _ (a .count - a .next) (a .next) (omega arith)
+unused-none a e = let l = ltb-false (a .next) (a .count) e in empty-tab _ (rowEnd (a .count) - a .next) (a .next) (omega (arith, end-most (a .count) .0))
 
 -- and the next action is none
 pub next-none : (a : Agent) → hasAction a ≡ false → nextAction a ≡ noAction
@@ -56,7 +72,8 @@ first-unused a f = go (told (hasAction a))
     go (yea e) =
         let l = ltb-true (a .next) (a .count) e in
         let few = f .few in
-        first-tab _ (a .count - a .next) (a .next) (omega arith) ∙ sym (rw (e, lt-ltb (a .next) 16 (omega arith)))
+        first-tab _ (rowEnd (a .count) - a .next) (a .next) (omega (arith, end-past (a .count) (a .next) l (omega arith)))
+        ∙ sym (rw (e, lt-ltb (a .next) 16 (omega arith)))
     go (nay e) = ap firstOf (unused-none a e) ∙ sym (next-none a e)
 
 -- an action used up leaves the rest of the row
@@ -65,7 +82,7 @@ unfolding unused
 rest-unused a = go (told (hasAction a))
   where
     go : Told (hasAction a) → unused (useUp a) ≡ restOf (unused a)
-    go (yea e) = rw e (rest-tab _ (a .count - a .next) (a .count - (a .next + 1)) (a .next) (omega arith))
+    go (yea e) = rw e (rest-tab _ (rowEnd (a .count) - a .next) (rowEnd (a .count) - (a .next + 1)) (a .next) (omega arith))
     go (nay e) = rw e (unused-none a e ∙ sym (ap restOf (unused-none a e)))
 
 -- ---- kind and name of the next action
@@ -93,7 +110,9 @@ pub kind-some : (a : Agent) → Fit a → hasAction a ≡ true → 1 ≤ kindOf 
 unfolding unused
 kind-some a f e =
     let l = ltb-true (a .next) (a .count) e in
-    subst (λ (x : Action). 1 ≤ x .kind) (first-unused a f) (good-some _ (a .count - a .next) (a .next) (omega arith) (f .good))
+    let few = f .few in
+    subst (λ (x : Action). 1 ≤ x .kind) (first-unused a f)
+    (good-some _ (rowEnd (a .count) - a .next) (a .next) (omega (arith, end-past (a .count) (a .next) l (omega arith))) (f .good))
 
 pub has-some : (a : Agent) → 1 ≤ kindOf a → hasAction a ≡ true
 has-some a k = go (told (hasAction a))

@@ -1,8 +1,8 @@
--- The listing of a sound cell is that of its tree, so sound cells with the same tree are alike; and alike is an equivalence.
+-- The listing of a cell is that of its tree, so cells with the same tree are alike; and alike is an equivalence. Of every cell.
 -- Idea: a cell and its tree differ only where nothing is in use, and there nothing is written. An agent's text goes over sixteen numbers, its
--- row over its unused actions: they are the same where it has at most sixteen, and soundness is asked for this alone.
+-- row over its unused actions.
 use mathlib.Core.Path.{_≡_, refl, sym, ap, ap₂, _∙_, fun-ext}
-use mathlib.Core.Bool.{true}
+use mathlib.Core.Bool.{false}
 use mathlib.Core.List.{List, []}
 use Prim.Native.Nat.{ℕ, zero, suc, _+_, _-_, _≤_}
 use native.Mathlib.Omega.{arith}
@@ -11,21 +11,15 @@ use lib.ListN.{length, getD}
 use borrow.Author.Tests.{leb-true, leb-false, lt-ltb, le-ltb, ltb-true, ltb-false}
 use Rattle.table.specs.Base.{tab, foldUp}
 use Rattle.table.specs.BaseLaws.{Told, yea, nay, told, and-right, length-tab}
-use Rattle.table.specs.Bounds.{Sized}
-use Rattle.table.specs.Cell.{State, noAction, unused, cellOf}
-use Rattle.table.specs.CellLaws.{bounded}
-use Rattle.table.specs.Sound.{sound}
+use Rattle.table.specs.Cell.{State, noAction, hasAction, rowEnd, unused, hasUnused}
 use Rattle.table.specs.declared.Action.{Action}
 use Rattle.table.specs.declared.Agent.{Agent}
-use Rattle.table.specs.declared.Cell.{Cell}
 use Rattle.meaning.specs.Text.{ascii, joined}
 use Rattle.meaning.specs.Plain.{treeOf}
 use Rattle.meaning.specs.Listing.{actionText, isUnused, actionTurn, agentText, listsIn, agentTurn, agentsText, standsUnder}
 use Rattle.meaning.specs.Listing.{placeTurn, contentsText, listing, Alike}
 use Rattle.meaning.specs.TreeListing.{rowText, actsIn, rowTurn, treeAgents, standTurn, treeContents, treeListing}
-use Rattle.demands.specs.Invariant.{Sound}
-use Rattle.demands.specs.Stages.{fit-given}
-use Rattle.demands.specs.Always.{sound-bounded}
+use Rattle.demands.specs.Actions.{end-most, end-past}
 
 -- ---- an agent's text is its row of unused actions
 
@@ -77,31 +71,40 @@ module _ (a : Agent) where
       go (nay e) _ h = let m = leb-false (a .count) n e in let k : suc n ≡ a .count = omega arith in
           text-to (suc n) (omega arith) ∙ ap (λ (j : ℕ). rowText [] (rowTo j)) k
 
-  pub agent-row : a .count ≤ 16 → agentText a ≡ rowText [] (unused a)
-  unfolding agentText unused
-  agent-row l = text-past 16 l
-
-  -- it has an action left exactly if the row is not empty
-  row-left : ltb (a .next) (a .count) ≡ ltb 0 (length (unused a))
-  row-left = go (told (ltb (a .next) (a .count)))
+  pub agent-row : agentText a ≡ rowText [] (unused a)
+  unfolding agentText unused rowEnd
+  agent-row = go (told (ltb (a .count) 16))
     where
-      size : length (unused a) ≡ a .count - a .next
-      size = unfold unused in length-tab at (a .count - a .next) (a .next)
+      go : Told (ltb (a .count) 16) → agentText a ≡ rowText [] (unused a)
+      go (yea e) = rw e (text-past 16 (omega (arith, ltb-true (a .count) 16 e)))
+      go (nay e) = rw e (text-to 16 (ltb-false (a .count) 16 e))
 
-      go : Told (ltb (a .next) (a .count)) → ltb (a .next) (a .count) ≡ ltb 0 (length (unused a))
-      go (yea e) = e ∙ sym (lt-ltb 0 (length (unused a)) (omega (arith, size, ltb-true (a .next) (a .count) e)))
-      go (nay e) = e ∙ sym (le-ltb 0 (length (unused a)) (omega (arith, size, ltb-false (a .next) (a .count) e)))
+  -- it has an unused action exactly if the row is not empty
+  row-left : hasUnused a ≡ ltb 0 (length (unused a))
+  row-left = go (told (ltb (a .next) 16)) (told (hasAction a))
+    where
+      size : length (unused a) ≡ rowEnd (a .count) - a .next
+      size = unfold unused in length-tab at (rowEnd (a .count) - a .next) (a .next)
 
--- ---- a cell and its tree, where no agent has more than sixteen actions
+      empty : rowEnd (a .count) ≤ a .next → ltb 0 (length (unused a)) ≡ false
+      empty l = le-ltb 0 (length (unused a)) (omega (arith, size))
 
-module _ (c : State) (few : (x : ℕ) → c .given x ≡ true → c .agent x .count ≤ 16) where
+      go : Told (ltb (a .next) 16) → Told (hasAction a) → hasUnused a ≡ ltb 0 (length (unused a))
+      go (yea k) (yea e) = rw (k, e) (sym (lt-ltb 0 (length (unused a))
+          (omega (arith, size, end-past (a .count) (a .next) (ltb-true (a .next) (a .count) e) (ltb-true (a .next) 16 k)))))
+      go (yea k) (nay e) = rw (k, e) (sym (empty (omega (arith, end-most (a .count) .0, ltb-false (a .next) (a .count) e))))
+      go (nay k) _ = rw k (sym (empty (omega (arith, end-most (a .count) .1, ltb-false (a .next) 16 k))))
+
+-- ---- a cell and its tree
+
+module _ (c : State) where
   -- an agent is written with the same text
   agent-turn : (p x : ℕ) (s : List ℕ) → agentTurn c p x s ≡ rowTurn (treeOf c) p x s
   unfolding listsIn actsIn treeOf
   agent-turn p x s = go (told (c .given x))
     where
       go : Told (c .given x) → agentTurn c p x s ≡ rowTurn (treeOf c) p x s
-      go (yea g) = rw (g, row-left (c .agent x), agent-row (c .agent x) (few x g))
+      go (yea g) = rw (g, row-left (c .agent x), agent-row (c .agent x))
       go (nay g) = rw g
 
   agents-same : (p : ℕ) → agentsText c p ≡ treeAgents (treeOf c) p
@@ -126,25 +129,13 @@ module _ (c : State) (few : (x : ℕ) → c .given x ≡ true → c .agent x .co
       (agents-same p)
 
   -- so the listings are the same
-  pub few-listing : listing c ≡ treeListing (treeOf c)
+  pub tree-listing : listing c ≡ treeListing (treeOf c)
   unfolding listing treeListing
-  few-listing = rw (contents-same 65 0)
+  tree-listing = rw (contents-same 65 0)
 
--- ---- sound cells
-
--- the listing of a sound cell is that of its tree
-pub tree-listing : (c : State) → Sound c → listing c ≡ treeListing (treeOf c)
-tree-listing c i = few-listing c (λ x g. fit-given c i x g .few)
-
--- "Two layouts are taken as alike when their listings are equal": so are two sound cells with the same tree
-pub same-tree-alike : (c d : State) → Sound c → Sound d → treeOf c ≡ treeOf d → Alike c d
-same-tree-alike c d i j e = tree-listing c i ∙ ap treeListing e ∙ sym (tree-listing d j)
-
--- the same of tables that pass the test of soundness
-pub sound-tables-alike : (t u : Cell) → Sized t → Sized u → sound (cellOf t) ≡ true → sound (cellOf u) ≡ true
-    → treeOf (cellOf t) ≡ treeOf (cellOf u) → Alike (cellOf t) (cellOf u)
-sound-tables-alike t u y z e f = same-tree-alike (cellOf t) (cellOf u)
-    (sound-bounded (cellOf t) (bounded t y) e) (sound-bounded (cellOf u) (bounded u z) f)
+-- "Two layouts are taken as alike when their listings are equal": so are two cells with the same tree
+pub same-tree-alike : (c d : State) → treeOf c ≡ treeOf d → Alike c d
+same-tree-alike c d e = tree-listing c ∙ ap treeListing e ∙ sym (tree-listing d)
 
 -- ---- alike is an equivalence
 

@@ -1,6 +1,6 @@
 -- What `walk` prints, over every file and every order: of an accepted file the loaded tree, a line for each call with what it answered, and the
 -- plain tree after the calls; of a refused one its number and offset.
--- Idea: the report goes over the calls as the answers and the run do; the two listings are those of the trees, since the cells are sound.
+-- Idea: the report goes over the calls as the answers and the run do; the two listings are those of the trees.
 use mathlib.Core.Path.{_≡_, refl, sym, ap, ap₂, _∙_}
 use mathlib.Core.List.{List, [], _∷_, _++_, append-assoc}
 use Prim.Native.Nat.{ℕ, suc}
@@ -13,12 +13,11 @@ use Rattle.meaning.specs.File.{Load, accepted, refused, load}
 use Rattle.meaning.specs.Run.{Call, stepOf, callOf, run, answers}
 use Rattle.meaning.specs.Plain.{treeOf, plainOf}
 use Rattle.meaning.specs.Report.{Pair, stepLine, listingLine, refusedLine, callsIn, reportRun, reportOf, report}
-use Rattle.demands.specs.Invariant.{Sound}
 use Rattle.demands.specs.Fresh.{Fresh}
 use Rattle.demands.specs.Loading.{accepted-fresh}
-use Rattle.demands.specs.LoadingLaws.{fresh-inv, fresh-forth}
+use Rattle.demands.specs.LoadingLaws.{fresh-forth}
 use Rattle.demands.specs.AfterCalls.{reached, answered, plainAfter}
-use Rattle.demands.specs.DemandThree.{reached-inv, reached-tree}
+use Rattle.demands.specs.DemandThree.{reached-tree}
 use Rattle.demands.specs.Layouts.{tree-listing}
 use Rattle.demands.specs.Printed.{treeLine, pairCalls, stepLines, printedOf}
 
@@ -38,10 +37,10 @@ report-lines t (k ∷ pairs) =
     (report-lines (stepOf t (k .agent) (k .wish) .cell) pairs)
     ∙ sym (append-assoc (stepLine (k .agent) (stepOf t (k .agent) (k .wish) .answer)) _ _)
 
--- a sound cell's line is that of its tree
-tree-line : (word : List ℕ) (c : State) → Sound c → listingLine word c ≡ treeLine word (treeOf c)
+-- a cell's line is that of its tree
+tree-line : (word : List ℕ) (c : State) → listingLine word c ≡ treeLine word (treeOf c)
 unfolding listingLine treeLine tab
-tree-line word c i = rw (tree-listing c i)
+tree-line word c = rw (tree-listing c)
 
 -- from a fresh cell: the report of its table
 fresh-printed : (c : State) → Fresh c → (pairs : List Pair) → reportOf (accepted c) pairs ≡ printedOf c (pairCalls pairs)
@@ -50,10 +49,10 @@ fresh-printed c f pairs = ap₂ _++_ first
     (report-lines (tableOf c) pairs ∙ ap (λ (s : List ℕ). stepLines (pairCalls pairs) (answered c (pairCalls pairs)) ++ s) last)
   where
     first : listingLine (ascii "start") (cellOf (tableOf c)) ≡ treeLine (ascii "start") (plainOf c .tree)
-    first = ap (listingLine (ascii "start")) (fresh-forth c f) ∙ (unfold plainOf in tree-line (ascii "start") c (fresh-inv c f .sound))
+    first = ap (listingLine (ascii "start")) (fresh-forth c f) ∙ (unfold plainOf in tree-line (ascii "start") c)
 
     last : listingLine (ascii "end") (cellOf (reached c (pairCalls pairs))) ≡ treeLine (ascii "end") (plainAfter c (pairCalls pairs) .tree)
-    last = tree-line (ascii "end") (cellOf (reached c (pairCalls pairs))) (reached-inv c f (pairCalls pairs) .sound)
+    last = tree-line (ascii "end") (cellOf (reached c (pairCalls pairs)))
         ∙ ap (treeLine (ascii "end")) (sym (reached-tree c f (pairCalls pairs)))
 
 -- of an accepted file

@@ -4,7 +4,7 @@ use mathlib.Core.Path.{_≡_, refl, ap, _∙_}
 use mathlib.Core.Bool.{Bool, true, false, cond}
 use Prim.Native.Nat.{ℕ}
 use Rattle.table.specs.Base.{tab}
-use Rattle.table.specs.Cell.{State, freshAgent, nextAction, kindOf, nameOf, unused, enterKind, exitKind, openKind}
+use Rattle.table.specs.Cell.{State, freshAgent, nextAction, kindOf, nameOf, rowEnd, unused, enterKind, exitKind, openKind}
 use Rattle.table.specs.declared.Agent.{Agent}
 use Rattle.meaning.specs.Calculus.{firstOf, nextOf, putInto, openUp, move}
 use Rattle.meaning.specs.Plain.{treeOf}
@@ -29,7 +29,7 @@ module _ (c : State) (x : ℕ) where
   tree-home = either-read (λ a. a .home)
 
   pub tree-unused : treeOf c .unused x ≡ unused (agentIn c x)
-  unfolding treeOf unused tab
+  unfolding treeOf unused rowEnd tab
   tree-unused = either-read unused
 
 -- and of an agent that is given, as it is

@@ -11,12 +11,13 @@ use lib.ListN.{getD, length}
 use borrow.Author.Tests.{ltb-true, ltb-false, lt-ltb, le-ltb, le-leb, leb-true}
 use Rattle.table.specs.Base.{tab}
 use Rattle.table.specs.BaseLaws.{Told, yea, nay, told, eq?, and-left, and-right, all-yes, all-at, length-tab}
-use Rattle.table.specs.Cell.{noAction, hasAction, unused, lastKind}
+use Rattle.table.specs.Cell.{noAction, hasAction, rowEnd, unused, lastKind}
 use Rattle.table.specs.Sound.{actionFits, actionAt, actionsFit}
 use Rattle.table.specs.declared.Action.{Action}
 use Rattle.table.specs.declared.Agent.{Agent}
 use Rattle.calculus.specs.Formed.{Good, none, more}
 use Rattle.demands.specs.Invariant.{Fit}
+use Rattle.demands.specs.Actions.{end-most, end-past}
 
 -- ---- one action
 
@@ -60,12 +61,13 @@ module _ (a : Agent) where
   -- each unused action is in range
   pub fit-at : Fit a → (j : ℕ) → a .next ≤ j → j < a .count → InRange (getD (a .actions) j noAction)
   unfolding unused
-  fit-at f j l m = good-at (λ i. getD (a .actions) i noAction) (a .count - a .next) (a .next) j (f .good) l (omega (arith, f .ordered))
+  fit-at f j l m = good-at (λ i. getD (a .actions) i noAction) (rowEnd (a .count) - a .next) (a .next) j (f .good) l
+      (omega (arith, f .ordered, end-past (a .count) j m (omega (arith, f .few))))
 
   -- so a row with every action in range fits
   pub fit-from : a .next ≤ a .count → a .count ≤ 16 → ((j : ℕ) → a .next ≤ j → j < a .count → InRange (getD (a .actions) j noAction)) → Fit a
   unfolding unused
-  fit-from o f h = record { ordered = o; few = f; good = good-tab _ _ _ (λ j l m. h j l (omega arith)) }
+  fit-from o f h = record { ordered = o; few = f; good = good-tab _ _ _ (λ j l m. h j l (omega (arith, end-most (a .count) .0))) }
 
   -- a row without actions fits
   pub fit-empty : a .next ≡ 0 → a .count ≡ 0 → Fit a
@@ -93,7 +95,14 @@ module _ (a : Agent) where
       (all-at (actionAt a) 16 j (omega arith) (and-right (leb (a .count) 16) _ rest))))
 
   -- an empty row has no action left
-  pub none-left : unused a ≡ [] → hasAction a ≡ false
+  pub none-left : Fit a → unused a ≡ [] → hasAction a ≡ false
   unfolding unused
-  none-left e = let n : a .count - a .next ≡ 0 = sym (length-tab (λ j. getD (a .actions) j noAction) (a .count - a .next) (a .next)) ∙ ap length e in
-      le-ltb (a .next) (a .count) (omega arith)
+  none-left f e = go (told (hasAction a))
+    where
+      row : rowEnd (a .count) - a .next ≡ 0
+      row = sym (length-tab (λ j. getD (a .actions) j noAction) (rowEnd (a .count) - a .next) (a .next)) ∙ ap length e
+
+      go : Told (hasAction a) → hasAction a ≡ false
+      go (yea h) = let l = ltb-true (a .next) (a .count) h in
+          absurd (omega (arith, row, end-past (a .count) (a .next) l (omega (arith, f .few))))
+      go (nay h) = h

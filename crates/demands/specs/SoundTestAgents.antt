@@ -111,7 +111,7 @@ module _ (c : State) (x : ℕ) (a : Agent) where
       go (ok5 s w h) = at 5 s refl (lock-true c x _ u h) free
       go (ok6 s w h₁ h₂) = at 6 s refl (lock-true c x _ u h₁) (rw (stands-parent l (a .home) u) (lock-true c x _ (p .parent-used (a .home)) h₂))
       go (ok7 s k m) = at 7 s (rw (has-some a k, m)) free free
-      go (ok8 s e) = at 8 s (rw (none-left a e)) free free
+      go (ok8 s e) = at 8 s (rw (none-left a f e)) free free
 
   -- ---- the parts of the test
 

@@ -5,10 +5,10 @@ use mathlib.Core.Bool.{Bool, true, false, not, _&&_, _||_}
 use Prim.Native.Nat.{ℕ, zero, suc, _+_, _*_, _≤_, zero-le}
 use native.Mathlib.Nat.{le-refl, suc-mul}
 use native.Mathlib.Omega.{arith}
-use lib.Dec.{eqb, ltb}
+use lib.Dec.{eqb}
 use borrow.Author.Tests.{eqb-true, not-true}
 use Rattle.table.specs.BaseLaws.{Told, yea, nay, told, clash, and-left, and-right}
-use Rattle.table.specs.Cell.{State}
+use Rattle.table.specs.Cell.{State, hasUnused}
 use Rattle.meaning.specs.Listing.{listsIn, standsUnder}
 use Rattle.lengths.specs.Sums.{sumBelow, pick, sum-le, sum-both, sum-none, sum-at, sum-most, pick-le, picks-add, gathered}
 
@@ -45,7 +45,7 @@ module _ (c : State) (A B : ℕ) where
 
   lives-one : (x p : ℕ) → livesIn p x ≡ true → c .agent x .home ≡ p
   unfolding listsIn
-  lives-one x p e = eqb-true _ _ (and-right (ltb (c .agent x .next) (c .agent x .count)) _ (and-right (c .given x) _ e))
+  lives-one x p e = eqb-true _ _ (and-right (hasUnused (c .agent x)) _ (and-right (c .given x) _ e))
 
   stands-one : (q p : ℕ) → standsIn p q ≡ true → c .land .place q .parent ≡ p
   unfolding standsUnder

@@ -13,7 +13,7 @@ use Rattle.sets.specs.WordLaws.{has-word}
 use Rattle.sets.specs.Set.{member}
 use Rattle.sets.specs.declared.Set.{Set}
 use Rattle.table.specs.BaseLaws.{clash, getD-tab}
-use Rattle.table.specs.Cell.{cellOf, noPlace, hasAction}
+use Rattle.table.specs.Cell.{cellOf, noPlace, hasUnused}
 use Rattle.table.specs.declared.Cell.{Cell}
 use Rattle.meaning.specs.Listing.{listsIn, standsUnder}
 use Rattle.lister.specs.Sheet.{namesOf, parentsOf, listedAt, groupedOf, Rows, sheetOf}
@@ -51,9 +51,9 @@ module _ (t : Cell) {names parents places homes agents lengths texts : List ℕ}
     stands = λ p q l m. ap (λ (w : List ℕ). has (getD w p 0) q) s ∙ in-word (t .used) parents p q l m
         ∙ ap (λ (k : ℕ). member (t .used) q && eqb k p) (parent q m) ∙ unfold cellOf standsUnder in stands-so (member (t .used) q) (eqb q 0) (getD (t .places) q noPlace .parent) p l;
     lives = λ p x l m. ap (λ (w : List ℕ). has (getD w p 0) x) v ∙ in-word (t .given) homes p x l m
-        ∙ ap (λ (k : ℕ). member (t .given) x && eqb k p) (home x m) ∙ unfold cellOf listedAt listsIn in lives-so (member (t .given) x) (hasAction (cellOf t .agent x)) (cellOf t .agent x .home) p l;
+        ∙ ap (λ (k : ℕ). member (t .given) x && eqb k p) (home x m) ∙ unfold cellOf listedAt listsIn in lives-so (member (t .given) x) (hasUnused (cellOf t .agent x)) (cellOf t .agent x .home) p l;
     name = λ q m. ap (λ (w : List ℕ). getD w q 0) n ∙ unfold cellOf namesOf in getD-tab _ 64 q 0 m;
-    text = λ p x m e. r .row x m (unfold listsIn in listed-so (cellOf t .given x) (hasAction (cellOf t .agent x)) (eqb (cellOf t .agent x .home) p) e);
+    text = λ p x m e. r .row x m (unfold listsIn in listed-so (cellOf t .given x) (hasUnused (cellOf t .agent x)) (eqb (cellOf t .agent x .home) p) e);
   }
     where
       parent : (q : ℕ) → q < 64 → getD parents q 0 ≡ cond (eqb q 0) 64 (getD (t .places) q noPlace .parent)

@@ -15,7 +15,7 @@ use Rattle.sets.specs.declared.Set.{Set}
 use Rattle.table.specs.Base.{tab}
 use Rattle.table.specs.SweepLaws.{below, sweep-start, sweep-skip, sweep-hit, sweep-end}
 use Rattle.table.specs.BaseLaws.{as-tab, Told, yea, nay, told, eq?, clash}
-use Rattle.table.specs.Cell.{State, hasAction}
+use Rattle.table.specs.Cell.{State, hasUnused}
 use Rattle.meaning.specs.Text.{overlay}
 use Rattle.meaning.specs.Listing.{agentText}
 use Rattle.text.specs.Wrote.{Wrote}
@@ -114,7 +114,7 @@ unfolding listedAt
 unlisted c j e = rw e
 
 not-given : (c : State) (j : ℕ) → c .given j ≡ false → isListed c j ≡ false
-not-given c j e = ap (λ (b : Bool). b && hasAction (c .agent j)) e
+not-given c j e = ap (λ (b : Bool). b && hasUnused (c .agent j)) e
 
 -- a row of one value
 pub row-of : (v : ℕ) → replicate 64 v ≡ tab (λ _. v) 64 0
@@ -154,14 +154,14 @@ module _ {c : State} {homes lengths texts : List ℕ} {i : ℕ} {s : Set} (k : H
     reached = held-skip x (omega (arith, rest-from r some)) (λ j a b. not-given c j (rest-skip r some j a (omega arith))) k
 
     -- an agent without unused actions
-    pub held-same : hasAction (c .agent x) ≡ false → Held c homes lengths texts (x + 1)
+    pub held-same : hasUnused (c .agent x) ≡ false → Held c homes lengths texts (x + 1)
     held-same h = held-skip (x + 1) (omega arith) (λ j a b. here j a b) reached
       where
         here : (j : ℕ) → x ≤ j → j < x + 1 → isListed c j ≡ false
         here j a b = let q : j ≡ x = omega arith in ap (isListed c) q ∙ rw (given-x, h)
 
     -- an agent with its row
-    pub held-more : {ys : List ℕ} {n : ℕ} → hasAction (c .agent x) ≡ true → Wrote (agentText (c .agent x)) (part (256 * x) texts) ys n → n ≤ 192
+    pub held-more : {ys : List ℕ} {n : ℕ} → hasUnused (c .agent x) ≡ true → Wrote (agentText (c .agent x)) (part (256 * x) texts) ys n → n ≤ 192
         → Held c (set homes x (c .agent x .home)) (set lengths x n) (back (256 * x) texts ys) (x + 1)
     held-more {ys} {n} h w l = record {
       home = sweep-hit 0 (λ _. 64) (listedAt c) homes x (c .agent x .home) in-reach (unfold listedAt in rw (given-x, h)) (reached .home);

@@ -9,7 +9,7 @@ use Rattle.sets.specs.Word.{has, wordOf}
 use Rattle.sets.specs.Set.{member}
 use Rattle.sets.specs.declared.Set.{Set}
 use Rattle.table.specs.Base.{tab, foldUp}
-use Rattle.table.specs.Cell.{State, noPlace, hasAction}
+use Rattle.table.specs.Cell.{State, noPlace, hasUnused}
 use Rattle.table.specs.declared.Place.{Place}
 use Rattle.meaning.specs.Text.{ascii, decimal, gap, joined, overlay}
 use Rattle.meaning.specs.Listing.{agentText, bracketed}
@@ -27,7 +27,7 @@ parentsOf ps = tab (λ q. cond (eqb q 0) 64 (getD ps q noPlace .parent)) 64 0
 
 -- x is an agent with unused actions
 abbrev pub isListed : State → ℕ → Bool
-isListed c x = c .given x && hasAction (c .agent x)
+isListed c x = c .given x && hasUnused (c .agent x)
 
 -- where each agent is listed: its home, or 64 where it has no unused action
 unfoldable pub listedAt : State → ℕ → ℕ

@@ -6,7 +6,7 @@ use mathlib.Core.List.{List, [], _++_}
 use lib.Dec.{ltb, leb, eqb}
 use lib.ListN.{length, getD}
 use Rattle.table.specs.Base.{tab, foldUp}
-use Rattle.table.specs.Cell.{Land, State, noAction, enterKind, exitKind}
+use Rattle.table.specs.Cell.{Land, State, noAction, hasUnused, enterKind, exitKind}
 use Rattle.table.specs.Sound.{sound}
 use Rattle.table.specs.declared.Action.{Action}
 use Rattle.table.specs.declared.Agent.{Agent}
@@ -41,7 +41,7 @@ agentText a = foldUp (actionTurn a) 16 []
 
 -- an agent with unused actions that lives in p
 unfoldable pub listsIn : Bool → Agent → ℕ → Bool
-listsIn given a p = given && (ltb (a .next) (a .count) && eqb (a .home) p)
+listsIn given a p = given && (hasUnused a && eqb (a .home) p)
 
 -- one agent more, after a bar
 abbrev pub agentTurn : State → ℕ → ℕ → List ℕ → List ℕ

@@ -192,6 +192,14 @@ kindOf a = nextAction a .kind
 abbrev pub nameOf : Agent → ℕ
 nameOf a = nextAction a .name
 
+-- where a row of so many actions ends: it has room for sixteen
+unfoldable pub rowEnd : ℕ → ℕ
+rowEnd count = cond (ltb count 16) count 16
+
 -- the unused actions, in order
 unfoldable pub unused : Agent → List Action
-unused a = tab (λ j. getD (a .actions) j noAction) (a .count - a .next) (a .next)
+unused a = tab (λ j. getD (a .actions) j noAction) (rowEnd (a .count) - a .next) (a .next)
+
+-- there are some
+abbrev pub hasUnused : Agent → Bool
+hasUnused a = ltb (a .next) 16 && hasAction a

@@ -3,7 +3,6 @@ use mathlib.Core.Path.{sym, _∙_}
 use Prim.Native.Nat.{ℕ, _+_, _<_}
 use native.Mathlib.Omega.{arith}
 use lib.ListN.{length-take, length-drop}
-use borrow.Author.Tests.{lt-ltb, le-ltb}
 use Rattle.sets.specs.Set.{member}
 use Rattle.sets.specs.WalkLaws.{Rest, rest-start}
 use Rattle.table.specs.Cell.{cellOf}
@@ -37,12 +36,12 @@ loop-again : tie.Need-loop-again Inv-loop μ-loop
 unfolding cellOf
 loop-again c =
     let p = c .before .before .put-agent .ensures in
-    let t = c .before .before .before .before .if2 .taken in
+    let u = c .before .before .before .before in
     let r = c .before .before .before .before .before .before in
     let e = r .before .before .first .ensures in
     let k = r .before .before .before .if1 .taken in
     let v = r .before .before .before .before .before .loop .inv .1 in
-    (r .before .before .first .result + 1, (left-over (v .0) k e (r .rest .ensures), held-more (v .1) (v .0) k e (lt-ltb _ _ t) (p .0) (p .1)))
+    (r .before .before .first .result + 1, (left-over (v .0) k e (r .rest .ensures), held-more (v .1) (v .0) k e (sym (u .before .has-unused .ensures) ∙ u .if2 .taken) (p .0) (p .1)))
 
 loop-again-2 : tie.Need-loop-again-2 Inv-loop μ-loop
 unfolding cellOf
@@ -51,7 +50,7 @@ loop-again-2 c =
     let e = r .before .before .first .ensures in
     let k = r .before .before .before .if1 .taken in
     let v = r .before .before .before .before .before .loop .inv .1 in
-    (r .before .before .first .result + 1, (left-over (v .0) k e (r .rest .ensures), held-same (v .1) (v .0) k e (le-ltb _ _ (c .if2 .left))))
+    (r .before .before .first .result + 1, (left-over (v .0) k e (r .rest .ensures), held-same (v .1) (v .0) k e (sym (c .before .has-unused .ensures) ∙ c .if2 .left)))
 
 pub write-rows-spec : {M : Type 1} → statement M
 unfolding cellOf
@@ -59,7 +58,7 @@ write-rows-spec =
     tie.close
     (tie.spec Inv-loop μ-loop
     loop-holds (λ c κs. tt)
-    (λ c. let h = low c in omega arith) (λ c. let h = low c in omega arith) (λ c. let h = low c in omega arith) (λ c κs. tt)
+    (λ c. let h = low c in omega arith) (λ c. let h = low c in omega arith) (λ c. let h = low c in omega arith) (λ c κs. tt) (λ c κs. tt)
     (λ c. let h = low (c .before .before .before .before) in omega arith)
     (λ c. let h = low (c .before .before .before .before) in
     omega (arith, (c .before .before .before .before .before .before .before .loop .inv .1 .1) .long))
