@@ -15,6 +15,6 @@ unfoldable pub knownIdle : Bool → Cell → Idled
 knownIdle known t = cond known (cond (idle (cellOf t)) Idle Busy) (Unknown unsoundTable)
 
 -- told the truth of the table, it is the call
-pub told-truly : (t : Cell) (known : Bool) → known ≡ sound (cellOf t) → knownIdle known t ≡ idleOf t
+pub idle-told : (t : Cell) (known : Bool) → known ≡ sound (cellOf t) → knownIdle known t ≡ idleOf t
 unfolding knownIdle idleOf
-told-truly t known e = ap (λ (z : Bool). knownIdle z t) e
+idle-told t known e = ap (λ (z : Bool). knownIdle z t) e

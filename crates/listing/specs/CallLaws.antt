@@ -21,10 +21,10 @@ use Rattle.lister.specs.WriteLaws.{below-length, within-length}
 use Rattle.listing.specs.Known.{knownAnswer, knownBuffer}
 
 -- told the truth of the table, it is the listing call
-pub told-truly : (c : State) (b e : List ℕ) (r : Listed) (known : Bool) → known ≡ sound c
+pub list-told : (c : State) (b e : List ℕ) (r : Listed) (known : Bool) → known ≡ sound c
     → (r ≡ knownAnswer known c b) × (e ≡ knownBuffer known c b) → (r ≡ listAnswer c b) × (e ≡ listBuffer c b)
 unfolding knownAnswer knownBuffer listAnswer listBuffer
-told-truly c b e r known t (f, g) = (f ∙ ap (λ (z : Bool). knownAnswer z c b) t, g ∙ ap (λ (z : Bool). knownBuffer z c b) t)
+list-told c b e r known t (f, g) = (f ∙ ap (λ (z : Bool). knownAnswer z c b) t, g ∙ ap (λ (z : Bool). knownBuffer z c b) t)
 
 pub refused-unsound : (c : State) (b : List ℕ) (known : Bool) → known ≡ false → (Unlisted unsoundTable ≡ knownAnswer known c b) × (b ≡ knownBuffer known c b)
 unfolding knownAnswer knownBuffer

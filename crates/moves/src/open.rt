@@ -11,6 +11,7 @@ use table::Cell;
 use table::Place;
 use updates::at_stage;
 use updates::released;
+use updates::with_home;
 ghost use mathlib.Core.Path.{_≡_};
 ghost use mathlib.Core.Bool.{_&&_, cond};
 ghost use lib.Dec.{eqb};
@@ -18,7 +19,6 @@ ghost use lib.ListN.{getD};
 ghost use Rattle.sets.specs.Set.{member};
 ghost use Rattle.table.specs.Base.{tab};
 ghost use Rattle.table.specs.Cell.{none, noPlace, cellOf};
-ghost use Rattle.meaning.specs.Update.{withHome};
 ghost use Rattle.meaning.specs.Step.{dissolvePlace, dissolveAgent, wokenBy};
 ghost use Rattle.meaning.specs.Run.{made};
 
@@ -75,15 +75,6 @@ fn free_held(ls: [u8; 64], used: Set, s: Set) -> [u8; 64]
         ms[k] = n;
     }
     ms
-}
-
-// The agent, living in h.
-fn with_home(a: Agent, h: u8) -> Agent
-    ensures { λ r. ⌜ r ≡ withHome a h ⌝ }
-{
-    let mut b = a;
-    b.home = h;
-    b
 }
 
 // The stage of an agent that moves: 8 if it is done, else 0.

@@ -27,7 +27,7 @@ use Rattle.meaning.specs.declared.Verdict.the-variants.{Accepted, Rejected}
 use Rattle.meaning.specs.Update.{linkedPlace, withHome}
 use Rattle.meaning.specs.File.{recordAt, addPlace, withAction, addAgent, addAction, isFull, knownIn, accepted, refused, loadRecord, loadFrom, load, loaded, loadOf}
 use Rattle.reader.specs.KnownSets.{knownBy}
-use Rattle.meaning.specs.FileLaws.{Fits, place, agent, action, end, record-fits, record-same}
+use Rattle.meaning.specs.FileLaws.{Fits, place, agent, action, record-fits, record-same}
 
 -- ---- the load from an offset on
 

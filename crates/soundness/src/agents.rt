@@ -4,13 +4,14 @@ use sets::Set;
 use table::Action;
 use table::Agent;
 use table::Place;
+use table::linked_to;
 ghost use mathlib.Core.Path.{_≡_};
 ghost use mathlib.Core.Bool.{_&&_};
 ghost use lib.Dec.{eqb};
 ghost use Rattle.sets.specs.Word.{has};
 ghost use Rattle.table.specs.Cell.{kindOf};
 ghost use Rattle.table.specs.Sound.{actionFits, actionsFit, stageFits, firstHeld, secondHeld, goingFrom, ready, holdsBoth};
-ghost use Rattle.soundness.specs.Pass.{Known, sixteenFit, quiet, quietFits, lockIsAt, linkedAt, busyFits};
+ghost use Rattle.soundness.specs.Pass.{Known, sixteenFit, quiet, quietFits, lockIsAt, busyFits};
 
 // ---- actions
 
@@ -184,17 +185,6 @@ fn lock_is(known: bool, q: u8, lock: u8, x: u8) -> bool
     if known { lock == x } else { false }
 }
 
-// Whether a place is in use and linked to p.
-fn linked_at(known: bool, x: Place, p: u8) -> bool
-    ensures { λ r. ⌜ r ≡ linkedAt known x p ⌝ }
-{
-    if known {
-        if x.way == 0 { x.parent == p } else { false }
-    } else {
-        false
-    }
-}
-
 // ---- the other stages
 
 // Whether an agent that remembers a place is ready to lock it.
@@ -265,8 +255,8 @@ pub(super) fn busy_fits(
     let chosen_used = used.has(a.chosen);
     let some = a.next < a.count;
     let same = a.remembered == a.home;
-    let here = linked_at(true, home, a.remembered);
-    let there = linked_at(chosen_used, chosen, a.remembered);
+    let here = linked_to(true, home, a.remembered);
+    let there = linked_to(chosen_used, chosen, a.remembered);
     let stage = stage_fits(a.stage, some, known, same, kind, here, there);
     let first_used = used.has(first);
     let second_used = used.has(second);

@@ -1,4 +1,4 @@
-// The small changes and tests that the stages and the moves share.
+// The small changes and tests that the reader, the stages and the moves share.
 use table::Agent;
 use table::Place;
 ghost use mathlib.Core.Path.{_≡_};
@@ -6,7 +6,7 @@ ghost use mathlib.Core.Bool.{_&&_};
 ghost use lib.Dec.{eqb};
 ghost use lib.ListN.{getD};
 ghost use Rattle.table.specs.Base.{tab};
-ghost use Rattle.meaning.specs.Update.{atStage};
+ghost use Rattle.meaning.specs.Update.{atStage, withHome};
 
 // The agent with its stage, remembered and chosen place.
 pub fn at_stage(a: Agent, stage: u8, remembered: u8, chosen: u8) -> Agent
@@ -16,6 +16,15 @@ pub fn at_stage(a: Agent, stage: u8, remembered: u8, chosen: u8) -> Agent
     b.stage = stage;
     b.remembered = remembered;
     b.chosen = chosen;
+    b
+}
+
+// The agent, living in h.
+pub fn with_home(a: Agent, h: u8) -> Agent
+    ensures { λ r. ⌜ r ≡ withHome a h ⌝ }
+{
+    let mut b = a;
+    b.home = h;
     b
 }
 

@@ -1,11 +1,11 @@
 -- What `idled` answers, told what `is_sound` answered.
 use mathlib.Core.Path.{_∙_}
 use borrow.Author.Needs.{needs}
-use Rattle.keeper.specs.Known.{told-truly}
+use Rattle.keeper.specs.Known.{idle-told}
 use Rattle.keeper.proofs.idle.Statement.{statement}
 use Rattle.keeper.proofs.idle.Tie as tie
 
 pub idle-spec : {M : Type 1} → statement M
 idle-spec =
     tie.close
-    (tie.spec (λ c κs. search needs) (λ c κs. search needs) (λ c. c .idled .ensures ∙ told-truly _ _ (c .before .is-sound .ensures)))
+    (tie.spec (λ c κs. search needs) (λ c κs. search needs) (λ c. c .idled .ensures ∙ idle-told _ _ (c .before .is-sound .ensures)))

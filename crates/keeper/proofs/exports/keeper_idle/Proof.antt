@@ -9,7 +9,7 @@ use denote.Builtin.{bool}
 use denote.Struct.Laws as LL
 use denote.Enum.Laws as EL
 use Rattle.table.specs.declared.Cell.{Cell}
-use Rattle.keeper.specs.Known.{knownIdle, told-truly}
+use Rattle.keeper.specs.Known.{knownIdle, idle-told}
 use Rattle.soundness.specs.declared.sound.Seen.{Seen}
 use Rattle.soundness.proofs.sound.Seen as Seen′
 use Rattle.soundness.proofs.sound.Seen.Laws as seen-laws
@@ -67,7 +67,7 @@ module _ {M : Type 1} (𝓤 : URA M) (H : Heap 𝓤) (A : Atoms 𝓤) (W : Given
           applied ! fm Idled′.the-row u64 idleNumber known-number r u (and-then ! (load ! (from ! (stop !)) (look ! 8 refl)) (no-more !)) (λ v′ y e″ is″.
           land ! (from ! (stop !)) (init ! 14 refl (uint-lawful 𝓤 H A W w64 .typed y _ is″ .0)) $ returns ! (look ! 14 refl) $ forget ! 6 refl $ forget ! 8 refl $ forget ! 10 refl $ forget ! 12 refl $ forget ! 14 refl $
           move ! (14 ∷ 15 ∷ 12 ∷ 13 ∷ 10 ∷ 11 ∷ 8 ∷ 9 ∷ 6 ∷ 7 ∷ []) $ freed ! $ keep ! (3 ∷ 5 ∷ 4 ∷ 0 ∷ []) $
-          by ! (exits 𝓤 H A W ask κ q b o γ h y v′ (e″ ∙ ap idleNumber (e′ ∙ told-truly h (s .sound) (ap (λ (z : Seen). z .sound) e)))))))))))))
+          by ! (exits 𝓤 H A W ask κ q b o γ h y v′ (e″ ∙ ap idleNumber (e′ ∙ idle-told h (s .sound) (ap (λ (z : Seen). z .sound) e)))))))))))))
 
 pub keeper-idle-spec : {M : Type 1} → statement M
 unfolding code.routine

@@ -16,7 +16,7 @@ use Rattle.soundness.proofs.sound.Seen.Laws as seen-laws
 use Rattle.meaning.specs.Listing.{listAnswer, listBuffer}
 use Rattle.meaning.specs.Codes.{listNumber}
 use Rattle.listing.specs.Known.{knownAnswer, knownBuffer}
-use Rattle.listing.specs.CallLaws.{told-truly}
+use Rattle.listing.specs.CallLaws.{list-told}
 use Rattle.lending.proofs.Walk.{_≡_, refl, ap, _∙_, ℕ, List, [], _∷_, URA, fullShare, named, w64, Val, vptr, SProp, ent, id⊢, GName, Lft, Share, Fml, ftrue, fat, flft, fres, fshr-bor, Memory, Routine, Heap, Calls, Loops, WpFn, Atoms, Fun, AllOutlive, givenOf, tables, Given, ‵, raw, _⊛_, ⋆, _$_, _∵_, !, qed, by, move, keep, drop, split, join, rewrite, fsplit, fsplit3, fjoin, fjoin3, feqI, feqL, suffices, frame, done, look, look-raw, init, forget, stop, hop, fld, from, load, lit, addr, of-opd, and-then, no-more, assigns, land, returns, enter, alloc1, alloc0, params1, pass1, pass0, agg, whole, sub, look-in, FmC, owns, Is, partAt, uint-lawful, u8, u64, RefT, ShrRef, ptr-vals, shr-tells, MutSlice, Room, finally, slice-vals, mut-slice-tells, plain, only, owned, nothing, Contract, Triple, onEntry, tripleOf, cited, says, Stays, stay-none-ref, gave-slice, walkOf, goes-none-ref, goes-gave-slice, ends-at, yes, exported}
 use Rattle.lending.proofs.Lent.{R, mach, is-typed, had, looked, shut, called}
 use Rattle.lending.proofs.Freed.{freed}
@@ -93,7 +93,7 @@ module _ {M : Type 1} (𝓤 : URA M) (H : Heap 𝓤) (A : Atoms 𝓤) (W : Given
           -- [the last list; …; …; …; what y owns; the slice's token; the token; the fractured borrow; res; _6 at 9; _5; _4; _3; _2; _1; _0 at 21]
           returns ! (look ! 21 refl) $ forget ! 9 refl $ forget ! 11 refl $ forget ! 13 refl $ forget ! 15 refl $ forget ! 17 refl $ forget ! 19 refl $ forget ! 21 refl $
           move ! (21 ∷ 22 ∷ 19 ∷ 20 ∷ 17 ∷ 18 ∷ 15 ∷ 16 ∷ 13 ∷ 14 ∷ 11 ∷ 12 ∷ 9 ∷ 10 ∷ []) $ freed ! $ keep ! (6 ∷ 5 ∷ 8 ∷ 7 ∷ 0 ∷ 4 ∷ []) $
-          by ! (let told = told-truly (cellOf h) (s .now) (ws .1 .1 .0) _ (p .sound) (ap (λ (z : Seen). z .sound) e) (refl, e′ .0) in exits y v (ws .1 .1 .0) (told .1) (e′ .1 ∙ ap listNumber (told .0)) l))))))))))))
+          by ! (let told = list-told (cellOf h) (s .now) (ws .1 .1 .0) _ (p .sound) (ap (λ (z : Seen). z .sound) e) (refl, e′ .0) in exits y v (ws .1 .1 .0) (told .1) (e′ .1 ∙ ap listNumber (told .0)) l))))))))))))
 
 pub keeper-list-spec : {M : Type 1} → statement M
 unfolding code.routine

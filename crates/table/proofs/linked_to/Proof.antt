@@ -1,7 +1,7 @@
 -- The three tests, in order.
 use borrow.Author.Tests.{eq-eqb, ne-eqb}
-use Rattle.stages.proofs.choose.linked_to.Statement.{statement}
-use Rattle.stages.proofs.choose.linked_to.Tie as tie
+use Rattle.table.proofs.linked_to.Statement.{statement}
+use Rattle.table.proofs.linked_to.Tie as tie
 
 pub linked-to-spec : {M : Type 1} → statement M
 linked-to-spec =
