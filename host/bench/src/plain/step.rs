@@ -170,9 +170,12 @@ fn leave(cell: &mut Cell, x: u8, home: u8, p: u8, destination: u8) -> Answer {
 /// Dissolves place t into p.
 fn open(cell: &mut Cell, x: u8, p: u8, t: u8) -> Answer {
     for q in 0..64 {
-        let lock = cell.locks[q];
-        if lock < 64 && cell.agents[lock as usize].home == t && cell.agents[lock as usize].stage == 2 {
-            cell.locks[q] = NONE;
+        let lock = cell.locks[q as usize];
+        if !has(cell.used, q) || lock >= 64 || !has(cell.given, lock) {
+            continue;
+        }
+        if cell.agents[lock as usize].home == t && cell.agents[lock as usize].stage == 2 {
+            cell.locks[q as usize] = NONE;
         }
     }
     let mut woken = 0;
@@ -191,9 +194,9 @@ fn open(cell: &mut Cell, x: u8, p: u8, t: u8) -> Answer {
             woken += 1;
         }
     }
-    for place in &mut cell.places {
-        if place.parent == t {
-            place.parent = p;
+    for q in 0..64 {
+        if has(cell.used, q) && cell.places[q as usize].parent == t {
+            cell.places[q as usize].parent = p;
         }
     }
     cell.places[t as usize] = Place { name: 0, parent: 0, way: 0 };

@@ -194,9 +194,13 @@ fn leave(cell: &mut Cell, x: u8, p: u8, destination: u8) -> Answer {
 
 /// Dissolves place t into p.
 fn open(cell: &mut Cell, x: u8, p: u8, t: u8) -> Answer {
-    for lock in &mut cell.locks {
-        if cell.agents.get(*lock as usize).is_some_and(|agent| agent.home == t && agent.stage == 2) {
-            *lock = NONE;
+    for q in members(cell.used) {
+        let lock = cell.locks[q as usize];
+        if lock < NONE && cell.given >> lock & 1 == 1 {
+            let agent = &cell.agents[lock as usize];
+            if agent.home == t && agent.stage == 2 {
+                cell.locks[q as usize] = NONE;
+            }
         }
     }
     release(cell, p);
@@ -211,7 +215,8 @@ fn open(cell: &mut Cell, x: u8, p: u8, t: u8) -> Answer {
             agent.stand(0, 0, 0);
         }
     }
-    for place in &mut cell.places {
+    for q in members(cell.used) {
+        let place = &mut cell.places[q as usize];
         if place.parent == t {
             place.parent = p;
         }
