@@ -56,6 +56,10 @@ EXAMPLES = {
     "open-waits": (
         place(1, 0, 1) + place(2, 0, 2) + agent(0, 0, (OPEN, 1)) + agent(1, 2, (ENTER, 1)) + END,
         calls([1, 1, 1, 1, 0, 0, 0, 1, 1, 1, 0, 0, 0, 0, 0])),
+    # a line on which nothing is defined yet: a file of length 0, and a dispatcher that calls agents that are not there
+    "empty-line": (
+        b"",
+        calls([0, 1, 0])),
 }
 
 
@@ -83,11 +87,18 @@ def mixed(seed, count):
     return row
 
 
+# 63 places and 64 agents with sixteen actions each on the floor, names of five digits: without its end, the longest cell file and listing
+LONGEST = b"".join(place(q, 0, 65535) for q in range(1, 64)) + b"".join(agent(x, 0, *[(ENTER, 65535)] * 16) for x in range(64))
 TWO = place(1, 0, 7) + place(2, 0, 7) + agent(0, 1, (ENTER, 7)) + END
 NONE = b""
+ABSENT = None
 
 CASES = {
     "empty-file": (NONE, NONE),
+    "empty-file-full-order": (NONE, calls(list(range(256)) * 64)),
+    "absent-cell": (ABSENT, calls([0, 1, 63, 64, 255])),
+    "absent-files": (ABSENT, ABSENT),
+    "first-byte-alone": (bytes([1]), calls([0])),
     "bare-floor": (END, NONE),
     "no-end": (place(1, 0, 7), NONE),
     "cut-body": (place(1, 0, 7) + bytes([1, 0x40]), NONE),
@@ -122,14 +133,19 @@ CASES = {
         place(1, 0, 1) + place(2, 0, 2) + place(3, 1, 3) + place(4, 3, 4)
         + agent(0, 4, (EXIT, 3), (EXIT, 1), (ENTER, 2)) + agent(1, 1, (ENTER, 2)) + agent(2, 3, (EXIT, 1)) + agent(3, 0, (OPEN, 2)) + END,
         calls([0, 1, 2, 3, 0, 0, 1, 2, 1, 3, 2, 2] * 14)),
-    "past-the-limit": (TWO, calls([0] * 7 + [5] * 16377 + [0] * 50)),
+    "past-the-limit": (TWO, calls([0] * 16383 + [1, 2])),
+    "one-record-more": (LONGEST + place(63, 0, 65535) + END, NONE),
+    "longest-report": (LONGEST + END, calls([255] * 16383 + [254])),
 }
 
 
 def write(folder, files):
     folder.mkdir(parents=True, exist_ok=True)
-    (folder / "cell").write_bytes(files[0])
-    (folder / "order").write_bytes(files[1])
+    for name, content in zip(("cell", "order"), files):
+        if content is ABSENT:
+            (folder / name).unlink(missing_ok=True)
+        else:
+            (folder / name).write_bytes(content)
 
 
 for name, files in EXAMPLES.items():

@@ -24,7 +24,8 @@
 ** What the caller owes, in every call:
 **
 **   - A pointer is not null, also where the length given with it is 0, and stays valid for the whole call. A cell is aligned as its type
-**     asks; files and texts may stand anywhere.
+**     asks; files and texts may stand anywhere. Where the length is 0, nothing is read or written through the pointer, so any that is not
+**     null will do: that of an array, or one past its end.
 **   - A cell has been written before any call but keeper_bare, by that call or in any other way (all zeros will do): the keeper takes
 **     every bit pattern, and refuses one that is not a sound table with 10, but it does read it.
 **   - A file or text lent together with a cell does not overlap it.
@@ -51,7 +52,7 @@ extern "C" {
 */
 #define KEEPER_MAJOR 1
 #define KEEPER_MINOR 0
-#define KEEPER_PATCH 0
+#define KEEPER_PATCH 1
 #define KEEPER_VERSION (KEEPER_MAJOR * 65536 + KEEPER_MINOR * 256 + KEEPER_PATCH)
 
 /* Places are numbered 0 to 63, and 0 is the floor; agents are numbered 0 to 63; an agent carries sixteen actions at most. */
@@ -190,7 +191,8 @@ static inline int keeper_fits(void)
 keeper_answer keeper_bare(keeper_cell *cell);
 
 /*
-** keeper_load: makes the cell what the cell file in file[0] to file[len - 1] says.
+** keeper_load: makes the cell what the cell file in file[0] to file[len - 1] says. A file of length 0 (len is 0, and file not null all the
+** same) is accepted as a bare floor with no agents, as the file of the one byte 4 is. A file that begins and lacks its end is cut short.
 **
 ** Answers 0 if the file was accepted. Else keeper_refusal(answer) is a number from 1 to 9, keeper_offset(answer) is the byte offset of the
 ** first faulty record (for a missing end record, the file's length; for 9, the first byte after the end record), and the cell is as it

@@ -57,7 +57,7 @@ static void loads(keeper_cell *cell)
     keeper_answer answer;
 
     HOLDS(keeper_load(cell, example, sizeof example) == 0);
-    answer = refused(cell, example, 0);
+    answer = refused(cell, example, 1);
     HOLDS(keeper_refusal(answer) == KEEPER_CUT_SHORT && keeper_offset(answer) == 0);
     answer = refused(cell, example, 5);
     HOLDS(keeper_refusal(answer) == KEEPER_CUT_SHORT && keeper_offset(answer) == 5);
@@ -72,6 +72,35 @@ static void loads(keeper_cell *cell)
     HOLDS(keeper_load(cell, largest, 6) == 0);
     HOLDS(cell->places[63].name == 7 && cell->places[63].parent == 0 && cell->places[63].way == 0);
     HOLDS(cell->used == (1 | (uint64_t)1 << 63) && cell->given == 0 && cell->locks[63] == KEEPER_FREE);
+}
+
+/* Whether two cells without agents say the same: places, locks and the two sets. */
+static int same_floor(const keeper_cell *one, const keeper_cell *other)
+{
+    return memcmp(one, other, offsetof(keeper_cell, agents)) == 0 && one->used == other->used && one->given == 0 && other->given == 0;
+}
+
+/* A file of length 0 is a bare floor, as `04` is, whatever the cell held before; nothing is read through its pointer. */
+static void nothing_on_the_line(keeper_cell *cell)
+{
+    static const uint8_t end[1] = {4};
+    static const uint8_t *const files[3] = {example, example + sizeof example, (const uint8_t *)1};
+    static keeper_cell bare;
+    uint8_t text[2] = {1, 2};
+
+    HOLDS(keeper_load(&bare, end, 1) == 0);
+    for (int at = 0; at < 3; at++) {
+        HOLDS(keeper_load(cell, example, sizeof example) == 0 && keeper_step(cell, 0, 255) == 0);
+        HOLDS(keeper_load(cell, files[at], 0) == 0);
+        HOLDS(same_floor(cell, &bare));
+    }
+    HOLDS(keeper_bare(&bare) == 0 && same_floor(cell, &bare));
+    HOLDS(cell->used == 1 && cell->given == 0 && keeper_check(cell) == 0);
+    HOLDS(keeper_all_rest(keeper_idle(cell)) == 1);
+    HOLDS(keeper_length(keeper_list(cell, text, 2)) == 1 && text[0] == '0' && text[1] == 2);
+    HOLDS(keeper_step(cell, 0, 255) == KEEPER_NO_SUCH_AGENT);
+    memset(cell, 0xFF, sizeof *cell);
+    HOLDS(keeper_load(cell, files[0], 0) == 0 && same_floor(cell, &bare));
 }
 
 static void steps(keeper_cell *cell)
@@ -160,6 +189,7 @@ int main(void)
     library();
     HOLDS(keeper_bare(&cell) == 0);
     loads(&cell);
+    nothing_on_the_line(&cell);
     steps(&cell);
     listings(&cell);
     unsound(&cell);

@@ -13,7 +13,7 @@ int main()
 
     if (!keeper_fits() || keeper_version() != KEEPER_VERSION)
         return 1;
-    if (keeper_bare(&cell) != 0 || keeper_load(&cell, file, sizeof file) != 0 || keeper_check(&cell) != 0)
+    if (keeper_bare(&cell) != 0 || keeper_load(&cell, file, 0) != 0 || keeper_load(&cell, file, sizeof file) != 0 || keeper_check(&cell) != 0)
         return 1;
     const keeper_answer answer = keeper_list(&cell, text, sizeof text);
     if (keeper_refusal(answer) != 0 || keeper_length(answer) != 3 || std::memcmp(text, "7[]", 3) != 0)

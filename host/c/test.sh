@@ -1,5 +1,6 @@
 #!/bin/sh
-# Runs the example host, with and without sanitizers, on the worked example and on absent, refused and odd files; then the other tests.
+# Runs the example host, with and without sanitizers, on the worked example and on absent, empty, refused and odd files and on files that
+# cannot be read; then the other tests.
 set -eu
 folder=$(mktemp -d)
 trap 'rm -rf "$folder"' EXIT
@@ -25,18 +26,36 @@ case_of() {
 cell='\001\001\000\007\000\001\002\000\011\000\002\000\001\003\000\001\011\000\002\001\002\003\001\002\007\000\004'
 order='\000\377\001\377\000\377\001\377\000\377\000\377\001\377\001\377\000\377\000\377\000\377\000\377\001\377'
 lines='0 looked 0\n1 looked 0\n0 took 0\n1 held 0\n0 took 0\n0 left 0\n1 took 0\n1 slept 0\n0 took 0\n0 took 0\n0 came 1\n0 done 0\n1 looked 0\n'
+nobody=$(printf '%s' "$lines" | sed 's/\([01]\) [a-z]* [01]/\1 refused 11/g')
 
 case_of 'worked example' "$cell" "$order" "start 7[enter 9] | 9[exit 7]\n${lines}end 9[exit 7 | 7[]]\n"
 case_of 'odd last byte' "$cell" "$order"'\000' "start 7[enter 9] | 9[exit 7]\n${lines}end 9[exit 7 | 7[]]\n"
 case_of 'no such agent' "$cell" '\100\000\002\000' 'start 7[enter 9] | 9[exit 7]\n64 refused 11\n2 refused 11\nend 7[enter 9] | 9[exit 7]\n'
 case_of 'absent order' '\004' - 'start 0\nend 0\n'
-case_of 'absent cell' - "$order" 'refused 1 0\n'
-case_of 'empty cell' '' "$order" 'refused 1 0\n'
+case_of 'absent cell' - "$order" "start 0\n${nobody}end 0\n"
+case_of 'empty cell' '' "$order" "start 0\n${nobody}end 0\n"
+case_of 'absent files' - - 'start 0\nend 0\n'
+case_of 'empty files' '' '' 'start 0\nend 0\n'
 case_of 'after the end' '\004\004' "$order" 'refused 9 1\n'
 case_of 'no end' '\001\001\000\007\000' "$order" 'refused 1 5\n'
+case_of 'cut body' '\001' "$order" 'refused 1 0\n'
+
+# a file that is there and cannot be read does not pass for an empty one: a folder, and a path through a file
+printf "$cell" > "$folder/cell"
+printf "$order" > "$folder/order"
+for program in target/walk target/walk-sanitized; do
+    for path in "$folder" "$folder/cell/x"; do
+        status=0
+        "$program" "$path" "$folder/order" > "$folder/printed" 2> "$folder/said" || status=$?
+        if [ "$status" -ne 1 ] || [ -s "$folder/printed" ] || [ ! -s "$folder/said" ]; then
+            echo "$program on $path ended with $status"
+            exit 1
+        fi
+        passed=$((passed + 1))
+    done
+done
 
 # a library that does not fit: the host says so and makes no call
-printf "$cell" > "$folder/cell"
 status=0
 target/walk-other "$folder/cell" "$folder/order" > "$folder/printed" 2> "$folder/said" || status=$?
 if [ "$status" -ne 1 ] || [ -s "$folder/printed" ]; then

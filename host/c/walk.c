@@ -3,25 +3,39 @@
 **
 **     walk [CELL [ORDER]]
 **
-** The files are `cell` and `order` unless named. An absent file reads as empty; an odd last byte and pairs past the limit are passed over.
+** The files are `cell` and `order` unless named. An absent file reads as empty, and an empty cell file is a bare floor; an odd last byte and
+** pairs past the limit are passed over. A file that is there and cannot be read is a line on standard error, and nothing is printed.
 */
 #include "../keeper.h"
 
+#include <errno.h>
 #include <inttypes.h>
 #include <stdio.h>
+#include <stdlib.h>
 
 /* How many pairs of an order are taken. */
 #define PAIRS 16384
 
-/* Reads the file's first bytes, up to `room`, and answers how many there were. */
+/* Ends the program where a file cannot be read: it must not pass for an empty one, which is accepted. */
+static void unreadable(const char *name)
+{
+    perror(name);
+    exit(1);
+}
+
+/* Reads the file's first bytes, up to `room`, and answers how many there were; of an absent file there are none. */
 static size_t read_file(const char *name, uint8_t *bytes, size_t room)
 {
     FILE *file = fopen(name, "rb");
     size_t length;
 
-    if (file == NULL)
+    if (file == NULL && errno == ENOENT)
         return 0;
+    if (file == NULL)
+        unreadable(name);
     length = fread(bytes, 1, room, file);
+    if (ferror(file))
+        unreadable(name);
     fclose(file);
     return length;
 }

@@ -25,7 +25,7 @@ use Rattle.meaning.specs.Refusals.{cutShort, unknownKind, tooLarge, givenTwice,
 use Rattle.meaning.specs.Refusals.{unsoundTable, noSuchAgent, tooLong}
 use Rattle.meaning.specs.File.{byteAt, placeRecord, agentRecord, actionRecord, Known, recordAt, knownIn}
 use Rattle.meaning.specs.File.{Load, accepted, refused, loadRecord, loadFrom, load, loaded, loadOf}
-use Rattle.meaning.specs.FileLaws.{refused-keeps}
+use Rattle.meaning.specs.FileLaws.{load-either, refused-keeps}
 use Rattle.meaning.specs.Run.{made, turnedAway, stepOf}
 use Rattle.meaning.specs.Listing.{listing, listAnswer, listBuffer}
 use Rattle.meaning.specs.Codes.{checkOf, idleOf}
@@ -113,8 +113,7 @@ module _ (s : List ℕ) where
       go (nay t) f = rw t cut-short
 
   fair-load : Fair (load s)
-  unfolding load
-  fair-load = fair-from (suc (length s)) (cellOf bareTable) 0
+  fair-load = load-either s Fair (λ _. taken) (fair-from (suc (length s)) (cellOf bareTable) 0)
 
   -- what that says of a refused load
   fair-number : {l : Load} {number offset : ℕ} → Fair l → l ≡ refused number offset

@@ -24,7 +24,7 @@ use Rattle.meaning.specs.declared.Record.the-variants.{PlaceRecord, AgentRecord
 use Rattle.meaning.specs.Update.{linkedPlace, withHome, withAgent, withGiven}
 use Rattle.meaning.specs.File.{recordAt, addPlace, addAgent, withAction, addAction, isFull, knownIn, Load, accepted, refused, loadRecord, loadFrom, load}
 use Rattle.meaning.specs.FileLaws.{Fits, place, agent, action, end, faulty, record-fits, bare-bounded, bare-used, bare-given, bare-lock}
-use Rattle.meaning.specs.FileLaws.{bare-agent, bare-place}
+use Rattle.meaning.specs.FileLaws.{bare-agent, bare-place, load-either}
 use Rattle.calculus.specs.Up.{Up, base, up, Off, off0, offs, move-up}
 use Rattle.demands.specs.Reading.{parentIn, nameIn}
 use Rattle.demands.specs.ReadingLaws.{readUsed, readParent, readName, readLinked, upd-self, written}
@@ -278,7 +278,7 @@ load-from (suc turns) c s at f = go (told (ltb at (length s))) (record-fits (kno
 
 -- every accepted file gives a fresh cell
 pub accepted-fresh : (s : List ℕ) (c : State) → load s ≡ accepted c → Fresh c
-accepted-fresh s c e = got (subst Freshly e (unfold load in load-from (suc (length s)) (cellOf bareTable) s 0 bare-fresh))
+accepted-fresh s c e = got (subst Freshly e (load-either s Freshly (λ _. fresh bare-fresh) (load-from (suc (length s)) (cellOf bareTable) s 0 bare-fresh)))
   where
     got : {d : State} → Freshly (accepted d) → Fresh d
     got (fresh f) = f

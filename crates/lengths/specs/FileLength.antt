@@ -1,7 +1,7 @@
 -- A load is decided by the first 5,633 bytes of the file, and an accepted file has 5,628 bytes at most.
 -- Idea: each record that is not refused gives a new place, a new agent or a new action, and there is room for 63, 64 and 1,024 of
 -- these: 5 * 63 + 3 * 64 + 5 * 1024 = 5,627 bytes. What comes next is the end or a refusal, and looks at five bytes at most.
-use mathlib.Core.Path.{_≡_, refl, sym, ap, subst}
+use mathlib.Core.Path.{_≡_, refl, sym, ap, _∙_, subst}
 use mathlib.Core.Bool.{Bool, true, false, _||_, cond}
 use mathlib.Core.List.{List}
 use mathlib.Core.Logic.{_≢_, _⊎_, inl, inr}
@@ -21,7 +21,7 @@ use Rattle.meaning.specs.declared.Record.{Record}
 use Rattle.meaning.specs.declared.Record.the-variants.{PlaceRecord, AgentRecord, ActionRecord, EndRecord, Faulty}
 use Rattle.meaning.specs.Update.{withHome}
 use Rattle.meaning.specs.File.{byteAt, Known, recordAt, addPlace, addAgent, withAction, addAction, isFull, knownIn, Load, accepted, refused, loadRecord, loadFrom, load}
-use Rattle.meaning.specs.FileLaws.{Fits, place, agent, action, end, faulty, record-fits, bare-agent}
+use Rattle.meaning.specs.FileLaws.{Fits, place, agent, action, end, faulty, record-fits, bare-agent, load-either, load-begun}
 use Rattle.lengths.specs.Sums.{sumBelow, sum-ext, sum-most, sum-more}
 
 -- ---- sets counted
@@ -182,10 +182,11 @@ prefix s b wide = go (told (leb (length s) b))
   where
     go : Told (leb (length s) b) → load (take b s) ≡ load s
     go (yea e) = ap load (take-all b s (leb-true _ _ e))
-    go (nay e) = unfold load in unfold start in
+    go (nay e) = unfold start in
         (let l : b ≤ length s = omega (arith, leb-false (length s) b e) in
-        same-load s b wide l (suc (length (take b s))) (suc (length s)) (cellOf bareTable) 0 took-bare (omega (arith, start-long s b wide l))
-        (omega arith))
+        load-begun (take b s) (omega (arith, start-long s b wide l))
+        ∙ same-load s b wide l (suc (length (take b s))) (suc (length s)) (cellOf bareTable) 0 took-bare (omega (arith, start-long s b wide l)) (omega arith)
+        ∙ sym (load-begun s (omega arith)))
 
 -- ---- accepted files
 
@@ -219,5 +220,4 @@ short-from s (suc turns) c at h =
 
 -- the longest file that is accepted has 5,628 bytes
 pub accepted-longest : (s : List ℕ) (c : State) → load s ≡ accepted c → length s ≤ 5628
-unfolding load
-accepted-longest s c e = subst (ShortIf s) e (short-from s (suc (length s)) (cellOf bareTable) 0 took-bare)
+accepted-longest s c e = subst (ShortIf s) e (load-either s (ShortIf s) (λ z. omega arith) (short-from s (suc (length s)) (cellOf bareTable) 0 took-bare))

@@ -8,8 +8,11 @@ paperRows =
     row (hex "01 01 00 07 00 01 02 00 09 00 02 00 01 03 00 01 09 00 02 01 02 03 01 02 07 00 04") (agents "0 1 0 1 0 0 1 1 0 0 0 0 1")
     ("start 7[enter 9] | 9[exit 7]" ∷ "0 looked 0" ∷ "1 looked 0" ∷ "0 took 0" ∷ "1 held 0" ∷ "0 took 0" ∷ "0 left 0" ∷ "1 took 0" ∷ "1 slept 0" ∷
     "0 took 0" ∷ "0 took 0" ∷ "0 came 1" ∷ "0 done 0" ∷ "1 looked 0" ∷ "end 9[exit 7 | 7[]]" ∷ [])
-    -- "empty file: 1 at 0"
-    ∷ row (hex "") [] ("refused 1 0" ∷ [])
+    -- "The empty-file row of the bench cases changes to accepted with listing `0`" (document 02, W1), whatever the order
+    ∷ row [] [] ("start 0" ∷ "end 0" ∷ [])
+    ∷ row [] (agents "0") ("start 0" ∷ "0 refused 11" ∷ "end 0" ∷ [])
+    -- "A file that begins and lacks its end is still cut short"
+    ∷ row (hex "01") [] ("refused 1 0" ∷ [])
     -- "`04`: accepted, `0`"
     ∷ row (hex "04") [] ("start 0" ∷ "end 0" ∷ [])
     -- "`04 04`: 9 at 1"

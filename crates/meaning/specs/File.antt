@@ -1,7 +1,7 @@
 -- The cell file (document 01, "The cell file" and "Turned-away calls"): records, the order of checks, and the load of a whole file.
 use Prim.Native.Nat.{ℕ, zero, suc, _+_, _*_, _-_}
 use mathlib.Core.Bool.{Bool, _||_, cond}
-use mathlib.Core.List.{List}
+use mathlib.Core.List.{List, [], _∷_}
 use lib.Dec.{ltb, leb, eqb}
 use lib.ListN.{length, getD, set}
 use Rattle.table.specs.Base.{upd}
@@ -141,10 +141,12 @@ loadFrom (suc turns) c s at =
     (loadRecord (λ d next. loadFrom turns d s next) c s at (recordAt (knownIn c) s at))
     (refused cutShort (length s))
 
--- "A load starts from a bare floor"
+-- "A load starts from a bare floor". A file of length 0 "loads as a bare floor with no agents, as `04` does. .. A file that begins and
+-- lacks its end is still cut short" (document 02, W1)
 unfoldable pub load : List ℕ → Load
 unfolding loadFrom bareTable cellOf
-load s = loadFrom (suc (length s)) (cellOf bareTable) s 0
+load [] = accepted (cellOf bareTable)
+load (byte ∷ rest) = loadFrom (suc (length (byte ∷ rest))) (cellOf bareTable) (byte ∷ rest) 0
 
 -- ---- the call
 

@@ -3,8 +3,10 @@
 use mathlib.Core.Path.{_≡_, refl, ap}
 use mathlib.Core.Logic.{_≢_}
 use mathlib.Core.Bool.{Bool, true, false, cond}
-use mathlib.Core.List.{List}
+use mathlib.Core.List.{List, [], _∷_}
 use Prim.Native.Nat.{ℕ, zero, suc, _+_, _-_, _<_, _≤_}
+use native.Mathlib.Nat.{not-suc-le-zero}
+use native.Mathlib.Omega.{arith}
 use lib.Dec.{ltb, leb, eqb}
 use lib.ListN.{length, getD, replicate, getD-replicate, List·getD-eq-default}
 use borrow.Author.Tests.{ltb-true, ltb-false, leb-false}
@@ -16,7 +18,7 @@ use Rattle.table.specs.CellLaws.{bounded, sized-bare}
 use Rattle.table.specs.declared.Cell.{Cell}
 use Rattle.meaning.specs.declared.Record.{Record}
 use Rattle.meaning.specs.declared.Record.the-variants.{PlaceRecord, AgentRecord, ActionRecord, EndRecord, Faulty}
-use Rattle.meaning.specs.File.{byteAt, placeRecord, agentRecord, actionRecord, Known, recordAt, Load, refused, load, loaded, loadOf}
+use Rattle.meaning.specs.File.{byteAt, placeRecord, agentRecord, actionRecord, Known, recordAt, Load, accepted, refused, loadFrom, load, loaded, loadOf}
 
 -- ---- what a record that is not refused tells of its numbers
 
@@ -146,6 +148,27 @@ bare-place (suc q) n = go (told (ltb q 63))
     go : Told (ltb q 63) → getD (replicate 63 noPlace) q noPlace ≡ noPlace
     go (yea e) = getD-replicate 63 q noPlace noPlace (ltb-true q 63 e)
     go (nay e) = List·getD-eq-default (replicate 63 noPlace) noPlace (ltb-false q 63 e)
+
+-- ---- the whole file
+
+-- what holds of the bare floor and of what the records come to holds of every load
+pub load-either : (s : List ℕ) (P : Load → Type 0) → (length s ≡ 0 → P (accepted (cellOf bareTable)))
+    → P (loadFrom (suc (length s)) (cellOf bareTable) s 0) → P (load s)
+unfolding load
+load-either [] P bare begun = bare refl
+load-either (byte ∷ rest) P bare begun = begun
+
+-- a file that has a byte is read record by record
+pub load-begun : (s : List ℕ) → 0 < length s → load s ≡ loadFrom (suc (length s)) (cellOf bareTable) s 0
+unfolding load
+load-begun [] l = absurd (not-suc-le-zero l)
+load-begun (byte ∷ rest) l = refl
+
+-- one that has none is a bare floor
+pub load-empty : (s : List ℕ) → length s ≡ 0 → load s ≡ accepted (cellOf bareTable)
+unfolding load
+load-empty [] e = refl
+load-empty (byte ∷ rest) e = absurd (omega arith)
 
 -- ---- the call
 

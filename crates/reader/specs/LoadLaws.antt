@@ -27,7 +27,7 @@ use Rattle.meaning.specs.declared.Verdict.the-variants.{Accepted, Rejected}
 use Rattle.meaning.specs.Update.{linkedPlace, withHome}
 use Rattle.meaning.specs.File.{recordAt, addPlace, withAction, addAgent, addAction, isFull, knownIn, accepted, refused, loadRecord, loadFrom, load, loaded, loadOf}
 use Rattle.reader.specs.KnownSets.{knownBy}
-use Rattle.meaning.specs.FileLaws.{Fits, place, agent, action, record-fits, record-same}
+use Rattle.meaning.specs.FileLaws.{Fits, place, agent, action, record-fits, record-same, load-begun, load-empty}
 
 -- ---- the load from an offset on
 
@@ -45,16 +45,15 @@ none-full : 0 ≡ setOf (isFull (cellOf bareTable)) .bits
 unfolding cellOf bareTable wordOf
 none-full = refl
 
--- the loop starts with the bare floor and the whole file
-pub rest-all : (s : List ℕ) (d : Cell) (full : Set) → d ≡ bareTable → full .bits ≡ 0 → Rest s 0 d full
-unfolding load
-rest-all s d full e f = record {
+-- the loop starts with the bare floor and the whole file, which has a byte
+pub rest-all : (s : List ℕ) (d : Cell) (full : Set) → 0 < length s → d ≡ bareTable → full .bits ≡ 0 → Rest s 0 d full
+rest-all s d full l e f = record {
   cell = cellOf bareTable;
   turns = suc (length s);
   is = e ∙ sym (back bareTable sized-bare);
   filled = set-eq (f ∙ none-full);
   enough = omega arith;
-  rest = refl;
+  rest = sym (load-begun s l);
 }
 
 module _ (s : List ℕ) (at : ℕ) (d : Cell) (full : Set) (r : Rest s at d full) where
@@ -250,3 +249,7 @@ answer-refused t s n o e = ap (loaded t) e
 pub answer-accepted : (t d : Cell) (s : List ℕ) (c : State) → d ≡ tableOf c → accepted c ≡ load s → record { cell = d; verdict = Accepted } ≡ loadOf t s
 unfolding loadOf loaded
 answer-accepted t d s c q e = ap (λ (x : Cell). record { cell = x; verdict = Accepted }) q ∙ ap (loaded t) e
+
+-- no bytes: the bare floor
+pub answer-empty : (t d : Cell) (s : List ℕ) → length s ≡ 0 → d ≡ bareTable → record { cell = d; verdict = Accepted } ≡ loadOf t s
+answer-empty t d s z e = answer-accepted t d s (cellOf bareTable) (e ∙ sym (back bareTable sized-bare)) (sym (load-empty s z))

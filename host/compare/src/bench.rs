@@ -1,4 +1,4 @@
-//! Document 01's worked example and bench cases, and files that every byte is changed in.
+//! Document 01's worked example and bench cases, as the landed requests of document 02 change them, and files that every byte is changed in.
 
 use crate::call::Call;
 use model::{file_of, walk};
@@ -40,6 +40,7 @@ fn alone(term: &str, words: &str, end: &str) -> Case {
 pub fn cases() -> Vec<Case> {
     let example = "start 7[enter 9] | 9[exit 7]\n0 looked 0\n1 looked 0\n0 took 0\n1 held 0\n0 took 0\n0 left 0\n1 took 0\n1 slept 0\n\
                    0 took 0\n0 took 0\n0 came 1\n0 done 0\n1 looked 0\nend 9[exit 7 | 7[]]\n";
+    let bare_floor = "start 0\n0 refused 11\n63 refused 11\n64 refused 11\nend 0\n";
     let sixteen = [&[2, 0, 0][..], &[3, 0, 2, 9, 0].repeat(16), &[4]].concat();
     let seventeen = [&[2, 0, 0][..], &[3, 0, 2, 9, 0].repeat(17), &[4]].concat();
     let listed = ["exit 9"; 16].join(".");
@@ -49,10 +50,14 @@ pub fn cases() -> Vec<Case> {
             agents: vec![0, 1, 0, 1, 0, 0, 1, 1, 0, 0, 0, 0, 1],
             written: example.to_string(),
         },
-        refused(&[], 1, 0),
+        Case { file: vec![], agents: vec![], written: "start 0\nend 0\n".to_string() },
+        Case { file: vec![], agents: vec![0, 63, 64], written: bare_floor.to_string() },
+        Case { file: vec![4], agents: vec![0, 63, 64], written: bare_floor.to_string() },
         Case { file: vec![4], agents: vec![], written: "start 0\nend 0\n".to_string() },
         refused(&[4, 4], 9, 1),
         refused(&[1, 1, 0, 7, 0], 1, 5),
+        refused(&[1], 1, 0),
+        refused(&[2, 0, 0], 1, 3),
         refused(&[1, 5, 5, 7, 0, 4], 5, 0),
         refused(&[1, 1, 0, 0, 0, 4], 6, 0),
         refused(&[1, 0x40, 0, 7, 0, 4], 3, 0),

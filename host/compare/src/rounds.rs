@@ -63,8 +63,8 @@ impl Session {
         Ok(())
     }
 
-    /// Every mixture of faults in a record; every single-byte change and every truncation of the small files; of the longest file
-    /// truncations and some changes at every `thinned`th byte.
+    /// Every mixture of faults in a record; every single-byte change and every truncation of the small files, down to length 0; of the
+    /// longest file truncations and some changes at every `thinned`th byte, and after it a file of length 0, which takes its place.
     pub fn changed_files(&mut self, thinned: usize) -> Outcome {
         for file in bench::faulty_records() {
             self.start(file)?;
@@ -83,6 +83,8 @@ impl Session {
             }
         }
         let file = bench::longest_file();
+        self.start(file.clone())?;
+        self.start(Vec::new())?;
         self.start(file.clone())?;
         for after in [&[0][..], &[4], &[1, 1, 0, 7, 0], &[3, 0, 1, 7, 0, 4]] {
             self.start([&file[..], after].concat())?;
@@ -174,7 +176,8 @@ impl Session {
             if self.pair.cell.is_none() {
                 self.call(Call::List { room: random.below(100) })?;
                 if random.percent(10) {
-                    self.call(Call::Load(files::nearly_good(random)))?;
+                    let file = if random.percent(20) { Vec::new() } else { files::nearly_good(random) };
+                    self.call(Call::Load(file))?;
                 }
                 break;
             }

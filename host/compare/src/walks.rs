@@ -25,12 +25,13 @@ pub fn walks(program: &Path, seed: u64, count: usize) -> Result<usize, String> {
     let program = program.canonicalize().map_err(|error| format!("{}: {error}", program.display()))?;
     fs::create_dir_all(&folder).map_err(|error| format!("{}: {error}", folder.display()))?;
     let walks = Walks { program, folder };
-    let outcome = cases(seed, count).iter().try_for_each(|case| walks.alike(case)).map(|()| count + bench::cases().len() + 6);
+    let cases = cases(seed, count);
+    let outcome = cases.iter().try_for_each(|case| walks.alike(case)).map(|()| cases.len());
     let _ = fs::remove_dir_all(&walks.folder);
     outcome
 }
 
-/// Document 01's cases, absent and overlong files, and random ones.
+/// Document 01's cases, absent, empty and overlong files, and random ones.
 fn cases(seed: u64, count: usize) -> Vec<Case> {
     let mut random = Random::new(seed);
     let order = |agents: &[u8]| agents.iter().flat_map(|&agent| [agent, 255]).collect::<Vec<u8>>();
@@ -39,6 +40,10 @@ fn cases(seed: u64, count: usize) -> Vec<Case> {
     let longest = bench::longest_file();
     cases.push(Case { cell: None, order: None });
     cases.push(Case { cell: None, order: Some(vec![0, 0]) });
+    cases.push(Case { cell: Some(vec![]), order: None });
+    for cell in [None, Some(vec![])] {
+        cases.push(Case { cell, order: Some((0..40_001).map(|_| random.byte()).collect()) });
+    }
     cases.push(Case { cell: Some(vec![4]), order: None });
     cases.push(Case { cell: Some([&longest[..], &[4]].concat()), order: None });
     cases.push(Case { cell: Some([&longest[..longest.len() - 1], &[9; 4000]].concat()), order: None });

@@ -11,9 +11,13 @@ pub struct Refused {
 }
 
 /// "A load starts from a bare floor"; "the first faulty record decides"; the offset is "for a missing end, the file's length; for 9,
-/// the first byte after the end".
+/// the first byte after the end". Document 02, W1: a file of length 0 "loads as a bare floor with no agents, as `04` does. .. A file
+/// that begins and lacks its end is still cut short."
 pub fn load(file: &[u8]) -> Result<Cell, Refused> {
     let mut cell = Cell::bare();
+    if file.is_empty() {
+        return Ok(cell);
+    }
     let mut offset = 0;
     loop {
         let refused = |number| Refused { number, offset };

@@ -1,4 +1,4 @@
-//! Document 01's worked example and bench cases.
+//! Document 01's worked example and bench cases, as the landed requests of document 02 change them.
 
 use model::{file_of, listing, load, step, walk, Cell, Refused, Word};
 
@@ -32,7 +32,6 @@ fn the_worked_example() {
 
 #[test]
 fn refused_files() {
-    assert_eq!(refusal(&[]), (1, 0));
     assert_eq!(refusal(&[4, 4]), (9, 1));
     assert_eq!(refusal(&[1, 1, 0, 7, 0]), (1, 5));
     assert_eq!(refusal(&[1, 5, 5, 7, 0, 4]), (5, 0));
@@ -54,8 +53,25 @@ fn an_empty_floor() {
     assert_eq!(listing(&load(&[4]).unwrap()), "0");
     assert_eq!(listing(&load(&[2, 5, 0, 4]).unwrap()), "0");
     assert_eq!(walk(&[4], &[]), "start 0\nend 0\n");
-    assert_eq!(walk(&[], &[0, 0]), "refused 1 0\n");
     assert_eq!(walk(&[4], &[64, 1, 0, 0, 7]), "start 0\n64 refused 11\n0 refused 11\nend 0\n");
+}
+
+#[test]
+fn a_line_with_nothing_on_it() {
+    assert_eq!(load(&[]), load(&[4]));
+    assert_eq!(load(&[]), Ok(Cell::bare()));
+    assert_eq!(walk(&[], &[]), "start 0\nend 0\n");
+    assert_eq!(walk(&[], &[0, 0, 63, 1, 64, 255, 7]), "start 0\n0 refused 11\n63 refused 11\n64 refused 11\nend 0\n");
+}
+
+#[test]
+fn a_file_that_begins_and_lacks_its_end() {
+    let file = [1, 1, 0, 7, 0, 2, 0, 1, 3, 0, 1, 7, 0];
+    let records = [0, 5, 8, 13];
+    for length in 1..=file.len() {
+        let offset = records.into_iter().rfind(|&start| start <= length).expect("the first record starts at 0");
+        assert_eq!(refusal(&file[..length]), (1, offset));
+    }
 }
 
 #[test]

@@ -2,9 +2,11 @@
 //!
 //!     walk [CELL [ORDER]]
 //!
-//! The files are `cell` and `order` unless named. An absent file reads as empty; an odd last byte and pairs past the limit are passed over.
+//! The files are `cell` and `order` unless named. An absent file reads as empty, and an empty cell file is a bare floor; an odd last byte
+//! and pairs past the limit are passed over. A file that is there and cannot be read is an error, and nothing is printed.
 
 use keeper::{check_library, Cell};
+use std::ffi::OsString;
 use std::io::{self, BufWriter, Write};
 use std::process::ExitCode;
 
@@ -19,10 +21,17 @@ fn main() -> io::Result<ExitCode> {
     let mut names = std::env::args_os().skip(1);
     let cell = names.next().unwrap_or("cell".into());
     let order = names.next().unwrap_or("order".into());
-    let file = std::fs::read(cell).unwrap_or_default();
-    let order = std::fs::read(order).unwrap_or_default();
+    let (file, order) = (read(cell)?, read(order)?);
     walk(&file, &order, &mut BufWriter::new(io::stdout().lock()))?;
     Ok(ExitCode::SUCCESS)
+}
+
+/// The bytes of a file; an absent one has none. One that cannot be read must not pass for an empty one, which is accepted.
+fn read(name: OsString) -> io::Result<Vec<u8>> {
+    match std::fs::read(name) {
+        Err(error) if error.kind() == io::ErrorKind::NotFound => Ok(Vec::new()),
+        read => read,
+    }
 }
 
 /// Writes the first and the last listing and, between them, a line for each step.

@@ -35,7 +35,7 @@ pub enum Word {
 #[derive(Clone, Copy, PartialEq, Eq, Hash, Debug)]
 #[non_exhaustive]
 pub enum Refusal {
-    /// 1: the file is cut short: a body incomplete, or no end record.
+    /// 1: the file is cut short: a body incomplete, or no end record. A file of length 0 is not: it is a bare floor.
     CutShort,
     /// 2: a record of unknown kind, not 1 to 4.
     UnknownKind,

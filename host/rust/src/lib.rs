@@ -25,6 +25,11 @@
 //! assert_eq!(&text[..length], b"9[7[]]");
 //! assert_eq!(cell.step(0, 255)?.word, Word::Done);
 //! assert_eq!(cell.step(1, 255).unwrap_err().refusal, Refusal::NoSuchAgent);
+//!
+//! // A file of length 0 is a bare floor: a line with nothing on it yet.
+//! let cell = Cell::load(&[])?;
+//! let length = cell.list(&mut text)?;
+//! assert_eq!(&text[..length], b"0");
 //! # Ok::<(), keeper::Refused>(())
 //! ```
 //!
@@ -51,7 +56,7 @@ use lent::Lent;
 
 /// The version of the library that this crate was made for: the major number from bit 16 on, the minor one in bits 8 to 15, the patch in
 /// bits 0 to 7.
-pub const VERSION: u64 = 65_536;
+pub const VERSION: u64 = 65_537;
 
 /// The longest cell file that can be accepted.
 pub const FILE_LONGEST: usize = 5_628;
@@ -85,7 +90,8 @@ impl Cell {
         Cell { lent }
     }
 
-    /// The cell that the cell file says.
+    /// The cell that the cell file says. A file of length 0 is a bare floor with no agents, as `[4]` is; one that begins and lacks its end is
+    /// cut short.
     ///
     /// # Errors
     ///

@@ -34,7 +34,8 @@ fn refused_loads_leave_the_cell() {
     let mut cell = Cell::load(&FILE).unwrap();
     let before = cell.clone();
     let refused = |refusal, offset| Err(Refused { refusal, offset: Some(offset) });
-    assert_eq!(cell.reload(&[]), refused(Refusal::CutShort, 0));
+    assert_eq!(cell.reload(&[1]), refused(Refusal::CutShort, 0));
+    assert_eq!(cell.reload(&FILE[..5]), refused(Refusal::CutShort, 5));
     assert_eq!(cell.reload(&[9]), refused(Refusal::UnknownKind, 0));
     assert_eq!(cell.reload(&[1, 64, 0, 7, 0, 4]), refused(Refusal::TooLarge, 0));
     assert_eq!(cell.reload(&[2, 0, 0, 2, 0, 0, 4]), refused(Refusal::GivenTwice, 3));
@@ -47,6 +48,23 @@ fn refused_loads_leave_the_cell() {
     assert!(cell.lent() == before.lent());
     assert_eq!(cell.reload(&[4]), Ok(()));
     assert_eq!(cell.listing().unwrap(), "0");
+}
+
+#[test]
+fn a_file_of_length_0_is_a_bare_floor() {
+    let floor = |cell: &Cell| (cell.lent().places, cell.lent().locks, cell.lent().used, cell.lent().given);
+    let bare = floor(&Cell::bare());
+    let mut cell = Cell::load(&[]).unwrap();
+    assert_eq!([floor(&cell), floor(&Cell::load(&[4]).unwrap())], [bare, bare]);
+    assert_eq!(cell.listing().unwrap(), "0");
+    assert_eq!((cell.check(), cell.idle()), (Ok(()), Ok(true)));
+    assert_eq!(cell.step(0, 255), Err(Refused { refusal: Refusal::NoSuchAgent, offset: None }));
+    assert_eq!(cell.reload(&FILE), Ok(()));
+    assert_eq!(cell.reload(&FILE[FILE.len()..]), Ok(()));
+    assert_eq!(floor(&cell), bare);
+    let mut unsound = Cell::from_lent(Lent::zeros());
+    assert_eq!(unsound.reload(&[]), Ok(()));
+    assert_eq!(floor(&unsound), bare);
 }
 
 #[test]

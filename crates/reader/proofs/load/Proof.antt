@@ -4,7 +4,7 @@ use borrow.Author.Needs.{needs}
 use mathlib.Core.Path.{refl, _∙_, sym}
 use Prim.Native.Nat.{_-_}
 use lib.ListN.{length}
-use Rattle.reader.specs.LoadLaws.{Rest, rest-all, stopped, past-end, ended, rest-place, rest-agent, rest-action, has-room, short, answer-refused, answer-accepted}
+use Rattle.reader.specs.LoadLaws.{Rest, rest-all, stopped, past-end, ended, rest-place, rest-agent, rest-action, has-room, short, answer-refused, answer-accepted, answer-empty}
 use Rattle.reader.proofs.Tags.{is-end}
 use Rattle.reader.proofs.load.Statement.{statement}
 use Rattle.reader.proofs.load.Tie as tie
@@ -16,13 +16,7 @@ abbrev μ-loop : tie.MeasureT-loop
 μ-loop c s d₀ full₀ at₀ d full at = length s - at
 
 returns : tie.Need-returns Inv-loop μ-loop
-returns c =
-    let m = c .before .before .before .before .before in
-    let l = m .before .before .before .before .loop in
-    let t = m .before .before .before .loop-test .taken in
-    let e = sym (is-end _ (c .before .before .before .before .match .keys2) (c .before .before .before .match2 .keys2)
-    (c .before .before .match3 .keys2) (c .before .match4 .keys2)) in
-    answer-refused _ _ 9 _ (past-end _ (l .at) (l .d) (l .full) (l .inv) t (e ∙ m .record-at .ensures) (c .if1 .taken))
+returns c = let a = c .before .before .before .args in answer-empty (a .c) _ (a .s .now) (c .if1 .taken) (c .before .bare .ensures)
 
 returns-2 : tie.Need-returns-2 Inv-loop μ-loop
 returns-2 c =
@@ -31,11 +25,20 @@ returns-2 c =
     let t = m .before .before .before .loop-test .taken in
     let e = sym (is-end _ (c .before .before .before .before .match .keys2) (c .before .before .before .match2 .keys2)
     (c .before .before .match3 .keys2) (c .before .match4 .keys2)) in
-    let a = m .before .before .before .before .before .before .before .args in
-    answer-accepted (a .c) _ _ _ (l .inv .is) (ended _ (l .at) (l .d) (l .full) (l .inv) t (e ∙ m .record-at .ensures) (c .if1 .left))
+    answer-refused _ _ 9 _ (past-end _ (l .at) (l .d) (l .full) (l .inv) t (e ∙ m .record-at .ensures) (c .if2 .taken))
 
 returns-3 : tie.Need-returns-3 Inv-loop μ-loop
 returns-3 c =
+    let m = c .before .before .before .before .before in
+    let l = m .before .before .before .before .loop in
+    let t = m .before .before .before .loop-test .taken in
+    let e = sym (is-end _ (c .before .before .before .before .match .keys2) (c .before .before .before .match2 .keys2)
+    (c .before .before .match3 .keys2) (c .before .match4 .keys2)) in
+    let a = m .before .before .before .before .before .before .before .before .args in
+    answer-accepted (a .c) _ _ _ (l .inv .is) (ended _ (l .at) (l .d) (l .full) (l .inv) t (e ∙ m .record-at .ensures) (c .if2 .left))
+
+returns-4 : tie.Need-returns-4 Inv-loop μ-loop
+returns-4 c =
     let m = c .before .before .before .before .before .before in
     let l = m .before .before .before .before .loop in
     let t = m .before .before .before .loop-test .taken in
@@ -80,13 +83,14 @@ pub load-spec : {M : Type 1} → statement M
 load-spec =
     tie.close
     (tie.spec Inv-loop μ-loop
-    (λ c κs. tt) (λ c. rest-all _ _ _ (c .bare .ensures) refl) (λ c κs. search needs)
+    (λ c κs. tt) returns
+    (λ c. rest-all _ _ _ (omega (arith, c .if1 .left)) (c .before .bare .ensures) refl) (λ c κs. search needs)
     (λ c. c .match .keys1) (λ c. c .match2 .keys1) (λ c. c .match3 .keys1) (λ c. c .match4 .keys1)
-    (λ c. search needs) (λ c. search needs) returns returns-2 returns-3
+    (λ c. search needs) (λ c. search needs) returns-2 returns-3 returns-4
     -- an action
     (λ c κs. search needs) (λ c. search needs) (λ c. search needs) with-action-requires (λ c. search needs) (λ c. search needs) (λ c κs. search needs)
     (λ c. let t = c .before .before .before .before .before .before .before .before .before .before .before .before .before in
-    omega (arith, t .loop-test .taken, t .before .before .before .before .good))
+    omega (arith, t .loop-test .taken, t .before .before .before .before .before .good))
     (λ c. search needs) loop-again
     -- an agent
     (λ c κs. search needs) (λ c. search needs) (λ c. search needs) (λ c κs. search needs) (λ c. search needs) (λ c. search needs)

@@ -16,9 +16,12 @@ enum Record {
     End,
 }
 
-/// The cell of a whole file, or the first refusal.
+/// The cell of a whole file, or the first refusal. A file of length 0 is a bare floor.
 pub fn load(file: &[u8]) -> Result<Cell, Refused> {
     let mut cell = Cell::BARE;
+    if file.is_empty() {
+        return Ok(cell);
+    }
     let mut at = 0;
     while at < file.len() {
         let record = record(&cell, &file[at..]).map_err(|number| Refused { number, offset: at })?;
