@@ -51,8 +51,8 @@ extern "C" {
 ** call, a word, a refusal. The patch number changes with anything else.
 */
 #define KEEPER_MAJOR 1
-#define KEEPER_MINOR 0
-#define KEEPER_PATCH 1
+#define KEEPER_MINOR 1
+#define KEEPER_PATCH 0
 #define KEEPER_VERSION (KEEPER_MAJOR * 65536 + KEEPER_MINOR * 256 + KEEPER_PATCH)
 
 /* Places are numbered 0 to 63, and 0 is the floor; agents are numbered 0 to 63; an agent carries sixteen actions at most. */
@@ -130,7 +130,9 @@ KEEPER_ASSERT(sizeof(keeper_cell) == KEEPER_CELL_BYTES, "keeper_cell has 4816 by
 KEEPER_ASSERT(offsetof(keeper_cell, locks) == 256 && offsetof(keeper_cell, agents) == 320, "keeper_cell");
 KEEPER_ASSERT(offsetof(keeper_cell, used) == 4800 && offsetof(keeper_cell, given) == 4808, "keeper_cell");
 
-/* The numbers with which a call is refused. */
+/* The numbers with which a call is refused. Of a cell file, 3 is for the number that a place record gives, 13 for a parent (of a place) or
+** home (of an agent), 14 for the number of an agent, in an agent or an action record; of the three the earlier byte in the record decides. A
+** step for an agent above 63 is 11. */
 enum {
     KEEPER_CUT_SHORT = 1,
     KEEPER_UNKNOWN_KIND = 2,
@@ -143,7 +145,9 @@ enum {
     KEEPER_AFTER_THE_END = 9,
     KEEPER_UNSOUND = 10,
     KEEPER_NO_SUCH_AGENT = 11,
-    KEEPER_LISTING_TOO_LONG = 12
+    KEEPER_LISTING_TOO_LONG = 12,
+    KEEPER_PARENT_TOO_LARGE = 13,
+    KEEPER_AGENT_TOO_LARGE = 14
 };
 
 /* The words that a step answers. */
@@ -194,9 +198,10 @@ keeper_answer keeper_bare(keeper_cell *cell);
 ** keeper_load: makes the cell what the cell file in file[0] to file[len - 1] says. A file of length 0 (len is 0, and file not null all the
 ** same) is accepted as a bare floor with no agents, as the file of the one byte 4 is. A file that begins and lacks its end is cut short.
 **
-** Answers 0 if the file was accepted. Else keeper_refusal(answer) is a number from 1 to 9, keeper_offset(answer) is the byte offset of the
-** first faulty record (for a missing end record, the file's length; for 9, the first byte after the end record), and the cell is as it
-** was. What the cell held before plays no part in the answer, so it is never 10. The file is only read.
+** Answers 0 if the file was accepted. Else keeper_refusal(answer) is a number from 1 to 9, or 13 or 14, keeper_offset(answer) is the byte
+** offset of the first faulty record (for a missing end record, the file's length; for 9, the first byte after the end record), and the cell
+** is as it was. Within a record the order of the tests is 2, 1, then 3, 13 and 14 by the place of the byte, then 4, 5, 7, 6, 8. What the
+** cell held before plays no part in the answer, so it is never 10. The file is only read.
 */
 keeper_answer keeper_load(keeper_cell *cell, const uint8_t *file, size_t len);
 
@@ -289,7 +294,7 @@ static inline const char *keeper_refusal_text(unsigned refusal)
     switch (refusal) {
     case KEEPER_CUT_SHORT: return "cut short: a body incomplete, or no end record";
     case KEEPER_UNKNOWN_KIND: return "unknown kind, not 1 to 4";
-    case KEEPER_TOO_LARGE: return "number too large, or place number 0";
+    case KEEPER_TOO_LARGE: return "place number above 63, or 0";
     case KEEPER_GIVEN_TWICE: return "number given twice";
     case KEEPER_NOT_YET_GIVEN: return "not yet given";
     case KEEPER_NAME_ZERO: return "name 0 in a place or action";
@@ -299,6 +304,8 @@ static inline const char *keeper_refusal_text(unsigned refusal)
     case KEEPER_UNSOUND: return "unsound table";
     case KEEPER_NO_SUCH_AGENT: return "no such agent";
     case KEEPER_LISTING_TOO_LONG: return "listing longer than the buffer";
+    case KEEPER_PARENT_TOO_LARGE: return "parent or home above 63";
+    case KEEPER_AGENT_TOO_LARGE: return "agent number above 63";
     default: return "unknown";
     }
 }

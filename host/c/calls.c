@@ -52,7 +52,6 @@ static void loads(keeper_cell *cell)
 {
     static const uint8_t after_the_end[2] = {4, 4};
     static const uint8_t no_parent[6] = {1, 5, 5, 7, 0, 4};
-    static const uint8_t too_large[6] = {1, 64, 0, 7, 0, 4};
     static const uint8_t largest[6] = {1, 63, 0, 7, 0, 4};
     keeper_answer answer;
 
@@ -67,11 +66,40 @@ static void loads(keeper_cell *cell)
     HOLDS(keeper_refusal(answer) == KEEPER_AFTER_THE_END && keeper_offset(answer) == 1);
     answer = refused(cell, no_parent, 6);
     HOLDS(keeper_refusal(answer) == KEEPER_NOT_YET_GIVEN && keeper_offset(answer) == 0);
-    answer = refused(cell, too_large, 6);
-    HOLDS(keeper_refusal(answer) == KEEPER_TOO_LARGE && keeper_offset(answer) == 0);
     HOLDS(keeper_load(cell, largest, 6) == 0);
     HOLDS(cell->places[63].name == 7 && cell->places[63].parent == 0 && cell->places[63].way == 0);
     HOLDS(cell->used == (1 | (uint64_t)1 << 63) && cell->given == 0 && cell->locks[63] == KEEPER_FREE);
+}
+
+/* Which number was too large: 3 for a place record's own number, 13 for a parent or home, 14 for an agent; the earlier byte decides, and
+** all three come before 4. */
+static void too_large(keeper_cell *cell)
+{
+    static const struct {
+        uint8_t record[5];
+        size_t length;
+        unsigned refusal;
+    } rows[] = {
+        {{1, 64, 0, 7, 0}, 5, KEEPER_TOO_LARGE},         {{1, 0, 0, 7, 0}, 5, KEEPER_TOO_LARGE},
+        {{1, 0, 64, 7, 0}, 5, KEEPER_TOO_LARGE},         {{1, 255, 255, 0, 0}, 5, KEEPER_TOO_LARGE},
+        {{1, 2, 64, 7, 0}, 5, KEEPER_PARENT_TOO_LARGE},  {{1, 1, 64, 0, 0}, 5, KEEPER_PARENT_TOO_LARGE},
+        {{2, 1, 64, 0, 0}, 3, KEEPER_PARENT_TOO_LARGE},  {{2, 0, 255, 0, 0}, 3, KEEPER_PARENT_TOO_LARGE},
+        {{2, 64, 0, 0, 0}, 3, KEEPER_AGENT_TOO_LARGE},   {{2, 64, 64, 0, 0}, 3, KEEPER_AGENT_TOO_LARGE},
+        {{3, 64, 1, 7, 0}, 5, KEEPER_AGENT_TOO_LARGE},   {{3, 255, 9, 0, 0}, 5, KEEPER_AGENT_TOO_LARGE},
+        {{1, 1, 63, 0, 0}, 5, KEEPER_GIVEN_TWICE},       {{2, 0, 63, 0, 0}, 3, KEEPER_GIVEN_TWICE},
+        {{1, 2, 63, 0, 0}, 5, KEEPER_NOT_YET_GIVEN},     {{3, 63, 9, 0, 0}, 5, KEEPER_NOT_YET_GIVEN},
+    };
+
+    HOLDS(keeper_load(cell, example, sizeof example) == 0);
+    for (size_t at = 0; at < sizeof rows / sizeof rows[0]; at++) {
+        uint8_t file[8 + 5 + 1] = {1, 1, 0, 7, 0, 2, 0, 1};
+        keeper_answer answer;
+
+        memcpy(file + 8, rows[at].record, rows[at].length);
+        file[8 + rows[at].length] = 4;
+        answer = refused(cell, file, 8 + rows[at].length + 1);
+        HOLDS(keeper_refusal(answer) == rows[at].refusal && keeper_offset(answer) == 8);
+    }
 }
 
 /* Whether two cells without agents say the same: places, locks and the two sets. */
@@ -176,9 +204,12 @@ static void library(void)
 static void texts(void)
 {
     HOLDS(strcmp(keeper_refusal_text(KEEPER_NO_SUCH_AGENT), "no such agent") == 0);
-    for (unsigned refusal = 1; refusal <= 12; refusal++)
+    HOLDS(strcmp(keeper_refusal_text(KEEPER_TOO_LARGE), "place number above 63, or 0") == 0);
+    HOLDS(strcmp(keeper_refusal_text(KEEPER_PARENT_TOO_LARGE), "parent or home above 63") == 0);
+    HOLDS(strcmp(keeper_refusal_text(KEEPER_AGENT_TOO_LARGE), "agent number above 63") == 0);
+    for (unsigned refusal = 1; refusal <= 14; refusal++)
         HOLDS(strcmp(keeper_refusal_text(refusal), "unknown") != 0);
-    HOLDS(strcmp(keeper_refusal_text(13), "unknown") == 0);
+    HOLDS(strcmp(keeper_refusal_text(0), "unknown") == 0 && strcmp(keeper_refusal_text(15), "unknown") == 0);
     HOLDS(strcmp(keeper_word_name(8), "unknown") == 0);
 }
 
@@ -189,6 +220,7 @@ int main(void)
     library();
     HOLDS(keeper_bare(&cell) == 0);
     loads(&cell);
+    too_large(&cell);
     nothing_on_the_line(&cell);
     steps(&cell);
     listings(&cell);

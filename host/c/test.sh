@@ -39,6 +39,11 @@ case_of 'empty files' '' '' 'start 0\nend 0\n'
 case_of 'after the end' '\004\004' "$order" 'refused 9 1\n'
 case_of 'no end' '\001\001\000\007\000' "$order" 'refused 1 5\n'
 case_of 'cut body' '\001' "$order" 'refused 1 0\n'
+case_of 'place 64' '\001\100\100\007\000\004' "$order" 'refused 3 0\n'
+case_of 'parent 64' '\001\001\100\007\000\004' "$order" 'refused 13 0\n'
+case_of 'home 64' '\002\000\000\002\001\100\004' "$order" 'refused 13 3\n'
+case_of 'agent 64' '\002\100\100\004' "$order" 'refused 14 0\n'
+case_of 'action of agent 64' '\002\000\000\003\100\001\007\000\004' "$order" 'refused 14 3\n'
 
 # a file that is there and cannot be read does not pass for an empty one: a folder, and a path through a file
 printf "$cell" > "$folder/cell"

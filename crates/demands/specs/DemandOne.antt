@@ -21,7 +21,8 @@ use Rattle.meaning.specs.declared.Answer.the-variants.{Refused}
 use Rattle.meaning.specs.declared.Listed.the-variants.{Unlisted}
 use Rattle.meaning.specs.declared.Checked.the-variants.{Unsound}
 use Rattle.meaning.specs.declared.Idled.the-variants.{Unknown}
-use Rattle.meaning.specs.Refusals.{cutShort, unknownKind, tooLarge, givenTwice, notYetGiven, nameZero, wrongKind, seventeenth, afterEnd}
+use Rattle.meaning.specs.Refusals.{cutShort, unknownKind, placeTooLarge, parentTooLarge, agentTooLarge, givenTwice, notYetGiven}
+use Rattle.meaning.specs.Refusals.{nameZero, wrongKind, seventeenth, afterEnd}
 use Rattle.meaning.specs.Refusals.{unsoundTable, noSuchAgent, tooLong}
 use Rattle.meaning.specs.File.{byteAt, placeRecord, agentRecord, actionRecord, Known, recordAt, knownIn}
 use Rattle.meaning.specs.File.{Load, accepted, refused, loadRecord, loadFrom, load, loaded, loadOf}
@@ -29,7 +30,7 @@ use Rattle.meaning.specs.FileLaws.{load-either, refused-keeps}
 use Rattle.meaning.specs.Run.{made, turnedAway, stepOf}
 use Rattle.meaning.specs.Listing.{listing, listAnswer, listBuffer}
 use Rattle.meaning.specs.Codes.{checkOf, idleOf}
-use Rattle.demands.specs.Refusals.{KeeperCall, step-call, list-call, check-call, idle-call, mayAnswer, before, after, RefusedRightly}
+use Rattle.demands.specs.Refusals.{KeeperCall, step-call, list-call, check-call, idle-call, ofFile, mayAnswer, before, after, RefusedRightly}
 use Rattle.demands.specs.Refusals.{Refuses, load-refused, step-refused, list-refused, check-refused, idle-refused}
 use Rattle.demands.specs.Refusals.{Grounds, in-the-file, step-10, step-11, list-10, list-12, check-10, idle-10}
 
@@ -39,13 +40,13 @@ never e = absurd (omega arith)
 
 -- ---- a load's number and offset
 
--- a record is refused with a number 1 to 8
+-- a record is refused with a number of a load
 data Numbered : Record → Type 0 where
   place : {number parent name : ℕ} → Numbered (PlaceRecord number parent name)
   agent : {number home : ℕ} → Numbered (AgentRecord number home)
   action : {agent kind name : ℕ} → Numbered (ActionRecord agent kind name)
   end : Numbered EndRecord
-  fault : (number : ℕ) → (leb cutShort number && leb number seventeenth) ≡ true → Numbered (Faulty number)
+  fault : (number : ℕ) → ofFile number ≡ true → Numbered (Faulty number)
 
 -- a test with such a record in both arms
 either : (b : Bool) {x y : Record} → Numbered x → Numbered y → Numbered (cond b x y)
@@ -53,23 +54,23 @@ either true f g = f
 either false f g = g
 
 -- a test with a refusal in the first arm
-unless : (b : Bool) (number : ℕ) {y : Record} → (leb cutShort number && leb number seventeenth) ≡ true → Numbered y → Numbered (cond b (Faulty number) y)
+unless : (b : Bool) (number : ℕ) {y : Record} → ofFile number ≡ true → Numbered y → Numbered (cond b (Faulty number) y)
 unless b number e g = either b (fault number e) g
 
 place-number : (taken known : Bool) (number parent name : ℕ) → Numbered (placeRecord taken known number parent name)
 unfolding placeRecord
-place-number taken known n p m = unless (ltb n 1) tooLarge refl (unless (leb 64 n) tooLarge refl
-    (unless (leb 64 p) tooLarge refl (unless taken givenTwice refl
+place-number taken known n p m = unless (ltb n 1) placeTooLarge refl (unless (leb 64 n) placeTooLarge refl
+    (unless (leb 64 p) parentTooLarge refl (unless taken givenTwice refl
     (either known (unless (ltb m 1) nameZero refl place) (fault notYetGiven refl)))))
 
 agent-number : (taken known : Bool) (number home : ℕ) → Numbered (agentRecord taken known number home)
 unfolding agentRecord
-agent-number taken known n h = unless (leb 64 n) tooLarge refl (unless (leb 64 h) tooLarge refl (unless taken givenTwice refl
+agent-number taken known n h = unless (leb 64 n) agentTooLarge refl (unless (leb 64 h) parentTooLarge refl (unless taken givenTwice refl
     (either known agent (fault notYetGiven refl))))
 
 action-number : (known full : Bool) (agent kind name : ℕ) → Numbered (actionRecord known full agent kind name)
 unfolding actionRecord
-action-number known full n k m = unless (leb 64 n) tooLarge refl (either known (unless (ltb k 1) wrongKind refl
+action-number known full n k m = unless (leb 64 n) agentTooLarge refl (either known (unless (ltb k 1) wrongKind refl
     (unless (ltb lastKind k) wrongKind refl (unless (ltb m 1) nameZero refl (unless full seventeenth refl action)))) (fault notYetGiven refl))
 
 record-number : (k : Known) (s : List ℕ) (at : ℕ) → Numbered (recordAt k s at)
@@ -81,13 +82,13 @@ record-number k s at =
     (either (eqb (byteAt s at) 4) end (fault unknownKind refl))))
 
 module _ (s : List ℕ) where
-  -- a load is refused with a number 1 to 9 and an offset within the file
+  -- a load is refused with one of its numbers and an offset within the file
   data Fair : Load → Type 0 where
     taken : {c : State} → Fair (accepted c)
-    turned : (number offset : ℕ) → cutShort ≤ number → number ≤ afterEnd → offset ≤ length s → Fair (refused number offset)
+    turned : (number offset : ℕ) → ofFile number ≡ true → offset ≤ length s → Fair (refused number offset)
 
   cut-short : Fair (refused cutShort (length s))
-  cut-short = turned cutShort (length s) (omega arith) (omega arith) (omega arith)
+  cut-short = turned cutShort (length s) refl (omega arith)
 
   fair-record : (rest : State → ℕ → Load) → ((d : State) (next : ℕ) → Fair (rest d next)) → (c : State) (at : ℕ) → at < length s
       → {r : Record} → Numbered r → Fair (loadRecord rest c s at r)
@@ -98,10 +99,9 @@ module _ (s : List ℕ) where
   fair-record rest f c at l end = go (told (ltb (at + 1) (length s)))
     where
       go : Told (ltb (at + 1) (length s)) → Fair (cond (ltb (at + 1) (length s)) (refused afterEnd (at + 1)) (accepted c))
-      go (yea t) = rw t (turned afterEnd (at + 1) (omega arith) (omega arith) (omega arith))
+      go (yea t) = rw t (turned afterEnd (at + 1) refl (omega arith))
       go (nay t) = rw t taken
-  fair-record rest f c at l (fault number e) = turned number at (leb-true cutShort number (and-left (leb cutShort number) (leb number seventeenth) e))
-      (omega (arith, leb-true number seventeenth (and-right (leb cutShort number) (leb number seventeenth) e))) (omega arith)
+  fair-record rest f c at l (fault number e) = turned number at e (omega arith)
 
   fair-from : (turns : ℕ) (c : State) (at : ℕ) → Fair (loadFrom turns c s at)
   unfolding loadFrom
@@ -117,12 +117,12 @@ module _ (s : List ℕ) where
 
   -- what that says of a refused load
   fair-number : {l : Load} {number offset : ℕ} → Fair l → l ≡ refused number offset
-      → ((leb cutShort number && leb number afterEnd) ≡ true) × (offset ≤ length s)
+      → (ofFile number ≡ true) × (offset ≤ length s)
   fair-number taken e = never (cc)
-  fair-number {number} {offset} (turned n o low high l) e =
+  fair-number {number} {offset} (turned n o one l) e =
       let p : n ≡ number = cc in
       let q : o ≡ offset = cc in
-      (rw (le-leb cutShort number (omega arith), le-leb number afterEnd (omega arith)), omega arith)
+      (subst (λ (k : ℕ). ofFile k ≡ true) p one, omega arith)
 
 -- ---- each number exactly under its condition
 

@@ -15,7 +15,7 @@ use Rattle.meaning.specs.declared.Answer.the-variants.{Refused}
 use Rattle.meaning.specs.declared.Listed.the-variants.{Unlisted}
 use Rattle.meaning.specs.declared.Checked.the-variants.{Unsound}
 use Rattle.meaning.specs.declared.Idled.the-variants.{Unknown}
-use Rattle.meaning.specs.Refusals.{cutShort, afterEnd, unsoundTable, noSuchAgent, tooLong}
+use Rattle.meaning.specs.Refusals.{cutShort, afterEnd, parentTooLarge, agentTooLarge, unsoundTable, noSuchAgent, tooLong}
 use Rattle.meaning.specs.File.{refused, load, loadOf}
 use Rattle.meaning.specs.Run.{stepOf}
 use Rattle.meaning.specs.Listing.{listing, listAnswer, listBuffer}
@@ -43,9 +43,13 @@ pub data Refuses : KeeperCall → ℕ → ℕ → Type 0 where
 
 -- ---- the numbers
 
+-- the numbers of a load: 1 to 9, 13 and 14
+abbrev pub ofFile : ℕ → Bool
+ofFile number = (leb cutShort number && leb number afterEnd) || (eqb number parentTooLarge || eqb number agentTooLarge)
+
 -- the numbers of each call: "Calls on a table test 10 first, then 11 or 12"
 abbrev pub mayAnswer : KeeperCall → ℕ → Bool
-mayAnswer (load-call t file) number = leb cutShort number && leb number afterEnd
+mayAnswer (load-call t file) number = ofFile number
 mayAnswer (step-call t agent wish) number = eqb number unsoundTable || eqb number noSuchAgent
 mayAnswer (list-call t buffer) number = eqb number unsoundTable || eqb number tooLong
 mayAnswer (check-call t) number = eqb number unsoundTable

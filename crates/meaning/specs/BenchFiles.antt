@@ -20,26 +20,33 @@ fileRows =
     ∷ row (hex "02 00 05 05") [] ("refused 5 0" ∷ [])
     -- "3 .. place number 0", though the floor is given: 3 before 4
     ∷ row (hex "01 00 00 07 00 04") [] ("refused 3 0" ∷ [])
-    -- "parents and homes 0 to 63": a parent of 64, not given either: 3 before 5
-    ∷ row (hex "01 01 40 07 00 04") [] ("refused 3 0" ∷ [])
-    -- a place number given twice, its parent too large: 3 before 4
-    ∷ row (hex "01 01 00 07 00 01 01 40 07 00 04") [] ("refused 3 5" ∷ [])
+    -- "A parent .. above 63 gets 13" (W2), not given either: 13 before 5
+    ∷ row (hex "01 01 40 07 00 04") [] ("refused 13 0" ∷ [])
+    -- a place number given twice, its parent too large: "before 4"
+    ∷ row (hex "01 01 00 07 00 01 01 40 07 00 04") [] ("refused 13 5" ∷ [])
+    -- "of the three, the earlier byte in the record decides": place 0 and place 64 with parent 64
+    ∷ row (hex "01 00 40 07 00 04") [] ("refused 3 0" ∷ [])
+    ∷ row (hex "01 40 40 07 00 04") [] ("refused 3 0" ∷ [])
     -- "4 number given twice", its parent not given: 4 before 5
     ∷ row (hex "01 01 00 07 00 01 01 05 00 00 04") [] ("refused 4 5" ∷ [])
     -- "5 not yet given", with name 0: 5 before 6
     ∷ row (hex "01 01 05 00 00 04") [] ("refused 5 0" ∷ [])
     -- "given earlier": a parent given by the next record
     ∷ row (hex "01 02 01 09 00 01 01 00 07 00 04") [] ("refused 5 0" ∷ [])
-    -- an agent: its number too large, its home not given: 3 before 5
-    ∷ row (hex "02 40 05 04") [] ("refused 3 0" ∷ [])
-    -- its number given twice, its home too large: 3 before 4
-    ∷ row (hex "02 00 00 02 00 40 04") [] ("refused 3 3" ∷ [])
+    -- "an agent number above 63 gets 14", its home not given: 14 before 5
+    ∷ row (hex "02 40 05 04") [] ("refused 14 0" ∷ [])
+    -- its home too large as well: the earlier byte
+    ∷ row (hex "02 40 40 04") [] ("refused 14 0" ∷ [])
+    -- "A .. home above 63 gets 13", not given either: 13 before 5
+    ∷ row (hex "02 00 40 04") [] ("refused 13 0" ∷ [])
+    -- its number given twice, its home too large: 13 before 4
+    ∷ row (hex "02 00 00 02 00 40 04") [] ("refused 13 3" ∷ [])
     -- its number given twice, its home not given: 4 before 5
     ∷ row (hex "02 00 00 02 00 05 04") [] ("refused 4 3" ∷ [])
     -- its home not given
     ∷ row (hex "02 00 05 04") [] ("refused 5 0" ∷ [])
-    -- an action: its agent's number too large, not given either: 3 before 5
-    ∷ row (hex "03 40 01 09 00 04") [] ("refused 3 0" ∷ [])
+    -- an action: its agent's number too large, not given either: 14 before 5
+    ∷ row (hex "03 40 01 09 00 04") [] ("refused 14 0" ∷ [])
     -- its agent not given, its kind unknown: 5 before 7
     ∷ row (hex "03 00 04 09 00 04") [] ("refused 5 0" ∷ [])
     -- "7 action kind not 1 to 3", with name 0: 7 before 6

@@ -12,7 +12,8 @@ use Rattle.meaning.specs.declared.Record.{Record}
 use Rattle.meaning.specs.declared.Record.the-variants.{PlaceRecord, AgentRecord, ActionRecord, EndRecord, Faulty}
 use Rattle.meaning.specs.declared.Verdict.the-variants.{Accepted, Rejected}
 use Rattle.meaning.specs.declared.Loaded.{Loaded}
-use Rattle.meaning.specs.Refusals.{cutShort, unknownKind, tooLarge, givenTwice, notYetGiven, nameZero, wrongKind, seventeenth, afterEnd}
+use Rattle.meaning.specs.Refusals.{cutShort, unknownKind, placeTooLarge, parentTooLarge, agentTooLarge, givenTwice, notYetGiven}
+use Rattle.meaning.specs.Refusals.{nameZero, wrongKind, seventeenth, afterEnd}
 use Rattle.meaning.specs.Update.{linkedPlace, withHome, withStage, withCount, withActions, withPlaces, withUsed, withLand, withGiven, withAgent}
 
 -- "Two-byte numbers have the low byte first"
@@ -22,23 +23,25 @@ twoBytes low high = low + 256 * high
 abbrev pub byteAt : List ℕ → ℕ → ℕ
 byteAt s i = getD s i 0
 
--- ---- one record: "Within a record the order is 2, 1, 3, 4, 5, 7, 6, 8"
+-- ---- one record: "Within a record the order is 2, 1, 3, 4, 5, 7, 6, 8". "Number 3 shall be for a place record's own number. A parent or
+-- home above 63 gets 13, an agent number above 63 gets 14. .. 13 and 14 stand where 3 stood, before 4; of the three, the earlier byte in
+-- the record decides" (document 02, W2)
 
 -- "Place numbers in records are 1 to 63; parents and homes 0 to 63. A parent, home or agent must have been given earlier":
--- 3 number too large, or place number 0; 4 number given twice; 5 not yet given; 6 name 0
+-- 3 number too large, or 0; 13 parent too large; 4 number given twice; 5 parent not yet given; 6 name 0
 unfoldable pub placeRecord : Bool → Bool → ℕ → ℕ → ℕ → Record
 placeRecord taken known number parent name =
-    cond (ltb number 1) (Faulty tooLarge)
-    (cond (leb 64 number) (Faulty tooLarge)
-    (cond (leb 64 parent) (Faulty tooLarge)
+    cond (ltb number 1) (Faulty placeTooLarge)
+    (cond (leb 64 number) (Faulty placeTooLarge)
+    (cond (leb 64 parent) (Faulty parentTooLarge)
     (cond taken (Faulty givenTwice)
     (cond known (cond (ltb name 1) (Faulty nameZero) (PlaceRecord number parent name)) (Faulty notYetGiven)))))
 
--- an agent: 3 its number or home too large, 4 number given twice, 5 home not yet given
+-- an agent: 14 its number too large, 13 its home too large, 4 number given twice, 5 home not yet given
 unfoldable pub agentRecord : Bool → Bool → ℕ → ℕ → Record
 agentRecord taken known number home =
-    cond (leb 64 number) (Faulty tooLarge)
-    (cond (leb 64 home) (Faulty tooLarge)
+    cond (leb 64 number) (Faulty agentTooLarge)
+    (cond (leb 64 home) (Faulty parentTooLarge)
     (cond taken (Faulty givenTwice)
     (cond known (AgentRecord number home) (Faulty notYetGiven))))
 
@@ -50,9 +53,9 @@ givenAction full agent kind name =
     (cond (ltb name 1) (Faulty nameZero)
     (cond full (Faulty seventeenth) (ActionRecord agent kind name))))
 
--- an action: 3 its agent's number too large, 5 agent not yet given
+-- an action: 14 its agent's number too large, 5 agent not yet given
 unfoldable pub actionRecord : Bool → Bool → ℕ → ℕ → ℕ → Record
-actionRecord known full agent kind name = cond (leb 64 agent) (Faulty tooLarge) (cond known (givenAction full agent kind name) (Faulty notYetGiven))
+actionRecord known full agent kind name = cond (leb 64 agent) (Faulty agentTooLarge) (cond known (givenAction full agent kind name) (Faulty notYetGiven))
 
 -- a record of n bytes with its kind: 1 where its body is incomplete
 abbrev pub complete : List ℕ → ℕ → ℕ → Record → Record

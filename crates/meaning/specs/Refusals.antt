@@ -1,4 +1,4 @@
--- The numbers of the refusals (document 01, "Turned-away calls").
+-- The numbers of the refusals (document 01, "Turned-away calls"; document 02 for those from 13 on).
 use Prim.Native.Nat.{ℕ}
 
 -- ---- of a file
@@ -11,9 +11,9 @@ cutShort = 1
 abbrev pub unknownKind : ℕ
 unknownKind = 2
 
--- "number too large, or place number 0"
-abbrev pub tooLarge : ℕ
-tooLarge = 3
+-- "number too large, or place number 0": "for a place record's own number" (document 02, W2)
+abbrev pub placeTooLarge : ℕ
+placeTooLarge = 3
 
 -- "number given twice"
 abbrev pub givenTwice : ℕ
@@ -38,6 +38,14 @@ seventeenth = 8
 -- "bytes after the end record"
 abbrev pub afterEnd : ℕ
 afterEnd = 9
+
+-- "A parent or home above 63 gets 13"
+abbrev pub parentTooLarge : ℕ
+parentTooLarge = 13
+
+-- "an agent number above 63 gets 14"
+abbrev pub agentTooLarge : ℕ
+agentTooLarge = 14
 
 -- ---- of a call on a table
 

@@ -10,7 +10,7 @@ pub struct Counts {
     pub steps_refused: u64,
     pub words: BTreeMap<&'static str, u64>,
     pub accepted: u64,
-    pub refused: u64,
+    pub refused: BTreeMap<u8, u64>,
     pub listings: u64,
     pub sound: u64,
     pub unsound: u64,
@@ -26,7 +26,10 @@ impl fmt::Display for Counts {
         write!(out, "step calls      {:>9}   ({} refused", self.steps, self.steps_refused)?;
         self.words.iter().try_for_each(|(word, count)| write!(out, ", {count} {word}"))?;
         writeln!(out, ")")?;
-        writeln!(out, "files           {:>9}   ({} accepted, {} refused)", self.accepted + self.refused, self.accepted, self.refused)?;
+        let refused: u64 = self.refused.values().sum();
+        write!(out, "files           {:>9}   ({} accepted, {} refused:", self.accepted + refused, self.accepted, refused)?;
+        self.refused.iter().try_for_each(|(number, count)| write!(out, " {count} with {number}"))?;
+        writeln!(out, ")")?;
         writeln!(out, "listings        {:>9}", self.listings)?;
         writeln!(out, "damaged cells   {:>9}   ({} sound, {} unsound)", self.sound + self.unsound, self.sound, self.unsound)?;
         writeln!(out, "demand 2, moves reached within nine steps       {:>9}", self.nine_steps)?;

@@ -144,22 +144,39 @@ fn kinds(random: &mut Random) -> Vec<u8> {
     kinds
 }
 
-/// A good file with something wrong in it, often: bytes changed, taken out, put in, cut off or put after the end; records swapped.
+/// A good file with something wrong in it, often: bytes changed, taken out, put in, cut off or put after the end; a number in a record out
+/// of range; records swapped.
 pub fn nearly_good(random: &mut Random) -> Vec<u8> {
     let mut file = good(random);
     for _ in 0..1 + random.below(3) {
         let at = random.below(file.len().max(1));
-        match random.below(7) {
+        match random.below(8) {
             0 if !file.is_empty() => file[at] = random.byte(),
             1 if !file.is_empty() => file[at] = random.pick(&[0, 1, 2, 3, 4, 5, 63, 64, 65, 255]),
             2 if !file.is_empty() => drop(file.remove(at)),
             3 => file.insert(at.min(file.len()), random.pick(&[0, 1, 2, 3, 4, 7])),
             4 => file.truncate(at),
             5 => file.push(random.byte()),
+            6 => out_of_range(random, &mut file),
             _ => swap_records(random, &mut file),
         }
     }
     file
+}
+
+/// Sets one or both of the numbers that a record begins with to one that is out of range, or nearly so.
+fn out_of_range(random: &mut Random, file: &mut Vec<u8>) {
+    let mut found = records(file);
+    if found.is_empty() {
+        return;
+    }
+    let at = random.below(found.len());
+    for number in found[at].iter_mut().skip(1).take(2) {
+        if random.percent(60) {
+            *number = random.pick(&[0, 63, 64, 64, 65, 128, 255]);
+        }
+    }
+    *file = found.concat();
 }
 
 /// Puts one record of a file before another, or twice.

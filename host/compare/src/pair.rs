@@ -79,8 +79,8 @@ impl Pair {
         let answer = self.lent.load(file);
         same("load", answer, answer::of_load(loaded.as_ref().err().copied()), answer::load_text)?;
         match loaded {
-            Err(_) => {
-                self.counts.refused += 1;
+            Err(refused) => {
+                *self.counts.refused.entry(refused.number).or_default() += 1;
                 self.unchanged("a refused load", &before)
             }
             Ok(cell) => {

@@ -1,7 +1,8 @@
 //! The cell file: "One byte of kind, then a body whose length the kind fixes. Two-byte numbers have the low byte first."
 
 use crate::cell::{Action, Agent, Cell, Kind, Place, Stands};
-use crate::{ACTION_KIND, AFTER_THE_END, CUT_SHORT, GIVEN_TWICE, NAME_ZERO, NOT_YET_GIVEN, SEVENTEENTH_ACTION, TOO_LARGE, UNKNOWN_KIND};
+use crate::{ACTION_KIND, AFTER_THE_END, AGENT_TOO_LARGE, CUT_SHORT, GIVEN_TWICE, NAME_ZERO, NOT_YET_GIVEN};
+use crate::{PARENT_TOO_LARGE, SEVENTEENTH_ACTION, TOO_LARGE, UNKNOWN_KIND};
 
 /// A refused load "answers the number and the byte offset of the record".
 #[derive(Clone, Copy, PartialEq, Eq, Debug)]
@@ -52,13 +53,31 @@ fn two_bytes(low: u8, high: u8) -> u16 {
     low as u16 + 256 * high as u16
 }
 
+/// Document 02, W2: "Number 3 shall be for a place record's own number. A parent or home above 63 gets 13, an agent number above 63 gets
+/// 14. .. of the three, the earlier byte in the record decides": the faulty one among these bytes of a record, which are given in its
+/// order, each with the test that it must pass and its number.
+fn in_range(bytes: &[(u8, fn(u8) -> bool, u8)]) -> Result<(), u8> {
+    match bytes.iter().find(|(byte, right, _)| !right(*byte)) {
+        Some(&(_, _, number)) => Err(number),
+        None => Ok(()),
+    }
+}
+
+/// "Place numbers in records are 1 to 63".
+fn is_place(number: u8) -> bool {
+    (1..=63).contains(&number)
+}
+
+/// "parents and homes 0 to 63", and an agent "has a number 0 to 63".
+fn to_63(number: u8) -> bool {
+    number <= 63
+}
+
 /// "1 place | number, parent, name (2 bytes)": "Place numbers in records are 1 to 63; parents .. 0 to 63. A parent .. must have been
 /// given earlier (the floor always is)."
 fn place(cell: &mut Cell, body: &[u8]) -> Result<(), u8> {
     let (number, parent, name) = (body[0], body[1], two_bytes(body[2], body[3]));
-    if number == 0 || number > 63 || parent > 63 {
-        return Err(TOO_LARGE);
-    }
+    in_range(&[(number, is_place, TOO_LARGE), (parent, to_63, PARENT_TOO_LARGE)])?;
     if cell.places.contains_key(&number) {
         return Err(GIVEN_TWICE);
     }
@@ -75,9 +94,7 @@ fn place(cell: &mut Cell, body: &[u8]) -> Result<(), u8> {
 /// "2 agent | number, place it lives in"; "an agent loaded without actions is at 8".
 fn agent(cell: &mut Cell, body: &[u8]) -> Result<(), u8> {
     let (number, home) = (body[0], body[1]);
-    if number > 63 || home > 63 {
-        return Err(TOO_LARGE);
-    }
+    in_range(&[(number, to_63, AGENT_TOO_LARGE), (home, to_63, PARENT_TOO_LARGE)])?;
     if cell.agents.contains_key(&number) {
         return Err(GIVEN_TWICE);
     }
@@ -91,9 +108,7 @@ fn agent(cell: &mut Cell, body: &[u8]) -> Result<(), u8> {
 /// "3 action | agent, action kind, name (2 bytes), put after that agent's earlier ones"; an agent "loaded with some at 0".
 fn action(cell: &mut Cell, body: &[u8]) -> Result<(), u8> {
     let (number, kind, name) = (body[0], body[1], two_bytes(body[2], body[3]));
-    if number > 63 {
-        return Err(TOO_LARGE);
-    }
+    in_range(&[(number, to_63, AGENT_TOO_LARGE)])?;
     let agent = cell.agents.get_mut(&number).ok_or(NOT_YET_GIVEN)?;
     let kind = Kind::of(kind).ok_or(ACTION_KIND)?;
     if name == 0 {

@@ -32,7 +32,7 @@ pub use walk::walk;
 pub const CUT_SHORT: u8 = 1;
 /// "unknown kind, not 1 to 4"
 pub const UNKNOWN_KIND: u8 = 2;
-/// "number too large, or place number 0"
+/// "number too large, or place number 0"; document 02, W2: "for a place record's own number"
 pub const TOO_LARGE: u8 = 3;
 /// "number given twice"
 pub const GIVEN_TWICE: u8 = 4;
@@ -52,3 +52,7 @@ pub const UNSOUND: u8 = 10;
 pub const NO_SUCH_AGENT: u8 = 11;
 /// "listing longer than the buffer"
 pub const LISTING_TOO_LONG: u8 = 12;
+/// Document 02, W2: "A parent or home above 63"
+pub const PARENT_TOO_LARGE: u8 = 13;
+/// Document 02, W2: "an agent number above 63"
+pub const AGENT_TOO_LARGE: u8 = 14;

@@ -42,7 +42,6 @@ fn refused_files() {
     assert_eq!(refusal(&[1, 1, 0, 7, 0, 9]), (2, 5));
     assert_eq!(refusal(&[1, 0, 0, 7, 0, 4]), (3, 0));
     assert_eq!(refusal(&[1, 1, 0, 7, 0, 1, 1, 1, 7, 0, 4]), (4, 5));
-    assert_eq!(refusal(&[2, 64, 64, 4]), (3, 0));
     assert_eq!(refusal(&[3, 0, 9, 0, 0, 4]), (5, 0));
     assert_eq!(refusal(&[2, 0, 0, 3, 0, 4, 0, 0, 4]), (7, 3));
     assert_eq!(refusal(&[2, 0, 0, 3, 0, 3, 0, 0, 4]), (6, 3));
@@ -62,6 +61,38 @@ fn a_line_with_nothing_on_it() {
     assert_eq!(load(&[]), Ok(Cell::bare()));
     assert_eq!(walk(&[], &[]), "start 0\nend 0\n");
     assert_eq!(walk(&[], &[0, 0, 63, 1, 64, 255, 7]), "start 0\n0 refused 11\n63 refused 11\n64 refused 11\nend 0\n");
+}
+
+#[test]
+fn which_number_was_too_large() {
+    // of a place: its own number, then its parent
+    for (number, parent, refused) in [(64, 0, 3), (255, 0, 3), (0, 0, 3), (64, 64, 3), (0, 64, 3), (0, 255, 3), (2, 64, 13), (2, 255, 13)] {
+        assert_eq!(refusal(&[1, number, parent, 7, 0, 4]), (refused, 0));
+    }
+    // of an agent: its number, then its home
+    for (number, home, refused) in [(64, 0, 14), (255, 0, 14), (64, 64, 14), (255, 255, 14), (0, 64, 13), (63, 255, 13)] {
+        assert_eq!(refusal(&[2, number, home, 4]), (refused, 0));
+    }
+    // of an action: its agent
+    for agent in [64, 65, 255] {
+        assert_eq!(refusal(&[3, agent, 9, 0, 0, 4]), (14, 0));
+    }
+}
+
+#[test]
+fn the_range_of_numbers_is_tested_before_what_was_given() {
+    // given twice, not yet given, and the faults after them, each beside a number that is too large
+    assert_eq!(refusal(&[1, 1, 0, 7, 0, 1, 1, 64, 0, 0, 4]), (13, 5));
+    assert_eq!(refusal(&[1, 1, 0, 7, 0, 1, 1, 9, 0, 0, 4]), (4, 5));
+    assert_eq!(refusal(&[2, 0, 0, 2, 0, 64, 4]), (13, 3));
+    assert_eq!(refusal(&[2, 0, 0, 2, 0, 9, 4]), (4, 3));
+    assert_eq!(refusal(&[1, 2, 64]), (1, 0));
+    assert_eq!(refusal(&[2, 64]), (1, 0));
+    assert_eq!(refusal(&[3, 64, 1, 7]), (1, 0));
+    assert!(load(&[1, 63, 0, 7, 0, 1, 62, 63, 7, 0, 2, 63, 63, 3, 63, 1, 7, 0, 4]).is_ok());
+    // a step call for an agent above 63 is still 11
+    let mut cell = load(&[2, 63, 0, 4]).unwrap();
+    assert_eq!([step(&mut cell, 64, 0), step(&mut cell, 255, 0)], [Err(11), Err(11)]);
 }
 
 #[test]

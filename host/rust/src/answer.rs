@@ -39,7 +39,7 @@ pub enum Refusal {
     CutShort,
     /// 2: a record of unknown kind, not 1 to 4.
     UnknownKind,
-    /// 3: a number too large, or place number 0.
+    /// 3: a place record's own number is above 63, or 0.
     TooLarge,
     /// 4: a number given twice.
     GivenTwice,
@@ -59,6 +59,10 @@ pub enum Refusal {
     NoSuchAgent,
     /// 12: the listing is longer than the text lent for it.
     ListingTooLong,
+    /// 13: a place's parent or an agent's home is above 63.
+    ParentTooLarge,
+    /// 14: the number of an agent, in an agent or an action record, is above 63. A step for such an agent is [`Refusal::NoSuchAgent`].
+    AgentTooLarge,
     /// 255, which no library answers: the linked library is not one that this crate was made for, and was not called.
     OtherLibrary,
     /// A refusal of a later library, by its number.
@@ -121,8 +125,8 @@ impl Word {
 }
 
 impl Refusal {
-    /// The library's refusals, 1 to 12, in the order of their numbers.
-    pub const ALL: [Refusal; 12] = [
+    /// The library's refusals, 1 to 14, in the order of their numbers.
+    pub const ALL: [Refusal; 14] = [
         Refusal::CutShort,
         Refusal::UnknownKind,
         Refusal::TooLarge,
@@ -135,6 +139,8 @@ impl Refusal {
         Refusal::Unsound,
         Refusal::NoSuchAgent,
         Refusal::ListingTooLong,
+        Refusal::ParentTooLarge,
+        Refusal::AgentTooLarge,
     ];
 
     /// The number of [`Refusal::OtherLibrary`].
@@ -155,6 +161,8 @@ impl Refusal {
             10 => Refusal::Unsound,
             11 => Refusal::NoSuchAgent,
             12 => Refusal::ListingTooLong,
+            13 => Refusal::ParentTooLarge,
+            14 => Refusal::AgentTooLarge,
             Refusal::OTHER_LIBRARY => Refusal::OtherLibrary,
             _ => Refusal::Unknown(number),
         }
@@ -175,6 +183,8 @@ impl Refusal {
             Refusal::Unsound => 10,
             Refusal::NoSuchAgent => 11,
             Refusal::ListingTooLong => 12,
+            Refusal::ParentTooLarge => 13,
+            Refusal::AgentTooLarge => 14,
             Refusal::OtherLibrary => Refusal::OTHER_LIBRARY,
             Refusal::Unknown(number) => number,
         }
@@ -185,7 +195,7 @@ impl Refusal {
         match self {
             Refusal::CutShort => "cut short: a body incomplete, or no end record",
             Refusal::UnknownKind => "unknown kind, not 1 to 4",
-            Refusal::TooLarge => "number too large, or place number 0",
+            Refusal::TooLarge => "place number above 63, or 0",
             Refusal::GivenTwice => "number given twice",
             Refusal::NotYetGiven => "not yet given",
             Refusal::NameZero => "name 0 in a place or action",
@@ -195,6 +205,8 @@ impl Refusal {
             Refusal::Unsound => "unsound table",
             Refusal::NoSuchAgent => "no such agent",
             Refusal::ListingTooLong => "listing longer than the buffer",
+            Refusal::ParentTooLarge => "parent or home above 63",
+            Refusal::AgentTooLarge => "agent number above 63",
             Refusal::OtherLibrary => "not the library that this crate was made for",
             Refusal::Unknown(_) => "unknown",
         }
@@ -241,8 +253,8 @@ mod tests {
 
     #[test]
     fn unknown_numbers_have_texts() {
-        assert_eq!(Refusal::of(13), Refusal::Unknown(13));
-        assert_eq!(Refusal::of(13).text(), "unknown");
+        assert!((1..=254).all(|number| (Refusal::of(number) == Refusal::Unknown(number)) == (number > 14)));
+        assert_eq!(Refusal::of(15).text(), "unknown");
         assert_eq!(Word::of(8).name(), "unknown");
     }
 }

@@ -56,7 +56,7 @@ use lent::Lent;
 
 /// The version of the library that this crate was made for: the major number from bit 16 on, the minor one in bits 8 to 15, the patch in
 /// bits 0 to 7.
-pub const VERSION: u64 = 65_537;
+pub const VERSION: u64 = 65_792;
 
 /// The longest cell file that can be accepted.
 pub const FILE_LONGEST: usize = 5_628;
@@ -95,7 +95,7 @@ impl Cell {
     ///
     /// # Errors
     ///
-    /// Refused with 1 to 9 where the file is faulty, with the byte offset of the first faulty record.
+    /// Refused with 1 to 9, 13 or 14 where the file is faulty, with the byte offset of the first faulty record.
     pub fn load(file: &[u8]) -> Result<Cell, Refused> {
         let mut cell = Cell::bare();
         cell.reload(file)?;

@@ -51,6 +51,37 @@ fn refused_loads_leave_the_cell() {
 }
 
 #[test]
+fn which_number_was_too_large() {
+    use Refusal::{AgentTooLarge, GivenTwice, NotYetGiven, ParentTooLarge, TooLarge};
+    let mut cell = Cell::load(&FILE).unwrap();
+    let before = cell.clone();
+    // after place 1 and agent 0: the earlier byte decides, and all three come before 4
+    let rows: [(&[u8], Refusal); 16] = [
+        (&[1, 64, 0, 7, 0], TooLarge),
+        (&[1, 0, 0, 7, 0], TooLarge),
+        (&[1, 0, 64, 7, 0], TooLarge),
+        (&[1, 255, 255, 0, 0], TooLarge),
+        (&[1, 2, 64, 7, 0], ParentTooLarge),
+        (&[1, 1, 64, 0, 0], ParentTooLarge),
+        (&[2, 1, 64], ParentTooLarge),
+        (&[2, 0, 255], ParentTooLarge),
+        (&[2, 64, 0], AgentTooLarge),
+        (&[2, 64, 64], AgentTooLarge),
+        (&[3, 64, 1, 7, 0], AgentTooLarge),
+        (&[3, 255, 9, 0, 0], AgentTooLarge),
+        (&[1, 1, 63, 0, 0], GivenTwice),
+        (&[2, 0, 63], GivenTwice),
+        (&[1, 2, 63, 0, 0], NotYetGiven),
+        (&[3, 63, 9, 0, 0], NotYetGiven),
+    ];
+    for (record, refusal) in rows {
+        let file = [&[1, 1, 0, 7, 0, 2, 0, 1], record, &[4]].concat();
+        assert_eq!(cell.reload(&file), Err(Refused { refusal, offset: Some(8) }), "{record:?}");
+    }
+    assert!(cell.lent() == before.lent());
+}
+
+#[test]
 fn a_file_of_length_0_is_a_bare_floor() {
     let floor = |cell: &Cell| (cell.lent().places, cell.lent().locks, cell.lent().used, cell.lent().given);
     let bare = floor(&Cell::bare());
@@ -127,7 +158,10 @@ fn texts() {
     let refused = Cell::load(&[4, 4]).unwrap_err();
     assert_eq!(refused.to_string(), "refused with 9: bytes after the end record, at byte 1");
     let numbers: Vec<u8> = Refusal::ALL.iter().map(|refusal| refusal.number()).collect();
-    assert_eq!(numbers, (1..=12).collect::<Vec<u8>>());
+    assert_eq!(numbers, (1..=14).collect::<Vec<u8>>());
+    assert_eq!(Refusal::TooLarge.to_string(), "place number above 63, or 0");
+    assert_eq!(Cell::load(&[1, 1, 64, 7, 0, 4]).unwrap_err().to_string(), "refused with 13: parent or home above 63, at byte 0");
+    assert_eq!(Cell::load(&[2, 64, 0, 4]).unwrap_err().to_string(), "refused with 14: agent number above 63, at byte 0");
     let error: Box<dyn std::error::Error> = Box::new(refused);
     assert!(error.source().is_none());
 }

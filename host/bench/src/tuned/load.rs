@@ -64,7 +64,8 @@ fn record(cell: &Cell, bytes: &[u8]) -> Result<Record, u8> {
 
 fn place(cell: &Cell, number: u8, parent: u8, name: u16) -> Result<Record, u8> {
     match () {
-        _ if number == 0 || number > 63 || parent > 63 => Err(3),
+        _ if number == 0 || number > 63 => Err(3),
+        _ if parent > 63 => Err(13),
         _ if has(cell.used, number) => Err(4),
         _ if !has(cell.used, parent) => Err(5),
         _ if name == 0 => Err(6),
@@ -74,7 +75,8 @@ fn place(cell: &Cell, number: u8, parent: u8, name: u16) -> Result<Record, u8> {
 
 fn agent(cell: &Cell, number: u8, home: u8) -> Result<Record, u8> {
     match () {
-        _ if number > 63 || home > 63 => Err(3),
+        _ if number > 63 => Err(14),
+        _ if home > 63 => Err(13),
         _ if has(cell.given, number) => Err(4),
         _ if !has(cell.used, home) => Err(5),
         _ => Ok(Record::Agent { number, home }),
@@ -83,7 +85,7 @@ fn agent(cell: &Cell, number: u8, home: u8) -> Result<Record, u8> {
 
 fn action(cell: &Cell, agent: u8, action: Action) -> Result<Record, u8> {
     match () {
-        _ if agent > 63 => Err(3),
+        _ if agent > 63 => Err(14),
         _ if !has(cell.given, agent) => Err(5),
         _ if !matches!(action.kind, 1..=3) => Err(7),
         _ if action.name == 0 => Err(6),
