@@ -8,7 +8,7 @@ use native.Mathlib.Omega.{arith}
 use lib.Dec.{eqb}
 use borrow.Author.Tests.{eqb-true, eqb-false}
 use Rattle.table.specs.BaseLaws.{Told, yea, nay, told, clash}
-use Rattle.table.specs.Cell.{Land, linked, kindOf, nameOf, unused, exitKind, answersTo}
+use Rattle.table.specs.Cell.{Land, linked, kindOf, nameOf, unused, exitKind, answersTo, looking, found, holding, holdingBoth, asleep}
 use Rattle.table.specs.Kinds.{Kind, is-enter, is-exit, is-open}
 use Rattle.table.specs.declared.Agent.{Agent}
 use Rattle.meaning.specs.Update.{atStage}
@@ -23,11 +23,11 @@ use Rattle.demands.specs.Facts.{enters-fits, exits-fits, opens-fits, ent
 
 -- ---- the facts of a stage
 
--- an agent that remembers a place: at stage 1 or 7, or at 2 or 3 with its lock
+-- an agent that remembers a place: it has found it or sleeps on it, or holds its lock
 pub data Recalls (lock : ℕ → ℕ) (x : ℕ) (a : Agent) : Type 0 where
-  found : a .stage ≡ 1 → Recalls lock x a
-  sleeping : a .stage ≡ 7 → Recalls lock x a
-  holding : 2 ≤ a .stage → a .stage ≤ 3 → Has lock (a .remembered) x → Recalls lock x a
+  finds : a .stage ≡ found → Recalls lock x a
+  sleeps : a .stage ≡ asleep → Recalls lock x a
+  holds : holding ≤ a .stage → a .stage ≤ holdingBoth → Has lock (a .remembered) x → Recalls lock x a
 
 -- an agent keeps its stage's facts where what it remembers stays in use, its locks of places in use stay, what is linked under a place
 -- that it holds stays linked there, and its place stays on its way if it is
@@ -47,11 +47,11 @@ ok-frame {l} {l′} {lock} {lock′} {x} {a} home above known has under way = go
 
     go : Ok l lock x a → Ok l′ lock′ x a
     go (ok0 s k) = ok0 s k
-    go (ok1 s r) = ok1 s (ready (found s) r)
-    go (ok2 s r h) = ok2 s (ready (holding (omega arith) (omega arith) h) r) (has _ (r .known) h)
-    go (ok3-move s r k h₁ h₂ v t) = ok3-move s (ready (holding (omega arith) (omega arith) h₁) r) k (has _ (r .known) h₁) (has _ home h₂)
+    go (ok1 s r) = ok1 s (ready (finds s) r)
+    go (ok2 s r h) = ok2 s (ready (holds (omega arith) (omega arith) h) r) (has _ (r .known) h)
+    go (ok3-move s r k h₁ h₂ v t) = ok3-move s (ready (holds (omega arith) (omega arith) h₁) r) k (has _ (r .known) h₁) (has _ home h₂)
         (under _ _ h₁ v) (λ e. under _ _ h₁ (t e))
-    go (ok3-open s r k h₁ h₂ v) = ok3-open s (ready (holding (omega arith) (omega arith) h₁) r) k (has _ (r .known) h₁)
+    go (ok3-open s r k h₁ h₂ v) = ok3-open s (ready (holds (omega arith) (omega arith) h₁) r) k (has _ (r .known) h₁)
         (has _ (link-used l _ (v .link)) h₂)
         (under _ _ h₁ v)
     go (ok4 s v) = ok4 s (away (record { from = omega arith; to = omega arith }) v)
@@ -59,7 +59,7 @@ ok-frame {l} {l′} {lock} {lock′} {x} {a} home above known has under way = go
     go (ok6 s v h₁ h₂) =
         let t : Travels a = record { from = omega arith; to = omega arith } in
         ok6 s (away t v) (has _ home h₁) (subst (λ (q : ℕ). Has lock′ q x) (sym (way t v .1)) (has _ above h₂))
-    go (ok7 s k u) = ok7 s k (known (sleeping s) u)
+    go (ok7 s k u) = ok7 s k (known (sleeps s) u)
     go (ok8 s e) = ok8 s e
 
 -- ---- a sleeper's reason
@@ -100,8 +100,8 @@ module _ (l l′ : Land) (a : Agent) (k : Kind (kindOf a)) (m : Calm l l′ a) w
 
 -- an agent before and after sleepers are woken: those that stay asleep remember a place that is quiet
 pub data Roused (quiet : ℕ → Type 0) (a : Agent) : Agent → Type 0 where
-  woken : a .stage ≡ 7 → Roused quiet a (atStage a 0 0 0)
-  unchanged : (a .stage ≡ 7 → quiet (a .remembered)) → Roused quiet a a
+  woken : a .stage ≡ asleep → Roused quiet a (atStage a looking 0 0)
+  unchanged : (a .stage ≡ asleep → quiet (a .remembered)) → Roused quiet a a
 
 module _ {quiet : ℕ → Type 0} {a : Agent} where
   -- it keeps home and actions, and is as it was or at stage 0

@@ -4,7 +4,7 @@ use mathlib.Core.List.{[]}
 use mathlib.Core.Bool.{true, false}
 use Prim.Native.Nat.{ℕ, _≤_, _<_}
 use lib.ListN.{length}
-use Rattle.table.specs.Cell.{State, none, noPlace, freshAgent, kindOf, unused}
+use Rattle.table.specs.Cell.{State, none, noPlace, freshAgent, kindOf, unused, looking, done}
 use Rattle.table.specs.Bounds.{Bounded}
 use Rattle.table.specs.declared.Agent.{Agent}
 use Rattle.demands.specs.Invariant.{Places, Fit}
@@ -12,8 +12,8 @@ use Rattle.demands.specs.Facts.{Whole}
 
 -- "an agent loaded without actions is at 8, one loaded with some at 0"
 pub data Starts (a : Agent) : Type 0 where
-  looks : a .stage ≡ 0 → 1 ≤ kindOf a → Starts a
-  done : a .stage ≡ 8 → unused a ≡ [] → Starts a
+  looks : a .stage ≡ looking → 1 ≤ kindOf a → Starts a
+  without : a .stage ≡ done → unused a ≡ [] → Starts a
 
 -- an agent as it is loaded: none of its actions is used up, and it remembers nothing
 pub record New (a : Agent) : Type 0 where

@@ -10,7 +10,7 @@ use lib.Dec.{eqb}
 use borrow.Author.Tests.{eqb-false, ne-eqb, not-true}
 use Rattle.table.specs.Base.{upd, anyBelow, iter}
 use Rattle.table.specs.BaseLaws.{Told, yea, nay, told, clash, eq?, and-left, and-right, upd-same, any-at, any-found}
-use Rattle.table.specs.Cell.{Land, State, none, linked, linkedTo, kindOf, exitKind, openKind}
+use Rattle.table.specs.Cell.{Land, State, none, linked, linkedTo, kindOf, exitKind, openKind, holding, onWayOwn, onWayBoth, asleep}
 use Rattle.table.specs.Sound.{secondPlace}
 use Rattle.table.specs.declared.Agent.{Agent}
 use Rattle.meaning.specs.Update.{useUp}
@@ -32,22 +32,29 @@ use Rattle.demands.specs.StepWays.{kind-given, step-way}
 pub record Goes (c : State) : Type 0 where
   pub who : ℕ
   pub given : c .given who ≡ true
-  pub awake : c .agent who .stage ≤ 6
+  pub awake : c .agent who .stage ≤ onWayBoth
   pub changes : (w : ℕ) → step c who w .cell .agent who .stage ≢ c .agent who .stage
 
--- the lock of q is the next that an agent at this stage needs
+-- the lock of q is the next that an agent at this stage needs; the names of the stages stand above the clauses
 abbrev pub Needs : Land → Agent → ℕ → ℕ → Type 0
+-- looking
 Needs l a q zero = ⊥
+-- found
 Needs l a q (suc zero) = q ≡ a .remembered
+-- holding
 Needs l a q (suc (suc zero)) = Under l q (a .remembered)
+-- holdingBoth
 Needs l a q (suc (suc (suc zero))) = ⊥
+-- onWay
 Needs l a q (suc (suc (suc (suc zero)))) = q ≡ a .home
+-- onWayOwn
 Needs l a q (suc (suc (suc (suc (suc zero))))) = q ≡ parentIn l (a .home)
+-- onWayBoth, asleep, done
 Needs l a q (suc (suc (suc (suc (suc (suc n)))))) = ⊥
 
 -- a step that changes nothing: the agent is at rest, or a lock that it needs is held
 pub data Waits (c : State) (x : ℕ) : Type 0 where
-  rests : 7 ≤ c .agent x .stage → Waits c x
+  rests : asleep ≤ c .agent x .stage → Waits c x
   waits : (q n : ℕ) → c .agent x .stage ≡ n → Needs (c .land) (c .agent x) q n → c .lock q ≢ none → Waits c x
 
 module _ (c : State) (i : Sound c) (x : ℕ) (g : c .given x ≡ true) where
@@ -114,11 +121,11 @@ module _ (c : State) (i : Sound c) where
   sixth : (x : ℕ) → c .given x ≡ true → c .agent x .stage ≡ 6 → Goes c
   sixth x g s = free-to c i x g 6 s (omega arith) (λ r z. absurd z)
 
-  -- the holder of the lock of q: its step changes the cell, or it is at stage 2 or 5
+  -- the holder of the lock of q: its step changes the cell, or it needs a second lock
   data Holder (q : ℕ) : Type 0 where
     goes : Goes c → Holder q
-    at-two : (y : ℕ) → c .given y ≡ true → c .agent y .stage ≡ 2 → q ≡ c .agent y .remembered → Holder q
-    at-five : (y : ℕ) → c .given y ≡ true → c .agent y .stage ≡ 5 → q ≡ c .agent y .home → Holder q
+    at-two : (y : ℕ) → c .given y ≡ true → c .agent y .stage ≡ holding → q ≡ c .agent y .remembered → Holder q
+    at-five : (y : ℕ) → c .given y ≡ true → c .agent y .stage ≡ onWayOwn → q ≡ c .agent y .home → Holder q
 
   holder : (q : ℕ) → c .land .used q ≡ true → c .lock q ≢ none → Holder q
   holder q u n = go (i .locks q u)
@@ -158,7 +165,7 @@ module _ (c : State) (i : Sound c) where
 
   -- an agent at stage 2 that holds a deeper place leads to one that goes
   abbrev Deeper : ℕ → Type 0
-  Deeper k = (y : ℕ) → c .given y ≡ true → c .agent y .stage ≡ 2 → Deep (suc k) (c .agent y .remembered) → Goes c
+  Deeper k = (y : ℕ) → c .given y ≡ true → c .agent y .stage ≡ holding → Deep (suc k) (c .agent y .remembered) → Goes c
 
   down : (n k : ℕ) → k + n ≡ 64 → (x : ℕ) → c .given x ≡ true → c .agent x .stage ≡ 2 → Deep k (c .agent x .remembered) → Goes c
   unfolding lockedUnder
@@ -199,7 +206,7 @@ module _ (c : State) (i : Sound c) where
 
   -- an agent at stage 5 of place q leads to one that goes
   abbrev Higher : ℕ → Type 0
-  Higher q = (y : ℕ) → c .given y ≡ true → q ≡ c .agent y .home → c .agent y .stage ≡ 5 → Goes c
+  Higher q = (y : ℕ) → c .given y ≡ true → q ≡ c .agent y .home → c .agent y .stage ≡ onWayOwn → Goes c
 
   climb : {q : ℕ} → Up (parentIn (c .land)) q → Higher q
   climb base x g e s = absurd (ok-at 5 s (ok-given c i x g) .0 .placed (sym e))

@@ -31,7 +31,7 @@ use Rattle.demands.specs.ReadingLaws.{readUsed, readParent, readName, re
 use Rattle.demands.specs.Invariant.{Places, Fit}
 use Rattle.demands.specs.Actions.{kind-some, unused-none}
 use Rattle.demands.specs.SoundTestActions.{InRange, fit-at, fit-from, fit-empty}
-use Rattle.demands.specs.Fresh.{looks, done, New, Fresh}
+use Rattle.demands.specs.Fresh.{looks, without, New, Fresh}
 
 -- ---- one number more in a set
 
@@ -49,7 +49,7 @@ or-upd g n = fun-ext λ j. go (eqb j n) (g j)
 new-agent : (home : ℕ) → New (withHome freshAgent home)
 new-agent home = record {
   fit = fit-empty (withHome freshAgent home) refl refl;
-  starts = done refl (unused-none (withHome freshAgent home) refl);
+  starts = without refl (unused-none (withHome freshAgent home) refl);
   next = refl;
   row = refl;
   remembered = refl;

@@ -18,7 +18,7 @@ use Rattle.demands.specs.Invariant.{Fit, Ok, ok0, ok8, free, Sound, Inv}
 use Rattle.demands.specs.Facts.{below-64, settled-of}
 use Rattle.demands.specs.Stages.{not-between}
 use Rattle.demands.specs.Actions.{unused-none}
-use Rattle.demands.specs.Fresh.{Starts, looks, done, Fresh}
+use Rattle.demands.specs.Fresh.{Starts, looks, without, Fresh}
 use Rattle.demands.specs.Given.{agent-all}
 use Rattle.demands.specs.SoundTestActions.{fit-empty}
 use Rattle.demands.specs.SoundTest.{sound-true, leads-all}
@@ -29,7 +29,7 @@ use Rattle.demands.specs.Loading.{accepted-fresh}
 module _ (c : State) (f : Fresh c) where
   -- every agent is at the start of its row or done
   pub fresh-starts : (x : ℕ) → Starts (agentIn c x)
-  fresh-starts = agent-all c (λ _ a. Starts a) (λ x g. f .agents x g .starts) (λ x. done refl (unused-none freshAgent refl))
+  fresh-starts = agent-all c (λ _ a. Starts a) (λ x g. f .agents x g .starts) (λ x. without refl (unused-none freshAgent refl))
 
   -- so none is on its way, and none sleeps
   pub fresh-stage : (x : ℕ) → (agentIn c x .stage ≡ 0) ⊎ (agentIn c x .stage ≡ 8)
@@ -37,14 +37,14 @@ module _ (c : State) (f : Fresh c) where
     where
       go : Starts (agentIn c x) → (agentIn c x .stage ≡ 0) ⊎ (agentIn c x .stage ≡ 8)
       go (looks s k) = inl s
-      go (done s e) = inr s
+      go (without s e) = inr s
 
   fresh-ok : (x : ℕ) → Ok (c .land) (c .lock) x (agentIn c x)
   fresh-ok x = go (fresh-starts x)
     where
       go : Starts (agentIn c x) → Ok (c .land) (c .lock) x (agentIn c x)
       go (looks s k) = ok0 s k
-      go (done s e) = ok8 s e
+      go (without s e) = ok8 s e
 
   fresh-sound : Sound c
   fresh-sound = record {

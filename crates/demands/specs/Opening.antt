@@ -20,7 +20,7 @@ use Rattle.demands.specs.Facts.{not-yes, link-used, Comes, awaited-yes, 
 use Rattle.demands.specs.Actions.{kind-of, has-some, unused-none, fit-stage, fit-used}
 use Rattle.demands.specs.Stages.{ok-at, rest-ok, rest-stage, not-between, SameOrReset, same-between, ok-given, fit-given}
 use Rattle.demands.specs.Unused.{opened-untouched}
-use Rattle.demands.specs.Frame.{Recalls, found, sleeping, holding, ok-frame, Calm, sleeper-frame}
+use Rattle.demands.specs.Frame.{Recalls, finds, sleeps, holds, ok-frame, Calm, sleeper-frame}
 use Rattle.demands.specs.Change.{Keeps}
 use Rattle.demands.specs.Given.{agent-fresh}
 use Rattle.demands.specs.OpeningAgents.{Dissolved, moves, moves-done, forgets, wakes, goes-on, sleeps-on, dissolved, dissolved-reset}
@@ -100,9 +100,9 @@ module _ (c : State) (i : Sound c) (x : ℕ) (g : c .given x ≡ true) (s : c .a
   ok-other {y} n (goes-on h s m) = ok-kept n h go
     where
       go : Recalls (c .lock) y (agentIn c y) → agentIn c y .remembered ≢ t
-      go (found e) = m e
-      go (sleeping e) = absurd (s e)
-      go (holding _ _ l) = others i o n l .1
+      go (finds e) = m e
+      go (sleeps e) = absurd (s e)
+      go (holds _ _ l) = others i o n l .1
   ok-other {y} n (sleeps-on h s m₁ m₂) = ok-kept n h (λ _. m₂)
 
   -- it lives in a place in use

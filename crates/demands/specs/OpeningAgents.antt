@@ -7,7 +7,7 @@ use mathlib.Core.Bool.{_&&_, cond}
 use lib.Dec.{eqb}
 use borrow.Author.Tests.{eqb-true, eqb-false, eq-eqb}
 use Rattle.table.specs.BaseLaws.{Told, yea, nay, told, clash, and-left, and-right}
-use Rattle.table.specs.Cell.{unused}
+use Rattle.table.specs.Cell.{unused, looking, found, asleep, done}
 use Rattle.table.specs.declared.Agent.{Agent}
 use Rattle.meaning.specs.Update.{atStage, withHome}
 use Rattle.meaning.specs.Step.{asleepOn, dissolveAgent}
@@ -17,16 +17,16 @@ use Rattle.demands.specs.Actions.{fit-stage}
 
 -- agent a before, and the agent it becomes
 pub data Dissolved (p t : ℕ) (a : Agent) : Agent → Type 0 where
-  -- it lived in t: it goes to p, and to stage 0 unless it is done
-  moves : a .home ≡ t → a .stage ≢ 8 → Dissolved p t a (withHome (atStage a 0 0 0) p)
-  moves-done : a .home ≡ t → a .stage ≡ 8 → Dissolved p t a (withHome (atStage a 8 0 0) p)
+  -- it lived in t: it goes to p, and looks unless it is done
+  moves : a .home ≡ t → a .stage ≢ done → Dissolved p t a (withHome (atStage a looking 0 0) p)
+  moves-done : a .home ≡ t → a .stage ≡ done → Dissolved p t a (withHome (atStage a done 0 0) p)
   -- it had found t
-  forgets : a .home ≢ t → a .stage ≡ 1 → a .remembered ≡ t → Dissolved p t a (atStage a 0 0 0)
+  forgets : a .home ≢ t → a .stage ≡ found → a .remembered ≡ t → Dissolved p t a (atStage a looking 0 0)
   -- it slept on p or t
-  wakes : a .home ≢ t → a .stage ≡ 7 → (a .remembered ≡ p) ⊎ (a .remembered ≡ t) → Dissolved p t a (atStage a 0 0 0)
+  wakes : a .home ≢ t → a .stage ≡ asleep → (a .remembered ≡ p) ⊎ (a .remembered ≡ t) → Dissolved p t a (atStage a looking 0 0)
   -- else it is as it was
-  goes-on : a .home ≢ t → a .stage ≢ 7 → (a .stage ≡ 1 → a .remembered ≢ t) → Dissolved p t a a
-  sleeps-on : a .home ≢ t → a .stage ≡ 7 → a .remembered ≢ p → a .remembered ≢ t → Dissolved p t a a
+  goes-on : a .home ≢ t → a .stage ≢ asleep → (a .stage ≡ found → a .remembered ≢ t) → Dissolved p t a a
+  sleeps-on : a .home ≢ t → a .stage ≡ asleep → a .remembered ≢ p → a .remembered ≢ t → Dissolved p t a a
 
 -- every agent goes one of these ways
 pub dissolved : (p t : ℕ) (a : Agent) → Dissolved p t a (dissolveAgent p t a)
@@ -37,18 +37,18 @@ dissolved p t a = go (told (eqb (a .home) t))
     in-it h (yea e) = rw e (moves-done h (eqb-true _ _ e))
     in-it h (nay e) = rw e (moves h (eqb-false _ _ e))
 
-    asleep : a .home ≢ t → (a .stage ≡ 1 → a .remembered ≢ t) → Told (eqb (a .stage) 7) → Told (eqb (a .remembered) p) → Told (eqb (a .remembered) t)
+    sleeping : a .home ≢ t → (a .stage ≡ 1 → a .remembered ≢ t) → Told (eqb (a .stage) 7) → Told (eqb (a .remembered) p) → Told (eqb (a .remembered) t)
         → Dissolved p t a (cond (asleepOn p t t a) (atStage a 0 0 0) a)
-    asleep h m (yea e) (yea f) _ = rw (e, f) (wakes h (eqb-true _ _ e) (inl (eqb-true _ _ f)))
-    asleep h m (yea e) (nay f) (yea k) = rw (e, f, k) (wakes h (eqb-true _ _ e) (inr (eqb-true _ _ k)))
-    asleep h m (yea e) (nay f) (nay k) = rw (e, f, k) (sleeps-on h (eqb-true _ _ e) (eqb-false _ _ f) (eqb-false _ _ k))
-    asleep h m (nay e) _ _ = rw e (goes-on h (eqb-false _ _ e) m)
+    sleeping h m (yea e) (yea f) _ = rw (e, f) (wakes h (eqb-true _ _ e) (inl (eqb-true _ _ f)))
+    sleeping h m (yea e) (nay f) (yea k) = rw (e, f, k) (wakes h (eqb-true _ _ e) (inr (eqb-true _ _ k)))
+    sleeping h m (yea e) (nay f) (nay k) = rw (e, f, k) (sleeps-on h (eqb-true _ _ e) (eqb-false _ _ f) (eqb-false _ _ k))
+    sleeping h m (nay e) _ _ = rw e (goes-on h (eqb-false _ _ e) m)
 
     out : a .home ≢ t → Told (eqb (a .stage) 1 && eqb (a .remembered) t)
         → Dissolved p t a (cond (eqb (a .stage) 1 && eqb (a .remembered) t) (atStage a 0 0 0) (cond (asleepOn p t t a) (atStage a 0 0 0) a))
     out h (yea e) = rw e (forgets h (eqb-true _ _ (and-left (eqb (a .stage) 1) (eqb (a .remembered) t) e))
         (eqb-true _ _ (and-right (eqb (a .stage) 1) (eqb (a .remembered) t) e)))
-    out h (nay e) = rw e (asleep h (λ s m. clash (rw (eq-eqb (a .stage) 1 s, eq-eqb (a .remembered) t m)) e)
+    out h (nay e) = rw e (sleeping h (λ s m. clash (rw (eq-eqb (a .stage) 1 s, eq-eqb (a .remembered) t m)) e)
         (told (eqb (a .stage) 7)) (told (eqb (a .remembered) p)) (told (eqb (a .remembered) t)))
 
     go : Told (eqb (a .home) t) → Dissolved p t a (dissolveAgent p t a)

@@ -8,7 +8,7 @@ use lib.Dec.{eqb}
 use borrow.Author.Tests.{eqb-true, ne-eqb}
 use Rattle.table.specs.Base.{upd}
 use Rattle.table.specs.BaseLaws.{Told, yea, nay, told, and-right, upd-same, upd-other, upd-all}
-use Rattle.table.specs.Cell.{Land, State, noPlace, freshAgent, linked, travels}
+use Rattle.table.specs.Cell.{Land, State, noPlace, freshAgent, linked, travels, looking}
 use Rattle.table.specs.declared.Place.{Place}
 use Rattle.table.specs.declared.Agent.{Agent}
 use Rattle.meaning.specs.Update.{withParent, atStage, withAgent}
@@ -157,7 +157,7 @@ agent-turned c x a g = fun-ext (agents-changed c (λ b. b) (c .agent) x a g refl
 
 -- an agent once all asleep on p, q or r are woken
 unfoldable pub wakeAgent : ℕ → ℕ → ℕ → Agent → Agent
-wakeAgent p q r a = cond (asleepOn p q r a) (atStage a 0 0 0) a
+wakeAgent p q r a = cond (asleepOn p q r a) (atStage a looking 0 0) a
 
 -- sleepers are woken and one agent changes
 pub agent-woken : (c : State) (p q r x : ℕ) (a : Agent) → c .given x ≡ true

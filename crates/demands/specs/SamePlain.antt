@@ -7,16 +7,16 @@ use Prim.Native.Nat.{ℕ}
 use lib.Dec.{eqb}
 use borrow.Author.Tests.{eqb-true}
 use Rattle.table.specs.BaseLaws.{Told, yea, nay, told, clash}
-use Rattle.table.specs.Cell.{State, linked, travels, kindOf, exitKind}
+use Rattle.table.specs.Cell.{State, linked, travels, kindOf, exitKind, holdingBoth}
 use Rattle.table.specs.declared.Agent.{Agent}
 use Rattle.meaning.specs.Plain.{Plain, treeOf, landIn}
 use Rattle.demands.specs.Reading.{agentIn}
 use Rattle.demands.specs.Invariant.{Places}
 use Rattle.demands.specs.SamePlaces.{Alike}
 
--- an agent at stage 3 of enter or open has its chosen place as its pick
+-- an agent that holds both places of an enter or open has its chosen place as its pick
 abbrev pub Picked : (ℕ → ℕ) → ℕ → Agent → Type 0
-Picked pick x a = a .stage ≡ 3 → kindOf a ≢ exitKind → pick x ≡ a .chosen
+Picked pick x a = a .stage ≡ holdingBoth → kindOf a ≢ exitKind → pick x ≡ a .chosen
 
 -- the plain tree has the cell's tree, the same places travel, and agents holding both places have their chosen place as their pick
 pub record Same (c : State) (t : Plain) : Type 0 where

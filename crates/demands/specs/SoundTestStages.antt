@@ -8,7 +8,7 @@ use native.Mathlib.Omega.{arith}
 use lib.Dec.{ltb, leb, eqb}
 use borrow.Author.Tests.{eqb-true, eq-eqb, ltb-false, le-ltb, leb-true, le-leb, lt-leb}
 use Rattle.table.specs.BaseLaws.{Told, yea, nay, told}
-use Rattle.table.specs.Cell.{Land, State, none, kindOf}
+use Rattle.table.specs.Cell.{Land, State, none, kindOf, holding, holdingBoth, onWayOwn, onWayBoth}
 use Rattle.table.specs.Sound.{firstHeld, secondPlace, secondHeld, secondHeldIn, standsIn, goingFrom}
 use Rattle.table.specs.declared.Agent.{Agent}
 use Rattle.demands.specs.Reading.{parentIn}
@@ -31,10 +31,10 @@ module _ (a : Agent) where
 
   -- the place taken first, and second, at stage n
   abbrev pub firstAt : ℕ → ℕ
-  firstAt n = cond (ltb n 2) none (cond (leb n 3) (a .remembered) (cond (ltb n 5) none (cond (leb n 6) (a .home) none)))
+  firstAt n = cond (ltb n holding) none (cond (leb n holdingBoth) (a .remembered) (cond (ltb n onWayOwn) none (cond (leb n onWayBoth) (a .home) none)))
 
   abbrev pub secondAt : ℕ → ℕ → ℕ
-  secondAt d n = cond (eqb n 3) (secondPlace (kindOf a) (a .home) (a .chosen)) (cond (eqb n 6) d none)
+  secondAt d n = cond (eqb n holdingBoth) (secondPlace (kindOf a) (a .home) (a .chosen)) (cond (eqb n onWayBoth) d none)
 
   -- they are what the test reads
   pub first-at : (n : ℕ) → a .stage ≡ n → firstHeld a ≡ firstAt n

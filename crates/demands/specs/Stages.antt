@@ -7,7 +7,7 @@ use mathlib.Core.Bool.{true}
 use Prim.Native.Nat.{ℕ, zero, suc, _≤_}
 use native.Mathlib.Omega.{arith}
 use Rattle.table.specs.BaseLaws.{Told, yea, nay, told, eq?, upd-at, upd-other}
-use Rattle.table.specs.Cell.{Land, State, none, hasAction, nextAction, kindOf, unused, enterKind, exitKind, openKind}
+use Rattle.table.specs.Cell.{Land, State, none, hasAction, nextAction, kindOf, unused, enterKind, exitKind, openKind, looking, done}
 use Rattle.table.specs.Sound.{secondPlace}
 use Rattle.table.specs.declared.Agent.{Agent}
 use Rattle.meaning.specs.Update.{atStage, released}
@@ -36,16 +36,25 @@ pub record BothOpen (l : Land) (lock : ℕ → ℕ) (x : ℕ) (a : Agent) : Type
   pub own : Has lock (a .chosen) x
   pub under : Under l (a .chosen) (a .remembered)
 
--- what Ok says at each stage
+-- what Ok says at each stage; only constructors are matched, so the names stand above the clauses
 abbrev pub OkAt : ℕ → Land → (ℕ → ℕ) → ℕ → Agent → Type 0
+-- looking
 OkAt zero l lock x a = 1 ≤ kindOf a
+-- found
 OkAt (suc zero) l lock x a = Ready l a
+-- holding
 OkAt (suc (suc zero)) l lock x a = Ready l a × Has lock (a .remembered) x
+-- holdingBoth
 OkAt (suc (suc (suc zero))) l lock x a = Ready l a × Has lock (a .remembered) x × (BothMove l lock x a ⊎ BothOpen l lock x a)
+-- onWay
 OkAt (suc (suc (suc (suc zero)))) l lock x a = Away l a
+-- onWayOwn
 OkAt (suc (suc (suc (suc (suc zero))))) l lock x a = Away l a × Has lock (a .home) x
+-- onWayBoth
 OkAt (suc (suc (suc (suc (suc (suc zero)))))) l lock x a = Away l a × Has lock (a .home) x × Has lock (parentIn l (a .home)) x
+-- asleep
 OkAt (suc (suc (suc (suc (suc (suc (suc zero))))))) l lock x a = (1 ≤ kindOf a) × (l .used (a .remembered) ≡ true)
+-- done
 OkAt (suc (suc (suc (suc (suc (suc (suc (suc n)))))))) l lock x a = unused a ≡ []
 
 module _ {l : Land} {lock : ℕ → ℕ} {x : ℕ} {a : Agent} where
@@ -107,9 +116,9 @@ pub not-between : {s : ℕ} → (s ≡ 0) ⊎ (s ≡ 8) → 1 ≤ s → s ≤ 7 
 not-between (inl e) lo hi = omega arith
 not-between (inr e) lo hi = omega arith
 
--- what another agent's step leaves of agent a: it is b, which is a, or at stage 0 or 8
+-- what another agent's step leaves of agent a: it is b, which is a, or looks or is done
 abbrev pub SameOrReset : Agent → Agent → Type 0
-SameOrReset a b = (b ≡ a) ⊎ ((b .stage ≡ 0) ⊎ (b .stage ≡ 8))
+SameOrReset a b = (b ≡ a) ⊎ ((b .stage ≡ looking) ⊎ (b .stage ≡ done))
 
 -- so at stages 1 to 7 it is as it was
 pub same-between : {a b : Agent} → SameOrReset a b → 1 ≤ b .stage → b .stage ≤ 7 → b ≡ a

@@ -7,7 +7,7 @@ use mathlib.Core.Bool.{true, false}
 use Prim.Native.Nat.{ℕ, _≤_}
 use native.Mathlib.Omega.{arith}
 use Rattle.table.specs.BaseLaws.{clash}
-use Rattle.table.specs.Cell.{Land, State, none, travels}
+use Rattle.table.specs.Cell.{Land, State, none, travels, found, asleep}
 use Rattle.table.specs.declared.Agent.{Agent}
 use Rattle.meaning.specs.Step.{restStage}
 use Rattle.meaning.specs.Run.{settled}
@@ -19,7 +19,7 @@ use Rattle.demands.specs.Permitted.{none-whole}
 
 -- a stage of an agent that holds nothing and is not on its way: looking, found, asleep or done
 abbrev pub Low : ℕ → Type 0
-Low s = (s ≤ 1) ⊎ (7 ≤ s)
+Low s = (s ≤ found) ⊎ (asleep ≤ s)
 
 -- such a stage is none of 2 to 6
 pub low-not : {s : ℕ} → Low s → 2 ≤ s → s ≤ 6 → ⊥
