@@ -7,13 +7,13 @@ use Prim.Native.Nat.{ℕ}
 use Prim.Native.String.{String}
 use lib.Dec.{eqb}
 use Rattle.sets.specs.Word.{has, wordOf, countOf, lowestOf}
-use Rattle.table.specs.Base.{upd, tab, foldUp, allBelow, anyBelow, countBelow, iter}
+use Rattle.table.specs.Base.{upd, tab, foldUp, allBelow, anyBelow, countBelow, sumBelow, iter}
 use Rattle.table.specs.Cell.{cellOf, tableOf, bareTable, linked, linkedTo, travels, nextAction}
 use Rattle.table.specs.Idle.{idle}
 use Rattle.table.specs.Sound.{actionsFit, ready, holdsBoth, stageFits, firstHeld, secondHeld, lockIs, claims, agentFits, goingFrom, goes, placeFits}
-use Rattle.table.specs.Sound.{coreSound, sound}
-use Rattle.meaning.specs.File.{placeRecord, agentRecord, actionRecord, recordAt, addPlace, addAgent, withAction, addAction, loadRecord}
-use Rattle.meaning.specs.File.{loadFrom, load, loaded, loadOf}
+use Rattle.table.specs.Sound.{coreSound, touchSum, sound}
+use Rattle.meaning.specs.File.{placeRecord, agentRecord, actionRecord, touchRecord, recordAt, addPlace, addAgent, withAction, addAction, giveTouches}
+use Rattle.meaning.specs.File.{loadRecord, loadFrom, load, loaded, loadOf}
 use Rattle.meaning.specs.Step.{onWayTo, awaited, entersAt, exitsFrom, opensAt, qualifies, chosenOf, choose, fires, stays, still, turn, take, release}
 use Rattle.meaning.specs.Step.{asleepOn, wake, look, lockFirst, lockSecond, hold, leave, dissolveAgent, wokenBy, dissolveLock, dissolve, act}
 use Rattle.meaning.specs.Step.{arrive, travel, stepAt, step}
@@ -58,8 +58,8 @@ allSame (r ∷ rest) = same (report (r .cell) (r .order)) (textOf (r .lines)) &&
 pub bench : allSame rows ≡ true
 unfolding allSame rows paperRows slipRows fileRows stepRows listingRows textOf file manyOpens calls same has wordOf countOf lowestOf
     chosenOf upd tab foldUp allBelow anyBelow countBelow iter cellOf tableOf bareTable linked linkedTo travels nextAction actionsFit ready
-    holdsBoth stageFits firstHeld secondHeld lockIs claims agentFits goingFrom goes placeFits coreSound sound placeRecord agentRecord actionRecord
-    recordAt addPlace addAgent withAction addAction loadRecord loadFrom load onWayTo awaited entersAt exitsFrom opensAt qualifies choose
+    holdsBoth stageFits firstHeld secondHeld lockIs claims agentFits goingFrom goes placeFits coreSound sumBelow touchSum sound placeRecord agentRecord actionRecord touchRecord
+    recordAt addPlace addAgent withAction addAction giveTouches loadRecord loadFrom load onWayTo awaited entersAt exitsFrom opensAt qualifies choose
     fires stays still turn take release asleepOn wake look lockFirst lockSecond hold leave dissolveAgent wokenBy dissolveLock dissolve act
     arrive travel stepAt step made turnedAway stepOf digits gap kindText actionText agentText listsIn agentsText standsUnder bracketed
     contentsText listing wordText stepLine refusedLine listingLine callsIn reportRun reportOf report
@@ -76,7 +76,7 @@ pub numbers : allMeant (soundRows ++ (callRows ++ afterRows)) ≡ true
 unfolding allMeant soundRows callRows afterRows sample topmost checkOf idleOf idle loadOf loaded listAnswer listBuffer overlay settled rests file manyOpens
     calls same has wordOf countOf lowestOf chosenOf upd tab foldUp allBelow anyBelow countBelow iter cellOf tableOf bareTable linked
     linkedTo travels nextAction actionsFit ready holdsBoth stageFits firstHeld secondHeld lockIs claims agentFits goingFrom goes placeFits
-    coreSound sound placeRecord agentRecord actionRecord recordAt addPlace addAgent withAction addAction loadRecord loadFrom load onWayTo awaited
+    coreSound sumBelow touchSum sound placeRecord agentRecord actionRecord touchRecord recordAt addPlace addAgent withAction addAction giveTouches loadRecord loadFrom load onWayTo awaited
     entersAt exitsFrom opensAt qualifies choose fires stays still turn take release asleepOn wake look lockFirst lockSecond hold leave
     dissolveAgent wokenBy dissolveLock dissolve act arrive travel stepAt step made turnedAway stepOf digits gap kindText actionText
     agentText listsIn agentsText standsUnder bracketed contentsText listing wordText stepLine refusedLine listingLine callsIn reportRun

@@ -7,7 +7,7 @@ fileRows =
     -- "2 unknown kind, not 1 to 4"
     row (hex "00 04") [] ("refused 2 0" ∷ [])
     -- also where it is the last byte: 2 before 1
-    ∷ row (hex "05") [] ("refused 2 0" ∷ [])
+    ∷ row (hex "06") [] ("refused 2 0" ∷ [])
     -- "1 cut short: a body incomplete", at the record, whatever its bytes say: 1 before 3
     ∷ row (hex "01 40") [] ("refused 1 0" ∷ [])
     -- "the byte offset of the record": an agent cut after a place

@@ -2,6 +2,7 @@ pub mod Refusals
 pub mod Update
 pub mod File
 pub mod Step
+pub mod Touch
 pub mod Run
 pub mod Calculus
 pub mod Plain
