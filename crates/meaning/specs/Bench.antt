@@ -17,7 +17,8 @@ use Rattle.meaning.specs.File.{loadRecord, loadFrom, load, loaded, loadO
 use Rattle.meaning.specs.Step.{onWayTo, awaited, entersAt, exitsFrom, opensAt, qualifies, chosenOf, choose, fires, stays, still, turn, take, release}
 use Rattle.meaning.specs.Step.{asleepOn, wake, look, lockFirst, lockSecond, hold, leave, dissolveAgent, wokenBy, dissolveLock, dissolve, act}
 use Rattle.meaning.specs.Step.{arrive, travel, stepAt, step}
-use Rattle.meaning.specs.Run.{made, turnedAway, stepOf, settled, rests}
+use Rattle.meaning.specs.Touch.{counted, untouched, touchOf, touchesOf}
+use Rattle.meaning.specs.Run.{made, turnedAway, stepOf, callOf, run, settled, rests}
 use Rattle.meaning.specs.Text.{ascii, digits, gap, overlay}
 use Rattle.meaning.specs.Listing.{kindText, actionText, agentText, listsIn, agentsText, standsUnder, bracketed, contentsText, listing}
 use Rattle.meaning.specs.Listing.{listAnswer, listBuffer}
@@ -32,6 +33,7 @@ use Rattle.meaning.specs.BenchTables.{Computed, sample, topmost}
 use Rattle.meaning.specs.BenchSound.{soundRows}
 use Rattle.meaning.specs.BenchCalls.{callRows}
 use Rattle.meaning.specs.BenchAfter.{afterRows}
+use Rattle.meaning.specs.BenchTouch.{crib, touchRows}
 
 pub rows : List Row
 rows = paperRows ++ (slipRows ++ (fileRows ++ (stepRows ++ listingRows)))
@@ -71,9 +73,9 @@ unfolding same
 allMeant [] = true
 allMeant (r ∷ rest) = same (r .value) (r .meant) && allMeant rest
 
--- what walk cannot show: soundness clause by clause, the calls and answers of a host, and the table after each kind of step
-pub numbers : allMeant (soundRows ++ (callRows ++ afterRows)) ≡ true
-unfolding allMeant soundRows callRows afterRows sample topmost checkOf idleOf idle loadOf loaded listAnswer listBuffer overlay settled rests file manyOpens
+-- what walk cannot show: soundness clause by clause, the calls and answers of a host, the table after each kind of step, and touches
+pub numbers : allMeant (soundRows ++ (callRows ++ (afterRows ++ touchRows))) ≡ true
+unfolding allMeant soundRows callRows afterRows touchRows crib counted untouched touchOf touchesOf callOf run sample topmost checkOf idleOf idle loadOf loaded listAnswer listBuffer overlay settled rests file manyOpens
     calls same has wordOf countOf lowestOf chosenOf upd tab foldUp allBelow anyBelow countBelow iter cellOf tableOf bareTable linked
     linkedTo travels nextAction actionsFit ready holdsBoth stageFits firstHeld secondHeld lockIs claims agentFits goingFrom goes placeFits
     coreSound sumBelow touchSum sound placeRecord agentRecord actionRecord touchRecord recordAt addPlace addAgent withAction addAction giveTouches loadRecord loadFrom load onWayTo awaited

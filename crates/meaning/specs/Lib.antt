@@ -20,6 +20,7 @@ pub mod BenchTables
 pub mod BenchSound
 pub mod BenchCalls
 pub mod BenchAfter
+pub mod BenchTouch
 pub mod Bench
 pub mod FileLaws
 pub mod OrderLaws
