@@ -1,5 +1,5 @@
 -- The cell file (document 01, "The cell file" and "Turned-away calls"): records, the order of checks, and the load of a whole file.
-use Prim.Native.Nat.{ℕ, zero, suc, _+_, _*_, _-_}
+use Prim.Native.Nat.{ℕ, zero, suc, _+_, _*_, _-_, _%_, _^_}
 use mathlib.Core.Bool.{Bool, false, _||_, cond}
 use mathlib.Core.List.{List, [], _∷_}
 use lib.Dec.{ltb, leb, eqb}
@@ -20,9 +20,9 @@ use Rattle.meaning.specs.Update.{linkedPlace, withHome, withStage, withC
 abbrev pub twoBytes : ℕ → ℕ → ℕ
 twoBytes low high = low + 256 * high
 
--- "four bytes, low byte first"
+-- "four bytes, low byte first": a number of 32 bits, whatever the four are; of bytes the modulo changes nothing (`four-bytes`)
 abbrev pub fourBytes : ℕ → ℕ → ℕ → ℕ → ℕ
-fourBytes lowest low high highest = twoBytes lowest low + 65536 * twoBytes high highest
+fourBytes lowest low high highest = (twoBytes lowest low + 65536 * twoBytes high highest) % 2 ^ 32
 
 abbrev pub byteAt : List ℕ → ℕ → ℕ
 byteAt s i = getD s i 0

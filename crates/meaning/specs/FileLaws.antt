@@ -4,7 +4,7 @@ use mathlib.Core.Path.{_≡_, refl, ap}
 use mathlib.Core.Logic.{_≢_}
 use mathlib.Core.Bool.{Bool, true, false, cond}
 use mathlib.Core.List.{List, [], _∷_}
-use Prim.Native.Nat.{ℕ, zero, suc, _+_, _-_, _<_, _≤_}
+use Prim.Native.Nat.{ℕ, zero, suc, _+_, _*_, _-_, _^_, _<_, _≤_}
 use native.Mathlib.Nat.{not-suc-le-zero}
 use native.Mathlib.Omega.{arith}
 use lib.Dec.{ltb, leb, eqb}
@@ -18,7 +18,17 @@ use Rattle.table.specs.CellLaws.{bounded, sized-bare}
 use Rattle.table.specs.declared.Cell.{Cell}
 use Rattle.meaning.specs.declared.Record.{Record}
 use Rattle.meaning.specs.declared.Record.the-variants.{PlaceRecord, AgentRecord, ActionRecord, EndRecord, TouchRecord, Faulty}
-use Rattle.meaning.specs.File.{byteAt, placeRecord, agentRecord, actionRecord, touchRecord, Known, recordAt, bareProgress, Load, accepted, refused, loadFrom, load, loaded, loadOf}
+use Rattle.meaning.specs.File.{twoBytes, fourBytes, byteAt, placeRecord, agentRecord, actionRecord, touchRecord, Known, recordAt, bareProgress, Load, accepted, refused, loadFrom, load, loaded, loadOf}
+
+-- ---- a four-byte number
+
+-- it has 32 bits
+four-few : (a b c d : ℕ) → fourBytes a b c d < 2 ^ 32
+four-few a b c d = omega arith
+
+-- of four bytes it is the number that they write
+pub four-bytes : (a b c d : ℕ) → a < 256 → b < 256 → c < 256 → d < 256 → fourBytes a b c d ≡ twoBytes a b + 65536 * twoBytes c d
+four-bytes a b c d la lb lc ld = omega arith
 
 -- ---- what a record that is not refused tells of its numbers
 
@@ -31,7 +41,7 @@ module _ (k : Known) where
     action : {number kind name : ℕ} → number < 64 → k .agents number ≡ true → k .full number ≡ false → 1 ≤ kind → kind ≤ lastKind → 1 ≤ name
         → Fits (ActionRecord number kind name)
     end : Fits EndRecord
-    touch : {place touches : ℕ} → place < 64 → k .counted place ≡ false → k .places place ≡ true → Fits (TouchRecord place touches)
+    touch : {place touches : ℕ} → place < 64 → k .counted place ≡ false → k .places place ≡ true → touches < 2 ^ 32 → Fits (TouchRecord place touches)
     faulty : {number : ℕ} → Fits (Faulty number)
 
   -- a test with a refusal in one arm
@@ -71,12 +81,12 @@ module _ (k : Known) where
       (λ room. action (leb-false 64 n low) known room (ltb-false kind 1 one) (ltb-false lastKind kind three) (ltb-false m 1 named))))))
       (λ e. faulty))
 
-  touch-fits : (place touches : ℕ) → Fits (touchRecord (k .counted place) (k .places place) place touches)
+  touch-fits : (place touches : ℕ) → touches < 2 ^ 32 → Fits (touchRecord (k .counted place) (k .places place) place touches)
   unfolding touchRecord
-  touch-fits q n =
+  touch-fits q n few =
       cond-fits (leb 64 q) _ _ (λ e. faulty) (λ low.
       cond-fits (k .counted q) _ _ (λ e. faulty) (λ new.
-      cond-fits (k .places q) _ _ (λ known. touch (leb-false 64 q low) new known) (λ e. faulty)))
+      cond-fits (k .places q) _ _ (λ known. touch (leb-false 64 q low) new known few) (λ e. faulty)))
 
   -- the record at an offset fits the cell so far, or is refused, or ends the file
   pub record-fits : (s : List ℕ) (at : ℕ) → Fits (recordAt k s at)
@@ -90,7 +100,7 @@ module _ (k : Known) where
       (λ e. action-fits (byteAt s (at + 1)) (byteAt s (at + 2)) _)) (λ e.
       cond-fits (eqb (byteAt s at) 4) _ _ (λ e. end) (λ e.
       cond-fits (eqb (byteAt s at) 5) _ _ (λ e. cond-fits (ltb (length s - at) 6) _ _ (λ e. faulty)
-      (λ e. touch-fits (byteAt s (at + 1)) _)) (λ e. faulty)))))
+      (λ e. touch-fits (byteAt s (at + 1)) _ (four-few _ _ _ _))) (λ e. faulty)))))
 
 -- ---- a record looks at numbers below 64 only
 
