@@ -19,12 +19,12 @@ use Rattle.meaning.specs.Refusals.{afterEnd}
 use Rattle.meaning.specs.declared.Record.{Record}
 use Rattle.meaning.specs.declared.Record.the-variants.{PlaceRecord, AgentRecord, ActionRecord, EndRecord, TouchRecord, Faulty}
 use Rattle.meaning.specs.Update.{withTouches}
-use Rattle.meaning.specs.File.{byteAt, placeRecord, agentRecord, actionRecord, touchRecord, Known, recordAt, addPlace, addAgent, addAction, giveTouches, isFull}
+use Rattle.meaning.specs.File.{byteAt, countAt, placeRecord, agentRecord, actionRecord, touchRecord, Known, recordAt, addPlace, addAgent, addAction, giveTouches, isFull}
 use Rattle.meaning.specs.File.{Progress, withCell, withCounted, knownIn, bareProgress, Load, accepted, refused, loadRecord, loadFrom, load}
 use Rattle.meaning.specs.FileLaws.{Fits, place, agent, action, end, touch, faulty, record-fits, bare-touches, load-either}
 use Rattle.demands.specs.Fresh.{Fresh}
 use Rattle.demands.specs.Touches.{touch-sum}
-use Rattle.demands.specs.TouchTotal.{touchesAtOffset, touchesFrom, touchesIn}
+use Rattle.demands.specs.TouchTotal.{touchesFrom, touchesIn}
 use Rattle.demands.specs.Loading.{bare-fresh, add-place, add-agent, add-action, give-touches}
 
 -- ---- the record at an offset, by its kind
@@ -35,7 +35,7 @@ module _ (s : List ℕ) (at : ℕ) where
     an-agent : {number home : ℕ} → byteAt s at ≡ 2 → Stands (AgentRecord number home)
     an-action : {agent kind name : ℕ} → byteAt s at ≡ 3 → Stands (ActionRecord agent kind name)
     the-end : byteAt s at ≡ 4 → Stands EndRecord
-    touches : {q : ℕ} → byteAt s at ≡ 5 → Stands (TouchRecord q (touchesAtOffset s at))
+    touches : {q : ℕ} → byteAt s at ≡ 5 → Stands (TouchRecord q (countAt s at))
     at-fault : {number : ℕ} → Stands (Faulty number)
 
   -- a test with such a record in each arm
@@ -64,7 +64,7 @@ module _ (s : List ℕ) (at : ℕ) where
   action-stands known full n k m e = unless (leb 64 n) _ _ (where-known known _ _ (unless (ltb k 1) _ _ (unless (ltb lastKind k) _ _
       (unless (ltb m 1) _ _ (unless full _ _ (an-action e))))))
 
-  touches-stand : (taken known : Bool) (q : ℕ) → byteAt s at ≡ 5 → Stands (touchRecord taken known q (touchesAtOffset s at))
+  touches-stand : (taken known : Bool) (q : ℕ) → byteAt s at ≡ 5 → Stands (touchRecord taken known q (countAt s at))
   unfolding touchRecord
   touches-stand taken known q e = unless (leb 64 q) _ _ (unless taken _ _ (where-known known _ _ (touches e)))
 
@@ -193,7 +193,7 @@ module _ (turns : ℕ) (s : List ℕ) (at : ℕ) where
   unfolding touchesFrom
   from-end e = rw e
 
-  from-touches : byteAt s at ≡ 5 → touchesFrom (suc turns) s at ≡ touchesAtOffset s at + touchesFrom turns s (at + 6)
+  from-touches : byteAt s at ≡ 5 → touchesFrom (suc turns) s at ≡ countAt s at + touchesFrom turns s (at + 6)
   unfolding touchesFrom
   from-touches e = rw e
 

@@ -1,5 +1,5 @@
 -- A call changes what its step says, and no more: of every table, every agent and wish, and over every list of calls.
--- Each way that a step can go leaves alone what is not in use, and only the one that opens makes a number unused.
+-- Each way that a step can go leaves alone what is not in use, and only the one that opens makes a number unused and moves touches.
 use mathlib.Core.Path.{_≡_, refl, sym, ap, _∙_, subst}
 use mathlib.Core.Bool.{true, cond}
 use mathlib.Core.List.{List, [], _∷_}
@@ -14,7 +14,8 @@ use Rattle.table.specs.declared.Cell.{Cell}
 use Rattle.meaning.specs.declared.Answer.the-variants.{Did}
 use Rattle.meaning.specs.Step.{Outcome, still, leave, dissolve, arrive, step}
 use Rattle.meaning.specs.Run.{Call, stepCall, touchCall, stepOf, made, turnedAway, callOf, run}
-use Rattle.demands.specs.NoMore.{Untouched, usedAfter, touchesAfter, NoMore}
+use Rattle.meaning.specs.Touch.{counted, untouched, touchOf}
+use Rattle.demands.specs.NoMore.{Untouched, usedAfter, touchesAfter, NoMore, OnlyTouches}
 use Rattle.demands.specs.Invariant.{Sound}
 use Rattle.demands.specs.Ways.{Way, is-done, is-asleep, held-first, held-second, held-own, held-destination, looks-up, looks-home}
 use Rattle.demands.specs.Ways.{sleeps-alone, takes-first, goes-back, sleeps-stuck, takes-second, gives-up, enters, exits, opens}
@@ -23,7 +24,7 @@ use Rattle.demands.specs.StepWays.{step-way}
 use Rattle.demands.specs.Unused.{untouched-none, untouched-more}
 use Rattle.demands.specs.OpeningLocks.{opener}
 use Rattle.demands.specs.OpeningTouches.{open-touches}
-use Rattle.demands.specs.Touching.{touched-untouched}
+use Rattle.demands.specs.Touching.{touch-only, touch-untouched, touched, touch-back}
 use Rattle.demands.specs.SoundTest.{sound-bounded}
 use Rattle.demands.specs.Always.{step-keeps, step-back, sized-called}
 
@@ -99,8 +100,8 @@ made-no-more : (t : Cell) → Sized t → Sound (cellOf t) → (x : ℕ) → cel
 made-no-more t z i x g wish = subst (λ (d : State). NoMore (cellOf t) x d (Did (step (cellOf t) x wish .word) (step (cellOf t) x wish .woken)))
     (sym (step-back t z i x g wish)) (step-no-more (cellOf t) i x g wish)
 
--- a call changes nothing that is not in use, and makes no number unused but that of the place that it opens; the table has the sizes of the
--- struct, as every value of it has
+-- a step call changes nothing that is not in use, makes no number unused but that of the place that it opens, and moves that one's touches to
+-- the opener's place and no others; the table has the sizes of the struct, as every value of it has
 pub no-more : (t : Cell) (x wish : ℕ) → Sized t → NoMore (cellOf t) x (cellOf (stepOf t x wish .cell)) (stepOf t x wish .answer)
 unfolding stepOf made turnedAway
 no-more t x wish z = go (told (sound (cellOf t))) (told (cellOf t .given x))
@@ -109,6 +110,19 @@ no-more t x wish z = go (told (sound (cellOf t))) (told (cellOf t .given x))
     go (yea e) (yea g) = rw (e, g) (made-no-more t z (sound-bounded (cellOf t) (bounded t z) e) x g wish)
     go (yea e) (nay g) = rw (e, g) (record { untouched = untouched-none (cellOf t); used = λ q. refl; touches = λ q. refl })
     go (nay e) _ = rw e (record { untouched = untouched-none (cellOf t); used = λ q. refl; touches = λ q. refl })
+
+-- a touch call changes nothing but the touches of the place that it names
+pub only-touches : (t : Cell) (q n : ℕ) → Sized t → OnlyTouches (cellOf t) q (cellOf (touchOf t q n .cell))
+unfolding counted untouched
+only-touches t q n z = touched (λ s. OnlyTouches (cellOf t) q (cellOf (s .cell))) t q n
+    (λ _. record { land = refl; lock = refl; agent = refl; given = refl; touches = λ r d. refl })
+    (λ u _. subst (OnlyTouches (cellOf t) q) (sym (touch-back t q n z u)) (touch-only (cellOf t) q n))
+
+-- and nothing of a number that is not in use
+touched-untouched : (t : Cell) (q n : ℕ) → Sized t → Untouched (cellOf t) (cellOf (touchOf t q n .cell))
+unfolding counted untouched
+touched-untouched t q n z = touched (λ s. Untouched (cellOf t) (cellOf (s .cell))) t q n (λ _. untouched-none (cellOf t))
+    (λ u _. subst (Untouched (cellOf t)) (sym (touch-back t q n z u)) (touch-untouched (cellOf t) q n u))
 
 -- any call leaves alone what is not in use
 pub called-untouched : (t : Cell) (k : Call) → Sized t → Untouched (cellOf t) (cellOf (callOf t k .cell))

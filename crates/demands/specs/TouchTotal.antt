@@ -9,22 +9,18 @@ use lib.ListN.{length}
 use Rattle.table.specs.Cell.{State, cellOf}
 use Rattle.table.specs.Sound.{touchSum}
 use Rattle.meaning.specs.declared.Touching.the-variants.{Count, Untouched}
-use Rattle.meaning.specs.File.{fourBytes, byteAt}
+use Rattle.meaning.specs.File.{byteAt, countAt}
 use Rattle.meaning.specs.Run.{Call, stepCall, touchCall, Reply, stepReply, touchReply}
 use Rattle.demands.specs.AfterCalls.{reached, answered}
 
 -- ---- "touches loaded"
 
--- the touches that the record at an offset gives: "four bytes, low byte first", after the place's number
-abbrev pub touchesAtOffset : List ℕ → ℕ → ℕ
-touchesAtOffset s at = fourBytes (byteAt s (at + 2)) (byteAt s (at + 3)) (byteAt s (at + 4)) (byteAt s (at + 5))
-
--- those of all touch records from an offset on, by the lengths of the kinds alone: six bytes for touches (5), three for an agent (2), five for
--- a place (1) or an action (3), and the end (4)
+-- the four-byte numbers of all touch records from an offset on, by the lengths of the kinds alone: six bytes for touches (5), three for an
+-- agent (2), five for a place (1) or an action (3), and the end (4)
 unfoldable pub touchesFrom : ℕ → List ℕ → ℕ → ℕ
 touchesFrom zero s at = 0
 touchesFrom (suc turns) s at =
-    cond (eqb (byteAt s at) 5) (touchesAtOffset s at + touchesFrom turns s (at + 6))
+    cond (eqb (byteAt s at) 5) (countAt s at + touchesFrom turns s (at + 6))
     (cond (eqb (byteAt s at) 4) 0
     (cond (eqb (byteAt s at) 2) (touchesFrom turns s (at + 3))
     (touchesFrom turns s (at + 5))))

@@ -17,7 +17,7 @@ use Rattle.meaning.specs.Touch.{addTouches, counted, untouched, touchOf}
 use Rattle.demands.specs.Reading.{agentIn}
 use Rattle.demands.specs.Invariant.{Sound, Inv}
 use Rattle.demands.specs.NoMore.{Untouched, OnlyTouches}
-use Rattle.demands.specs.Unused.{upd-outside, untouched-none, untouched-bounded}
+use Rattle.demands.specs.Unused.{upd-outside, untouched-bounded}
 use Rattle.demands.specs.Touches.{touch-sum}
 use Rattle.demands.specs.SoundTest.{sound-true, sound-bounded}
 
@@ -94,16 +94,3 @@ module _ (t : Cell) (q n : ℕ) (z : Sized t) where
   sound-touched e = touched (λ s. sound (cellOf (s .cell)) ≡ true) t q n (λ _. e)
       (λ u l. subst (λ (c : State). sound c ≡ true) (sym (touch-back u))
       (sound-true _ (touch-sound (cellOf t) q n u l (sound-bounded (cellOf t) (bounded t z) e))))
-
-  -- nothing changes but the touches of the place that the call names
-  pub only-touches : OnlyTouches (cellOf t) q (cellOf (touchOf t q n .cell))
-  unfolding counted untouched
-  only-touches = touched (λ s. OnlyTouches (cellOf t) q (cellOf (s .cell))) t q n
-      (λ _. record { land = refl; lock = refl; agent = refl; given = refl; touches = λ r d. refl })
-      (λ u _. subst (OnlyTouches (cellOf t) q) (sym (touch-back u)) (touch-only (cellOf t) q n))
-
-  -- nor anything of a number that is not in use
-  pub touched-untouched : Untouched (cellOf t) (cellOf (touchOf t q n .cell))
-  unfolding counted untouched
-  touched-untouched = touched (λ s. Untouched (cellOf t) (cellOf (s .cell))) t q n (λ _. untouched-none (cellOf t))
-      (λ u _. subst (Untouched (cellOf t)) (sym (touch-back u)) (touch-untouched (cellOf t) q n u))

@@ -77,6 +77,10 @@ complete s at n r = cond (ltb (length s - at) n) (Faulty cutShort) r
 abbrev pub nameAt : List ℕ → ℕ → ℕ
 nameAt s at = twoBytes (byteAt s (at + 3)) (byteAt s (at + 4))
 
+-- the touches in a record of six bytes
+abbrev pub countAt : List ℕ → ℕ → ℕ
+countAt s at = fourBytes (byteAt s (at + 2)) (byteAt s (at + 3)) (byteAt s (at + 4)) (byteAt s (at + 5))
+
 -- what was given so far: the places, the agents, the agents with sixteen actions, and the places whose touches were given
 pub record Known : Type 0 where
   pub places : ℕ → Bool
@@ -95,8 +99,7 @@ abbrev pub actionAt : Known → List ℕ → ℕ → Record
 actionAt k s at = actionRecord (k .agents (byteAt s (at + 1))) (k .full (byteAt s (at + 1))) (byteAt s (at + 1)) (byteAt s (at + 2)) (nameAt s at)
 
 abbrev pub touchAt : Known → List ℕ → ℕ → Record
-touchAt k s at = touchRecord (k .counted (byteAt s (at + 1))) (k .places (byteAt s (at + 1))) (byteAt s (at + 1))
-    (fourBytes (byteAt s (at + 2)) (byteAt s (at + 3)) (byteAt s (at + 4)) (byteAt s (at + 5)))
+touchAt k s at = touchRecord (k .counted (byteAt s (at + 1))) (k .places (byteAt s (at + 1))) (byteAt s (at + 1)) (countAt s at)
 
 -- "One byte of kind, then a body whose length the kind fixes": 2 unknown kind
 unfoldable pub recordAt : Known → List ℕ → ℕ → Record
