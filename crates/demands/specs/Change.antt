@@ -42,6 +42,7 @@ pub record Change (c c′ : State) (x : ℕ) (quiet : ℕ → Type 0) : Type 0 w
   -- no place goes out of use, and one that comes into use is linked and free
   pub used : (q : ℕ) → c .land .used q ≡ true → c′ .land .used q ≡ true
   pub fresh : (q : ℕ) → c .land .used q ≡ false → c′ .land .used q ≡ true → (linked (c′ .land) q ≡ true) × (c′ .lock q ≡ none)
+  -- touches are as they were
   pub touches : c′ .touches ≡ c .touches
   pub new : Agent
   pub woke : ℕ → Agent

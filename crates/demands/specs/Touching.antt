@@ -1,6 +1,7 @@
 -- A touch call changes the touches of one place and nothing else, keeps the cell sound, and leaves every sleeper its reason to sleep.
 -- Idea: no rule but the one on the sum reads touches; the call is refused where the sum would pass the bound.
 use mathlib.Core.Path.{_≡_, refl, sym, subst}
+use mathlib.Core.Logic.{_↔_}
 use mathlib.Core.Bool.{true}
 use Prim.Native.Nat.{ℕ, _+_, _≤_}
 use lib.Dec.{leb}
@@ -10,6 +11,7 @@ use Rattle.table.specs.Bounds.{Sized}
 use Rattle.table.specs.Cell.{State, cellOf, tableOf}
 use Rattle.table.specs.CellLaws.{bounded, forth, sized-table}
 use Rattle.table.specs.Sound.{sound, touchSum, mostTouches}
+use Rattle.table.specs.SoundParts.{sound-touches}
 use Rattle.table.specs.declared.Cell.{Cell}
 use Rattle.meaning.specs.declared.Touched.{Touched}
 use Rattle.meaning.specs.Refusals.{placeTooLarge, notYetGiven, unsoundTable, tooManyTouches}
@@ -55,6 +57,13 @@ module _ (c : State) (q n : ℕ) where
     pub touch-inv : Inv c → Inv (addTouches c q n)
     unfolding agentIn
     touch-inv i = record { sound = touch-sound (i .sound); sleep = i .sleep }
+
+-- "15 .. if that call would make it so": the cell with the touches more passes the test exactly if the sum stays within the bound
+pub touch-passes : (c : State) → Sound c → (q n : ℕ) → c .land .used q ≡ true → (sound (addTouches c q n) ≡ true) ↔ (touchSum c + n ≤ mostTouches)
+touch-passes c i q n u = (
+  λ e. subst (λ (m : ℕ). m ≤ mostTouches) (touch-sum c q n u (i .places .small q u)) (sound-touches (addTouches c q n) e),
+  λ l. sound-true (addTouches c q n) (touch-sound c q n u l i),
+)
 
 -- ---- touch calls on a table
 
