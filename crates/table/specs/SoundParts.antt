@@ -1,6 +1,6 @@
 -- The test of soundness and its parts, on places, locks and agents and on touches: the only laws that open the whole test. Assumes nothing.
-use mathlib.Core.Path.{_≡_, sym, ap₂}
-use mathlib.Core.Bool.{true, false, _&&_}
+use mathlib.Core.Path.{_≡_, sym, ap, ap₂}
+use mathlib.Core.Bool.{Bool, true, false, _&&_}
 use Prim.Native.Nat.{_≤_}
 use lib.Dec.{leb}
 use borrow.Author.Tests.{leb-true, le-leb}
@@ -28,3 +28,8 @@ module _ (c : State) where
       go : Told (sound c) → false ≡ sound c
       go (yea s) = clash (sound-core s) (sym e)
       go (nay s) = sym s
+
+  -- where it holds the second decides
+  pub core-holds : coreSound c ≡ true → leb (touchSum c) mostTouches ≡ sound c
+  unfolding sound
+  core-holds e = sym (ap (λ (b : Bool). b && leb (touchSum c) mostTouches) e)

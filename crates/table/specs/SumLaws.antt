@@ -1,8 +1,8 @@
 -- Laws of sums below a bound. Assumes nothing.
-use mathlib.Core.Path.{_≡_, refl, sym, ap, ap₂, _∙_}
+use mathlib.Core.Path.{_≡_, refl, sym, ap, ap₂, _∙_, subst}
 use mathlib.Core.Logic.{_≢_, _⊎_, inl, inr}
-use Prim.Native.Nat.{ℕ, zero, suc, _+_, _*_, _≤_, _<_}
-use native.Mathlib.Nat.{suc-mul}
+use Prim.Native.Nat.{ℕ, zero, suc, _+_, _*_, _≤_, _<_, zero-le}
+use native.Mathlib.Nat.{suc-mul, le-refl}
 use native.Mathlib.Omega.{arith}
 use lib.Dec.{eqb}
 use borrow.Author.Tests.{eqb-true, eqb-false}
@@ -57,3 +57,22 @@ sum-upd f (suc n) i v l = go (eq? i n) (sum-upd f n i v)
         let b : f i ≡ f n = ap f e in
         omega (arith, s, a, b)
     go (inr d) r = let s = r (omega arith) in let a : upd f i v n ≡ f n = upd-other f i n v (λ z. d (sym z)) in omega (arith, s, a)
+
+-- a sum over more numbers is no smaller, and no larger where what they add is nothing
+pub sum-grows : (f : ℕ → ℕ) (n m : ℕ) → n ≤ m → sumBelow f n ≤ sumBelow f m
+unfolding sumBelow
+sum-grows f n zero l = let e : n ≡ 0 = omega arith in subst (λ (k : ℕ). sumBelow f k ≤ 0) (sym e) zero-le
+sum-grows f n (suc m) l = go (eq? n (suc m)) (sum-grows f n m)
+  where
+    go : (n ≡ suc m) ⊎ (n ≢ suc m) → (n ≤ m → sumBelow f n ≤ sumBelow f m) → sumBelow f n ≤ sumBelow f m + f m
+    go (inl e) r = subst (λ (k : ℕ). sumBelow f n ≤ sumBelow f k) e (le-refl (sumBelow f n))
+    go (inr q) r = let h = r (omega arith) in omega arith
+
+pub sum-rest : (f : ℕ → ℕ) (n m : ℕ) → n ≤ m → ((j : ℕ) → n ≤ j → j < m → f j ≡ 0) → sumBelow f n ≡ sumBelow f m
+unfolding sumBelow
+sum-rest f n zero l h = let e : n ≡ 0 = omega arith in ap (sumBelow f) e
+sum-rest f n (suc m) l h = go (eq? n (suc m)) (sum-rest f n m)
+  where
+    go : (n ≡ suc m) ⊎ (n ≢ suc m) → (n ≤ m → ((j : ℕ) → n ≤ j → j < m → f j ≡ 0) → sumBelow f n ≡ sumBelow f m) → sumBelow f n ≡ sumBelow f m + f m
+    go (inl e) r = ap (sumBelow f) e
+    go (inr q) r = let s = r (omega arith) (λ j a b. h j a (omega arith)) in omega (arith, s, h m (omega arith) (omega arith))
