@@ -186,7 +186,7 @@ module _ (s : List ℕ) (at : ℕ) (d : Cell) (full counted : Set) (r : Rest s a
     rest-touches n m i u q e f = go (fits q)
       where
         go : Fits known (TouchRecord n m) → Rest s (at + 6) (putTouches d (set (d .touches) i m)) full u
-        go (touch l new given) = record {
+        go (touch l new given _) = record {
           made = withCounted (r .made) n m;
           turns = more .0;
           is = λ j. putTouches (r .is j) (touches-put n i l e m j);
