@@ -13,8 +13,8 @@ pub struct Left {
 }
 
 // What is left for touches beside those of the places in use.
-pub fn touches_left(ts: [u64; 64], used: Set) -> Left
-    ensures { λ r. ⌜ r ≡ leftOf ts used ⌝ }
+pub fn touches_left(ts: &[u64; 64], used: Set) -> Left
+    ensures { λ r. ⌜ r ≡ leftOf (now (ts .entry)) used ⌝ }
 {
     let mut left = MOST;
     let mut rest = used;

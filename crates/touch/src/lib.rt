@@ -44,8 +44,7 @@ pub fn decide_touch(known: bool, c: Cell, place: u8, number: u32) -> TouchDecisi
         }
         let used = c.used;
         if used.has(place) {
-            let ts = c.touches;
-            let left = soundness::touches_left(ts, used);
+            let left = soundness::touches_left(&c.touches, used);
             if !left.fits {
                 return refused(count, 15);
             }

@@ -34,7 +34,7 @@ returns c = rw (c .before .before .if1 .taken, le-leb _ _ (c .before .if2 .taken
 -- the place is in use: all touches, and what they leave
 module _ (c : tie.After-touches-left) where
   abbrev used : tie.After-has
-  used = c .before .before .before
+  used = c .before .before .before .before
 
   abbrev at : tie.After-at
   at = used .before .before .before .before .before
@@ -57,7 +57,7 @@ module _ (c : tie.After-touches-left) where
   room-is = ap (λ (l : Left). l .room) (c .touches-left .ensures)
 
   in-use : member (at .before .args .t2 .used) place ≡ true
-  in-use = sym (used .has .ensures) ∙ c .before .before .if3 .taken
+  in-use = sym (used .has .ensures) ∙ c .before .before .before .if3 .taken
 
   part : getD (at .before .args .t2 .touches) (at .at .result) 0 ≤ total
   part =

@@ -97,9 +97,10 @@ returns-6 c =
 returns-7 : tie.Need-returns-7 Inv-loop μ-loop
 unfolding leftOf touchSum cellOf
 returns-7 c =
-    let s = c .before .before .before .before .before .before .before .before .before .before .before .before in
+    let p = c .before .before .before .before in
+    let s = p .before .before .before .before .before .before .before .before .before in
     seen-as s _ (ap (λ (l : Left). l .fits) (c .touches-left .ensures)
-    ∙ core-holds (cellOf (s .before .args .t1)) (sym (placed (c .before .before .before)) ∙ kept _ (c .before .before .if8 .left)))
+    ∙ core-holds (cellOf (s .before .args .t1)) (sym (placed p) ∙ kept _ (c .before .before .before .if8 .left)))
 
 pub see-spec : {M : Type 1} → statement M
 see-spec =

@@ -36,26 +36,27 @@ small c = let l = c .before .before .before .before in
 returns : tie.Need-returns Inv-loop μ-loop
 unfolding leftOf
 returns c =
-    let l = c .before .before .before .before .before in
-    let a = l .before .args in
-    let more = taken-stop _ _ _ (l .loop .inv) (pos-of-ne-zero (c .before .before .before .if1 .taken))
-    (subst (λ (q : ℕ). l .loop .left < getD (a .t1) q 0) (c .before .before .first .ensures) (c .if2 .taken)) in
-    ap₂ told (sym (lt-leb (totalOf (a .t1) (a .used)) mostTouches more)) (omega (arith, more))
+    let r = c .before .before in
+    let l = r .before .before .before .before in
+    let ts = l .before .args .ts .now in
+    let more = taken-stop _ _ _ (l .loop .inv) (pos-of-ne-zero (r .before .before .if1 .taken))
+    (subst (λ (q : ℕ). l .loop .left < getD ts q 0) (r .before .first .ensures) (c .if2 .taken)) in
+    ap₂ told (sym (lt-leb (totalOf ts (l .before .args .used)) mostTouches more)) (omega (arith, more))
 
 loop-less : tie.Need-loop-less Inv-loop μ-loop
 loop-less c =
-    let r = c .before in
+    let r = c .before .before in
     let l = r .before .before .before .before in
     subst (λ (z : Set). z .bits < l .loop .rest .bits) (sym (r .rest .ensures))
     (removed-less (l .loop .rest) (l .loop .inv .walk .small) (pos-of-ne-zero (r .before .before .if1 .taken)))
 
 loop-again : tie.Need-loop-again Inv-loop μ-loop
 loop-again c =
-    let l = c .before .before .before .before .before in
-    let a = l .before .args in
-    let e = c .before .before .first .ensures in
-    rw (c .before .rest .ensures, e)
-    (taken-more _ _ _ (l .loop .inv) (pos-of-ne-zero (c .before .before .before .if1 .taken)) (subst (λ (q : ℕ). getD (a .t1) q 0 ≤ l .loop .left) e (c .if2 .left)))
+    let r = c .before .before in
+    let l = r .before .before .before .before in
+    let e = r .before .first .ensures in
+    rw (r .rest .ensures, e)
+    (taken-more _ _ _ (l .loop .inv) (pos-of-ne-zero (r .before .before .if1 .taken)) (subst (λ (q : ℕ). getD (l .before .args .ts .now) q 0 ≤ l .loop .left) e (c .if2 .left)))
 
 -- nobody is left
 returns-2 : tie.Need-returns-2 Inv-loop μ-loop
@@ -64,7 +65,7 @@ returns-2 c =
     let l = c .before .before in
     let a = l .before .args in
     let all = taken-end _ _ _ (l .loop .inv) (c .if1 .left) in
-    ap₂ told (sym (le-leb (totalOf (a .t1) (a .used)) mostTouches (omega (arith, all)))) (omega (arith, all))
+    ap₂ told (sym (le-leb (totalOf (a .ts .now) (a .used)) mostTouches (omega (arith, all)))) (omega (arith, all))
 
 pub touches-left-spec : {M : Type 1} → statement M
 touches-left-spec =
