@@ -22,6 +22,11 @@ def agent(number, home, *actions):
     return bytes([2, number, home]) + row
 
 
+def touches(number, count):
+    """The touch count of a place, in four bytes."""
+    return bytes([5, number]) + count.to_bytes(4, "little")
+
+
 END = bytes([4])
 
 
@@ -56,6 +61,11 @@ EXAMPLES = {
     "open-waits": (
         place(1, 0, 1) + place(2, 0, 2) + agent(0, 0, (OPEN, 1)) + agent(1, 2, (ENTER, 1)) + END,
         calls([1, 1, 1, 1, 0, 0, 0, 1, 1, 1, 0, 0, 0, 0, 0])),
+    # a bonder 20 with a tray 50 in it, a holder 30 beside it: the holder goes in, the tray is opened; touches of tray and holder
+    "touches-travel": (
+        place(1, 0, 20) + place(2, 1, 50) + touches(2, 40) + place(3, 0, 30) + touches(3, 1200)
+        + agent(0, 1, (OPEN, 50)) + agent(1, 3, (ENTER, 20)) + END,
+        calls([1] * 7 + [0] * 5)),
     # a line on which nothing is defined yet: a file of length 0, and a dispatcher that calls agents that are not there
     "empty-line": (
         b"",
@@ -66,7 +76,7 @@ EXAMPLES = {
 # ---- test cases: the corners
 
 def full_cell():
-    """63 places, 64 agents, sixteen actions each: the longest file there is."""
+    """63 places, 64 agents, sixteen actions each."""
     places = b"".join(place(q, (q - 1) // 2, 65535 - q % 3) for q in range(1, 64))
     agents = b"".join(agent(x, x % 64, *[(1 + (x + j) % 3, 65533 + (x * j) % 3) for j in range(16)]) for x in range(64))
     return places + agents + END
@@ -87,8 +97,10 @@ def mixed(seed, count):
     return row
 
 
-# 63 places and 64 agents with sixteen actions each on the floor, names of five digits: without its end, the longest cell file and listing
-LONGEST = b"".join(place(q, 0, 65535) for q in range(1, 64)) + b"".join(agent(x, 0, *[(ENTER, 65535)] * 16) for x in range(64))
+# 63 places and 64 agents with sixteen actions each on the floor, names of five digits, the touches of every place: without its end, the
+# longest cell file and listing
+LONGEST = (b"".join(place(q, 0, 65535) for q in range(1, 64)) + b"".join(agent(x, 0, *[(ENTER, 65535)] * 16) for x in range(64))
+           + b"".join(touches(q, 0xFFFFFFFF) for q in range(64)))
 TWO = place(1, 0, 7) + place(2, 0, 7) + agent(0, 1, (ENTER, 7)) + END
 NONE = b""
 ABSENT = None
@@ -102,7 +114,7 @@ CASES = {
     "bare-floor": (END, NONE),
     "no-end": (place(1, 0, 7), NONE),
     "cut-body": (place(1, 0, 7) + bytes([1, 0x40]), NONE),
-    "unknown-kind": (place(1, 0, 7) + bytes([5]), NONE),
+    "unknown-kind": (place(1, 0, 7) + bytes([9]), NONE),
     "number-too-large": (place(0x40, 0, 7) + END, NONE),
     "place-zero": (place(0, 0, 7) + END, NONE),
     # which number was too large: of those in a record the first one out of range decides
@@ -113,6 +125,16 @@ CASES = {
     "agent-too-large": (agent(0, 0) + agent(0x40, 0) + END, calls([0])),
     "agent-and-home-too-large": (agent(0x40, 0x40) + END, NONE),
     "action-of-an-agent-too-large": (agent(0, 0) + bytes([3, 0x40, 9, 0, 0]) + END, NONE),
+    # touches: given anywhere after their place, the floor's too; walk shows none of them
+    "touches-given": (
+        touches(0, 7) + place(1, 0, 1) + agent(0, 0, (OPEN, 1), (OPEN, 2)) + touches(1, 0x01020304) + place(2, 1, 2) + place(3, 2, 3)
+        + touches(3, 0xFFFFFFFF) + agent(1, 3, (EXIT, 2)) + touches(2, 0) + END,
+        calls([1] * 7 + [0] * 10)),
+    "touches-of-a-place-too-large": (touches(0, 1) + touches(0x40, 1) + END, NONE),
+    "touches-given-twice": (place(1, 0, 7) + touches(1, 0) + touches(0, 1) + touches(1, 5) + END, NONE),
+    "touches-before-their-place": (touches(1, 1) + place(1, 0, 7) + END, NONE),
+    "touches-cut": (place(1, 0, 7) + touches(0x40, 1)[:5], NONE),
+    "touches-and-no-end": (touches(0, 1), NONE),
     "given-twice": (place(1, 0, 7) + place(1, 0, 8) + END, NONE),
     "not-yet-given": (place(5, 5, 7) + END, NONE),
     "name-zero": (place(1, 0, 0) + END, NONE),
@@ -143,6 +165,7 @@ CASES = {
         calls([0, 1, 2, 3, 0, 0, 1, 2, 1, 3, 2, 2] * 14)),
     "past-the-limit": (TWO, calls([0] * 16383 + [1, 2])),
     "one-record-more": (LONGEST + place(63, 0, 65535) + END, NONE),
+    "one-touch-record-more": (LONGEST + touches(63, 0xFFFFFFFF) + END, NONE),
     "longest-report": (LONGEST + END, calls([255] * 16383 + [254])),
 }
 

@@ -20,6 +20,9 @@
 **     answer = keeper_step(&cell, agent, wish);
 **     if (keeper_refusal(answer) == 0)
 **         printf("%s, %u woken\n", keeper_word_name(keeper_word(answer)), keeper_woken(answer));
+**     answer = keeper_touch(&cell, place, touches);
+**     if (keeper_refusal(answer) == 0)
+**         printf("%llu touches\n", (unsigned long long)keeper_count(answer));
 **
 ** What the caller owes, in every call:
 **
@@ -50,8 +53,8 @@ extern "C" {
 ** anew: another layout of a cell, other arguments, another meaning of an answer. The minor number changes when something is added: a
 ** call, a word, a refusal. The patch number changes with anything else.
 */
-#define KEEPER_MAJOR 1
-#define KEEPER_MINOR 1
+#define KEEPER_MAJOR 2
+#define KEEPER_MINOR 0
 #define KEEPER_PATCH 0
 #define KEEPER_VERSION (KEEPER_MAJOR * 65536 + KEEPER_MINOR * 256 + KEEPER_PATCH)
 
@@ -63,13 +66,16 @@ extern "C" {
 /* The lock of a place that no agent holds. */
 #define KEEPER_FREE 64
 
+/* The touches that the places in use may have together, at most. */
+#define KEEPER_TOUCHES_MOST 1000000000000
+
 /* The size of a cell in bytes. */
-#define KEEPER_CELL_BYTES 4816
+#define KEEPER_CELL_BYTES 5328
 
 /* The longest cell file that can be accepted; and how many bytes of a file, at its start, always decide the answer to it: a host may
 ** read that many of a longer file and lend those. Both are proved (crates/lengths, `accepted-longest` and `prefix`). */
-#define KEEPER_FILE_LONGEST 5628
-#define KEEPER_FILE_DECIDING 5633
+#define KEEPER_FILE_LONGEST 6012
+#define KEEPER_FILE_DECIDING 6017
 
 /* The longest listing: with a buffer of this size, keeper_list never answers 12 (proved: crates/lengths, `listing-longest`, `enough-room`). */
 #define KEEPER_LISTING_LONGEST 13043
@@ -109,14 +115,15 @@ typedef struct keeper_agent {
     keeper_action actions[KEEPER_ACTIONS];
 } keeper_agent;
 
-/* A cell: its places, for each the agent that holds its lock or KEEPER_FREE, its agents, and the numbers of places (`used`) and agents
-** (`given`) that are in use, bit i for number i. */
+/* A cell: its places, for each the agent that holds its lock or KEEPER_FREE, its agents, the numbers of places (`used`) and agents
+** (`given`) that are in use, bit i for number i, and for each place its touch count. */
 typedef struct keeper_cell {
     keeper_place places[KEEPER_PLACES];
     uint8_t locks[KEEPER_PLACES];
     keeper_agent agents[KEEPER_AGENTS];
     uint64_t used;
     uint64_t given;
+    uint64_t touches[KEEPER_PLACES];
 } keeper_cell;
 
 KEEPER_ASSERT(sizeof(keeper_place) == 4, "keeper_place has 4 bytes");
@@ -126,13 +133,14 @@ KEEPER_ASSERT(sizeof(keeper_agent) == 70, "keeper_agent has 70 bytes");
 KEEPER_ASSERT(offsetof(keeper_agent, stage) == 1 && offsetof(keeper_agent, remembered) == 2, "keeper_agent");
 KEEPER_ASSERT(offsetof(keeper_agent, chosen) == 3 && offsetof(keeper_agent, next) == 4, "keeper_agent");
 KEEPER_ASSERT(offsetof(keeper_agent, count) == 5 && offsetof(keeper_agent, actions) == 6, "keeper_agent");
-KEEPER_ASSERT(sizeof(keeper_cell) == KEEPER_CELL_BYTES, "keeper_cell has 4816 bytes");
+KEEPER_ASSERT(sizeof(keeper_cell) == KEEPER_CELL_BYTES, "keeper_cell has 5328 bytes");
 KEEPER_ASSERT(offsetof(keeper_cell, locks) == 256 && offsetof(keeper_cell, agents) == 320, "keeper_cell");
 KEEPER_ASSERT(offsetof(keeper_cell, used) == 4800 && offsetof(keeper_cell, given) == 4808, "keeper_cell");
+KEEPER_ASSERT(offsetof(keeper_cell, touches) == 4816, "keeper_cell");
 
 /* The numbers with which a call is refused. Of a cell file, 3 is for the number that a place record gives, 13 for a parent (of a place) or
 ** home (of an agent), 14 for the number of an agent, in an agent or an action record; of the three the earlier byte in the record decides. A
-** step for an agent above 63 is 11. */
+** step for an agent above 63 is 11. Of touches, in a record and in a call, 3 is for a place above 63, and 5 for one that is not there. */
 enum {
     KEEPER_CUT_SHORT = 1,
     KEEPER_UNKNOWN_KIND = 2,
@@ -147,7 +155,8 @@ enum {
     KEEPER_NO_SUCH_AGENT = 11,
     KEEPER_LISTING_TOO_LONG = 12,
     KEEPER_PARENT_TOO_LARGE = 13,
-    KEEPER_AGENT_TOO_LARGE = 14
+    KEEPER_AGENT_TOO_LARGE = 14,
+    KEEPER_TOO_MANY_TOUCHES = 15
 };
 
 /* The words that a step answers. */
@@ -167,7 +176,8 @@ enum {
 /*
 ** What a call answers, in one number: bits 0 to 7 are 0, or the number with which the call was refused. The bits above are, for
 ** keeper_load, the offset of a refusal; for keeper_step, the word (bits 8 to 15) and the number woken (bits 16 to 23); for keeper_list, the
-** length; for keeper_idle, 1 if all agents are asleep or done. The functions at the end of this file take it apart.
+** length; for keeper_idle, 1 if all agents are asleep or done; for keeper_touch and keeper_touches, the place's touch count. The functions
+** at the end of this file take it apart.
 */
 typedef uint64_t keeper_answer;
 
@@ -201,7 +211,8 @@ keeper_answer keeper_bare(keeper_cell *cell);
 ** Answers 0 if the file was accepted. Else keeper_refusal(answer) is a number from 1 to 9, or 13 or 14, keeper_offset(answer) is the byte
 ** offset of the first faulty record (for a missing end record, the file's length; for 9, the first byte after the end record), and the cell
 ** is as it was. Within a record the order of the tests is 2, 1, then 3, 13 and 14 by the place of the byte, then 4, 5, 7, 6, 8. What the
-** cell held before plays no part in the answer, so it is never 10. The file is only read.
+** cell held before plays no part in the answer, so it is never 10. The file is only read. A place for which the file has no touch record
+** has the count 0.
 */
 keeper_answer keeper_load(keeper_cell *cell, const uint8_t *file, size_t len);
 
@@ -219,8 +230,8 @@ keeper_answer keeper_load(keeper_cell *cell, const uint8_t *file, size_t len);
 **     slept    its action cannot fire; it holds no lock and sleeps until another agent's step wakes it
 **     left     its place left and is on its way; the action is used up
 **     came     its place came to its destination
-**     opened   it opened a place: what was inside stands in the agent's own place now, and the opened place's number is unused; the
-**              action is used up
+**     opened   it opened a place: what was inside stands in the agent's own place now, the opened place's touches are added to those of
+**              the agent's own place, and the opened place's number is unused; the action is used up
 **     asleep   it sleeps; nothing changed
 **     done     it has no action left; nothing changed
 **
@@ -238,8 +249,8 @@ keeper_answer keeper_step(keeper_cell *cell, uint8_t agent, uint8_t wish);
 keeper_answer keeper_list(const keeper_cell *cell, uint8_t *text, size_t room);
 
 /*
-** keeper_check: whether the table is sound. A cell that keeper_bare or an accepted keeper_load wrote, and that only keeper_step has
-** changed since, always is.
+** keeper_check: whether the table is sound. A cell that keeper_bare or an accepted keeper_load wrote, and that only keeper_step and
+** keeper_touch have changed since, always is.
 **
 ** Answers 0 if it is sound; refused with 10 if it is not. The cell is only read.
 */
@@ -251,6 +262,24 @@ keeper_answer keeper_check(const keeper_cell *cell);
 ** Answers it in keeper_all_rest(answer). Refused with 10 where the table is unsound. The cell is only read.
 */
 keeper_answer keeper_idle(const keeper_cell *cell);
+
+/*
+** keeper_touch: adds `number` to the touch count of a place, such as the touch-downs of a capillary since the last call. The count stays
+** with the place wherever it goes. The sum over all places in use is what the file gave and the calls have added since, whatever steps
+** were made.
+**
+** Answers the place's new count in keeper_count(answer). Refused with 10 where the table is unsound, else with 3 for a place above 63, else
+** with 5 for one that is not in use, else with 15 where the sum over all places in use would pass KEEPER_TOUCHES_MOST; then the cell is as
+** it was. No step, listing or idle call answers otherwise for it.
+*/
+keeper_answer keeper_touch(keeper_cell *cell, uint8_t place, uint32_t number);
+
+/*
+** keeper_touches: the touch count of a place.
+**
+** Answers it in keeper_count(answer). Refused with 10, 3 or 5 as keeper_touch is. The cell is only read.
+*/
+keeper_answer keeper_touches(const keeper_cell *cell, uint8_t place);
 
 /* The number with which the call was refused, or 0. */
 static inline unsigned keeper_refusal(keeper_answer answer) { return (unsigned)(answer & 255); }
@@ -269,6 +298,9 @@ static inline size_t keeper_length(keeper_answer answer) { return (size_t)(answe
 
 /* 1 if keeper_idle found all agents asleep or done, else 0. */
 static inline int keeper_all_rest(keeper_answer answer) { return (int)(answer >> 8 & 1); }
+
+/* The touch count that keeper_touch or keeper_touches answers. */
+static inline uint64_t keeper_count(keeper_answer answer) { return answer >> 8; }
 
 /* The word's name, as `walk` prints it; "unknown" for a number that is no word. */
 static inline const char *keeper_word_name(unsigned word)
@@ -293,10 +325,10 @@ static inline const char *keeper_refusal_text(unsigned refusal)
 {
     switch (refusal) {
     case KEEPER_CUT_SHORT: return "cut short: a body incomplete, or no end record";
-    case KEEPER_UNKNOWN_KIND: return "unknown kind, not 1 to 4";
-    case KEEPER_TOO_LARGE: return "place number above 63, or 0";
-    case KEEPER_GIVEN_TWICE: return "number given twice";
-    case KEEPER_NOT_YET_GIVEN: return "not yet given";
+    case KEEPER_UNKNOWN_KIND: return "unknown kind, not 1 to 5";
+    case KEEPER_TOO_LARGE: return "place number above 63, or 0 in a place record";
+    case KEEPER_GIVEN_TWICE: return "number or touches given twice";
+    case KEEPER_NOT_YET_GIVEN: return "not yet given, or not in use";
     case KEEPER_NAME_ZERO: return "name 0 in a place or action";
     case KEEPER_ACTION_KIND: return "action kind not 1 to 3";
     case KEEPER_SEVENTEENTH_ACTION: return "seventeenth action";
@@ -306,6 +338,7 @@ static inline const char *keeper_refusal_text(unsigned refusal)
     case KEEPER_LISTING_TOO_LONG: return "listing longer than the buffer";
     case KEEPER_PARENT_TOO_LARGE: return "parent or home above 63";
     case KEEPER_AGENT_TOO_LARGE: return "agent number above 63";
+    case KEEPER_TOO_MANY_TOUCHES: return "more than 1,000,000,000,000 touches in all";
     default: return "unknown";
     }
 }

@@ -1,6 +1,6 @@
 """How the pictures are drawn: text, lines and arrows, and places as boxes in boxes.
 
-Agents are yellow labels, a held lock is a dark label, a place on its way has a dashed edge.
+Agents are yellow labels, a held lock is a dark label, a touch count is a green one, a place on its way has a dashed edge.
 """
 
 from html import escape
@@ -15,6 +15,7 @@ EDGE, FILL = "#2f5d8a", "#eef4fa"
 WAY_EDGE, WAY_FILL = "#b0461a", "#fdf1ea"
 AGENT_EDGE, AGENT_FILL = "#8a6d00", "#fff3c4"
 LOCK_0, LOCK_1 = "#1b3a57", "#7a2e0e"
+TOUCH_EDGE, TOUCH_FILL = "#2f6b3a", "#e2f3e4"
 LINE = "#333333"
 
 
@@ -78,10 +79,11 @@ def width_of(words, size, bold=False):
 PAD, GAP, TITLE, NOTE, CHIP, STEP = 12, 12, 18, 14, 26, 8
 
 
-def place(title, number, *contents, away=False, lock=None):
-    """A place: its title, its number, and in it agents and places; lock is the number of the agent that holds its lock."""
+def place(title, number, *contents, away=False, lock=None, touches=None):
+    """A place: its title, its number, and in it agents and places; lock is the number of the agent that holds its lock, touches its touch
+    count, where it is shown."""
     return {"title": title, "number": f"place {number}", "agents": [c for c in contents if "label" in c],
-            "places": [c for c in contents if "title" in c], "away": away, "lock": lock}
+            "places": [c for c in contents if "title" in c], "away": away, "lock": lock, "touches": touches}
 
 
 def agent(number, row):
@@ -98,6 +100,10 @@ def lock_words(box):
     return "" if box["lock"] is None else f"locked by agent {box['lock']}"
 
 
+def touch_words(box):
+    return f"{box['touches']:,} touches"
+
+
 def head_width(box):
     return width_of(box["title"], 16, True) + 14 + width_of(box["number"], 12)
 
@@ -112,6 +118,9 @@ def size_of(box):
         heights.append(NOTE)
     if box["lock"] is not None:
         widths.append(width_of(lock_words(box), 13, True) + 16)
+        heights.append(CHIP)
+    if box["touches"] is not None:
+        widths.append(width_of(touch_words(box), 13, True) + 16)
         heights.append(CHIP)
     if inner:
         widths.append(sum(w for w, _ in inner) + GAP * (len(inner) - 1))
@@ -134,6 +143,11 @@ def draw_box(svg, box, x, y, h=0):
         words = lock_words(box)
         svg.rect(x + PAD, at, width_of(words, 13, True) + 16, CHIP, LOCK_1 if box["lock"] == 1 else LOCK_0, "none", round_by=4)
         svg.text(x + PAD + 8, at + 18, words, 13, "#ffffff", bold=True)
+        at += CHIP + STEP
+    if box["touches"] is not None:
+        words = touch_words(box)
+        svg.rect(x + PAD, at, width_of(words, 13, True) + 16, CHIP, TOUCH_FILL, TOUCH_EDGE, round_by=4)
+        svg.text(x + PAD + 8, at + 18, words, 13, TOUCH_EDGE, bold=True)
         at += CHIP + STEP
     for a in box["agents"]:
         svg.rect(x + PAD, at, width_of(a["label"], 14) + 16, CHIP, AGENT_FILL, AGENT_EDGE, round_by=12)

@@ -104,6 +104,24 @@ def example_locks():
     svg.write("example-locks.svg")
 
 
+def touches():
+    """A holder with its touch count goes into a bonder, is touched there, and a tray is opened whose count is pooled."""
+    panels("touches.svg", "Touches travel with the holder",
+           "Holder 30 has 1,200 touches on the floor and, after a touch call of 300, 1,500 in bonder 20. Tray 50 in the bonder has 40. After the "
+           "tray is opened by an agent of the bonder, the bonder has 40.", [
+               ("Start: 1,240 in all",
+                place("floor", 0, place("20 bonder", 1, agent(0, "open 50"), place("50 tray", 2, touches=40), touches=0),
+                      place("30 holder", 3, agent(1, "enter 20"), touches=1200), touches=0),
+                "20[open 50 | 50[]] | 30[enter 20]"),
+               ("After came and 300 added: 1,540 in all",
+                place("floor", 0, place("20 bonder", 1, agent(0, "open 50"), place("50 tray", 2, touches=40),
+                                        place("30 holder", 3, spent(1), touches=1500), touches=0), touches=0),
+                "20[open 50 | 50[] | 30[]]"),
+               ("After opened: 1,540 in all",
+                place("floor", 0, place("20 bonder", 1, spent(0), place("30 holder", 3, spent(1), touches=1500), touches=40), touches=0),
+                "20[30[]]")])
+
+
 def slips():
     """Opening while something is on its way: the start, and the moment at which the opener must step back."""
     panels("slips.svg", "Opening a place that something is on its way to",
@@ -204,5 +222,5 @@ def stages():
 
 
 if __name__ == "__main__":
-    for draw in (cell, stages, enter, exit_, open_, example_trees, example_held, example_locks, slips):
+    for draw in (cell, stages, enter, exit_, open_, touches, example_trees, example_held, example_locks, slips):
         draw()

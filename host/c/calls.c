@@ -102,10 +102,11 @@ static void too_large(keeper_cell *cell)
     }
 }
 
-/* Whether two cells without agents say the same: places, locks and the two sets. */
+/* Whether two cells without agents say the same: places, locks, the two sets and the touches. */
 static int same_floor(const keeper_cell *one, const keeper_cell *other)
 {
-    return memcmp(one, other, offsetof(keeper_cell, agents)) == 0 && one->used == other->used && one->given == 0 && other->given == 0;
+    return memcmp(one, other, offsetof(keeper_cell, agents)) == 0 && one->used == other->used && one->given == 0 && other->given == 0
+        && memcmp(one->touches, other->touches, sizeof one->touches) == 0;
 }
 
 /* A file of length 0 is a bare floor, as `04` is, whatever the cell held before; nothing is read through its pointer. */
@@ -187,11 +188,67 @@ static void unsound(keeper_cell *cell)
     HOLDS(keeper_check(cell) == KEEPER_UNSOUND);
     HOLDS(keeper_idle(cell) == KEEPER_UNSOUND);
     HOLDS(keeper_step(cell, 64, 0) == KEEPER_UNSOUND);
+    HOLDS(keeper_touch(cell, 64, 1) == KEEPER_UNSOUND && keeper_touches(cell, 64) == KEEPER_UNSOUND);
     HOLDS(keeper_list(cell, text, 0) == KEEPER_UNSOUND && keeper_list(cell, text, 2) == KEEPER_UNSOUND);
     HOLDS(memcmp(cell, &before, sizeof before) == 0 && text[0] == 1 && text[1] == 2);
     HOLDS(keeper_bare(cell) == 0 && keeper_check(cell) == 0);
     HOLDS(keeper_all_rest(keeper_idle(cell)) == 1);
     HOLDS(keeper_length(keeper_list(cell, text, 1)) == 1 && text[0] == '0' && text[1] == 2);
+}
+
+/* Touch records: each refusal of kind 5, after place 1 with a count of its own. */
+static void touch_records(keeper_cell *cell)
+{
+    static const struct {
+        uint8_t record[6];
+        size_t length;
+        unsigned refusal;
+    } rows[] = {
+        {{5, 64, 1, 0, 0, 0}, 6, KEEPER_TOO_LARGE},    {{5, 255, 1, 0, 0, 0}, 6, KEEPER_TOO_LARGE},
+        {{5, 1, 0, 0, 0, 0}, 6, KEEPER_GIVEN_TWICE},   {{5, 2, 1, 0, 0, 0}, 6, KEEPER_NOT_YET_GIVEN},
+        {{5, 64, 1, 0, 0, 0}, 5, KEEPER_CUT_SHORT},    {{6, 0, 0, 0, 0, 0}, 6, KEEPER_UNKNOWN_KIND},
+    };
+
+    for (size_t at = 0; at < sizeof rows / sizeof rows[0]; at++) {
+        uint8_t file[11 + 6] = {1, 1, 0, 7, 0, 5, 1, 4, 3, 2, 1};
+        keeper_answer answer;
+
+        memcpy(file + 11, rows[at].record, rows[at].length);
+        answer = refused(cell, file, 11 + rows[at].length);
+        HOLDS(keeper_refusal(answer) == rows[at].refusal && keeper_offset(answer) == 11);
+    }
+}
+
+/* A capillary's counter: the holder, place 3, goes into the bonder, place 1, and is touched there; then the tray, place 2, is opened in the
+** bonder, which takes over its touches. */
+static void touches(keeper_cell *cell)
+{
+    static const uint8_t file[] = {1, 1, 0, 20, 0, 1, 2, 1, 50, 0, 1, 3, 0, 30, 0, 5, 3, 0xB0, 4, 0, 0, 5, 2, 40, 0, 0, 0,
+                                   2, 0, 1, 3, 0, 3, 50, 0, 2, 1, 3, 3, 1, 1, 20, 0, 4};
+    keeper_cell before;
+
+    HOLDS(keeper_load(cell, file, sizeof file) == 0);
+    HOLDS(keeper_touches(cell, 3) == 1200 << 8 && keeper_touches(cell, 2) == 40 << 8 && keeper_touches(cell, 1) == 0);
+    for (int turn = 0; turn < 7; turn++)
+        HOLDS(keeper_refusal(keeper_step(cell, 1, 255)) == 0);
+    HOLDS(cell->places[3].parent == 1 && cell->places[3].way == 0 && cell->touches[3] == 1200);
+    HOLDS(keeper_count(keeper_touch(cell, 3, 300)) == 1500 && cell->touches[3] == 1500);
+    for (int turn = 0; turn < 4; turn++)
+        HOLDS(keeper_refusal(keeper_step(cell, 0, 255)) == 0);
+    HOLDS(keeper_count(keeper_touches(cell, 1)) == 40 && keeper_count(keeper_touches(cell, 3)) == 1500 && cell->touches[2] == 0);
+    HOLDS(keeper_count(keeper_touch(cell, 0, UINT32_MAX)) == UINT32_MAX);
+    cell->touches[0] = KEEPER_TOUCHES_MOST - 1540 - 9;
+    cell->touches[2] = UINT64_MAX;
+    memcpy(&before, cell, sizeof before);
+    HOLDS(keeper_touch(cell, 2, 0) == KEEPER_NOT_YET_GIVEN && keeper_touches(cell, 2) == KEEPER_NOT_YET_GIVEN);
+    HOLDS(keeper_touch(cell, 64, 10) == KEEPER_TOO_LARGE && keeper_touches(cell, 255) == KEEPER_TOO_LARGE);
+    HOLDS(keeper_touch(cell, 63, 10) == KEEPER_NOT_YET_GIVEN && keeper_touch(cell, 3, 10) == KEEPER_TOO_MANY_TOUCHES);
+    HOLDS(memcmp(cell, &before, sizeof before) == 0);
+    HOLDS(keeper_count(keeper_touch(cell, 3, 9)) == 1509 && keeper_check(cell) == 0 && keeper_touch(cell, 0, 1) == KEEPER_TOO_MANY_TOUCHES);
+    cell->touches[1]++;
+    HOLDS(keeper_check(cell) == KEEPER_UNSOUND && keeper_touch(cell, 64, 0) == KEEPER_UNSOUND && keeper_touches(cell, 3) == KEEPER_UNSOUND);
+    cell->touches[1] = UINT64_MAX - cell->touches[0] - cell->touches[3] + 1;
+    HOLDS(keeper_check(cell) == KEEPER_UNSOUND);
 }
 
 static void library(void)
@@ -204,12 +261,12 @@ static void library(void)
 static void texts(void)
 {
     HOLDS(strcmp(keeper_refusal_text(KEEPER_NO_SUCH_AGENT), "no such agent") == 0);
-    HOLDS(strcmp(keeper_refusal_text(KEEPER_TOO_LARGE), "place number above 63, or 0") == 0);
+    HOLDS(strcmp(keeper_refusal_text(KEEPER_TOO_LARGE), "place number above 63, or 0 in a place record") == 0);
     HOLDS(strcmp(keeper_refusal_text(KEEPER_PARENT_TOO_LARGE), "parent or home above 63") == 0);
     HOLDS(strcmp(keeper_refusal_text(KEEPER_AGENT_TOO_LARGE), "agent number above 63") == 0);
-    for (unsigned refusal = 1; refusal <= 14; refusal++)
+    for (unsigned refusal = 1; refusal <= 15; refusal++)
         HOLDS(strcmp(keeper_refusal_text(refusal), "unknown") != 0);
-    HOLDS(strcmp(keeper_refusal_text(0), "unknown") == 0 && strcmp(keeper_refusal_text(15), "unknown") == 0);
+    HOLDS(strcmp(keeper_refusal_text(0), "unknown") == 0 && strcmp(keeper_refusal_text(16), "unknown") == 0);
     HOLDS(strcmp(keeper_word_name(8), "unknown") == 0);
 }
 
@@ -224,6 +281,8 @@ int main(void)
     nothing_on_the_line(&cell);
     steps(&cell);
     listings(&cell);
+    touch_records(&cell);
+    touches(&cell);
     unsound(&cell);
     texts();
     printf("%d passed, 0 failed\n", tests);

@@ -20,6 +20,8 @@ int main()
         return 1;
     if (!keeper_all_rest(keeper_idle(&cell)) || keeper_refusal(keeper_step(&cell, 0, 0)) != KEEPER_NO_SUCH_AGENT)
         return 1;
+    if (keeper_count(keeper_touch(&cell, 1, 5)) != 5 || keeper_count(keeper_touches(&cell, 1)) != 5)
+        return 1;
     std::puts("1 passed, 0 failed");
     return 0;
 }

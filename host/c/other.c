@@ -15,3 +15,5 @@ keeper_answer keeper_step(keeper_cell *cell, uint8_t agent, uint8_t wish) { (voi
 keeper_answer keeper_list(const keeper_cell *cell, uint8_t *text, size_t room) { (void)cell, (void)text, (void)room, abort(); }
 keeper_answer keeper_check(const keeper_cell *cell) { (void)cell, abort(); }
 keeper_answer keeper_idle(const keeper_cell *cell) { (void)cell, abort(); }
+keeper_answer keeper_touch(keeper_cell *cell, uint8_t place, uint32_t number) { (void)cell, (void)place, (void)number, abort(); }
+keeper_answer keeper_touches(const keeper_cell *cell, uint8_t place) { (void)cell, (void)place, abort(); }

@@ -12,12 +12,13 @@
 
 #define ROOM (1024 * 1024)
 #define PATTERN 0xA5
+#define CALLS 8
 
 static keeper_cell cell;
 static uint8_t file[KEEPER_FILE_LONGEST];
 static size_t file_length;
 static uint8_t text[KEEPER_LISTING_LONGEST];
-static uint8_t agent;
+static uint8_t agent; /* or the place of a touch call */
 
 static void bare(void) { keeper_bare(&cell); }
 static void load(void) { keeper_load(&cell, file, file_length); }
@@ -25,6 +26,8 @@ static void step(void) { keeper_step(&cell, agent, 255); }
 static void list(void) { keeper_list(&cell, text, sizeof text); }
 static void check(void) { keeper_check(&cell); }
 static void idle(void) { keeper_idle(&cell); }
+static void touch(void) { keeper_touch(&cell, agent, 1); }
+static void touches(void) { keeper_touches(&cell, agent); }
 
 /* A call to measure, the stack that it runs on, and what it used. */
 typedef struct measured {
@@ -73,7 +76,7 @@ static void record(const uint8_t *bytes, size_t length)
     file_length += length;
 }
 
-/* A full cell: places in each other or side by side, an agent in each, with sixteen actions of this kind. */
+/* A full cell: places in each other or side by side, an agent in each, with sixteen actions of this kind, and touches of each place. */
 static void make_file(int nested, uint8_t kind)
 {
     file_length = 0;
@@ -83,15 +86,16 @@ static void make_file(int nested, uint8_t kind)
         record((uint8_t[]){2, number, number}, 3);
         for (int action = 0; action < 16; action++)
             record((uint8_t[]){3, number, kind, 255, 255}, 5);
+        record((uint8_t[]){5, number, 255, 255, 255, 255}, 6);
     }
     record((uint8_t[]){4}, 1);
 }
 
 int main(void)
 {
-    size_t used[6] = {0, 0, 0, 0, 0, 0};
-    void (*const calls[6])(void) = {bare, load, check, idle, list, step};
-    const char *const names[6] = {"bare", "load", "check", "idle", "list", "step"};
+    size_t used[CALLS] = {0};
+    void (*const calls[CALLS])(void) = {bare, load, check, idle, list, touch, touches, step};
+    const char *const names[CALLS] = {"bare", "load", "check", "idle", "list", "touch", "touches", "step"};
     size_t most = 0;
 
     if (!keeper_fits())
@@ -100,15 +104,16 @@ int main(void)
         for (int nested = 0; nested < 2; nested++) {
             make_file(nested, kind);
             measure(bare, &used[0]);
-            for (int call = 1; call < 5; call++)
+            agent = 63;
+            for (int call = 1; call < CALLS - 1; call++)
                 measure(calls[call], &used[call]);
             for (int turn = 0; turn < 8 * 64; turn++) {
                 agent = (uint8_t)(turn / 8);
-                measure(step, &used[5]);
+                measure(step, &used[CALLS - 1]);
             }
         }
     }
-    for (int call = 0; call < 6; call++) {
+    for (int call = 0; call < CALLS; call++) {
         printf("stack used by keeper_%s: %zu bytes\n", names[call], used[call]);
         most = used[call] > most ? used[call] : most;
     }

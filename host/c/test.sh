@@ -43,6 +43,10 @@ case_of 'place 64' '\001\100\100\007\000\004' "$order" 'refused 3 0\n'
 case_of 'parent 64' '\001\001\100\007\000\004' "$order" 'refused 13 0\n'
 case_of 'home 64' '\002\000\000\002\001\100\004' "$order" 'refused 13 3\n'
 case_of 'agent 64' '\002\100\100\004' "$order" 'refused 14 0\n'
+case_of 'touches' '\001\001\000\007\000\005\001\001\000\000\000\005\000\377\377\377\377\004' - 'start 7[]\nend 7[]\n'
+case_of 'touches of place 64' '\005\100\001\000\000\000\004' "$order" 'refused 3 0\n'
+case_of 'touches given twice' '\005\000\001\000\000\000\005\000\001\000\000\000\004' "$order" 'refused 4 6\n'
+case_of 'touches of no place' '\005\001\001\000\000\000\004' "$order" 'refused 5 0\n'
 case_of 'action of agent 64' '\002\000\000\003\100\001\007\000\004' "$order" 'refused 14 3\n'
 
 # a file that is there and cannot be read does not pass for an empty one: a folder, and a path through a file

@@ -66,7 +66,7 @@ read-whole cell order before after n m answer bytes room w = record {
     count = report-whole (take n cell) (take m order) before after answer (bytes-taken order m bytes) room w .0
 
 -- and it is the report of every cell file and every order of which the buffers hold the first bytes
-pub files-whole : (cell order before after : List ℕ) (n m answer : ℕ) → 5633 ≤ length cell → 32768 ≤ length order
+pub files-whole : (cell order before after : List ℕ) (n m answer : ℕ) → 6017 ≤ length cell → 32768 ≤ length order
     → Whole (report (take n cell) (take m order)) before after answer
     → (file pairs : List ℕ) → Holds file cell n → Holds pairs order m → take answer after ≡ report file pairs
 files-whole cell order before after n m answer wide long w file pairs h k =

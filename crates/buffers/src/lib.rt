@@ -8,7 +8,7 @@ ghost use Rattle.text.specs.Wrote.{Wrote};
 ghost use Rattle.meaning.specs.Report.{report as reportOf};
 ghost use Rattle.buffers.specs.Held.{Bytes, Holds, Whole};
 
-// How many bytes walk reads of a cell file. The first 5,633 decide its answer.
+// How many bytes walk reads of a cell file. The first 6,017 decide its answer.
 pub const CELL_BYTES: usize = 8192;
 
 // How many bytes walk reads of an order: its 16,384 pairs.

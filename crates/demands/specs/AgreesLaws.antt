@@ -21,7 +21,7 @@ use Rattle.demands.specs.Reading.{parentIn, nameIn}
 use Rattle.demands.specs.Invariant.{Sound}
 use Rattle.demands.specs.SameTree.{tree-home, tree-unused}
 use Rattle.demands.specs.Fresh.{Fresh}
-use Rattle.demands.specs.Loading.{accepted-fresh}
+use Rattle.demands.specs.LoadingFile.{accepted-fresh}
 use Rattle.demands.specs.LoadingLaws.{fresh-inv}
 use Rattle.demands.specs.AfterCalls.{StepChanges, reached, plainAfter, AfterCalls}
 use Rattle.demands.specs.DemandThree.{reached-inv, reached-tree, fresh-three}

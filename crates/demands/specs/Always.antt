@@ -13,7 +13,7 @@ use Rattle.table.specs.CellLaws.{bounded, forth, sized-table}
 use Rattle.table.specs.Sound.{sound}
 use Rattle.table.specs.declared.Cell.{Cell}
 use Rattle.meaning.specs.Step.{Outcome, still, step}
-use Rattle.meaning.specs.Run.{Call, stepCall, stepOf, made, turnedAway, callOf, run}
+use Rattle.meaning.specs.Run.{Call, stepCall, touchCall, stepOf, made, turnedAway, callOf, run}
 use Rattle.demands.specs.Invariant.{Sound, Inv}
 use Rattle.demands.specs.Ways.{Way, is-done, is-asleep, held-first, held-second, held-own, held-destination, looks-up, looks-home}
 use Rattle.demands.specs.Ways.{sleeps-alone, takes-first, goes-back, sleeps-stuck, takes-second, gives-up, enters, exits, opens}
@@ -26,15 +26,15 @@ use Rattle.demands.specs.Leaving.{keep-enter, keep-exit}
 use Rattle.demands.specs.Coming.{keep-come}
 use Rattle.demands.specs.Opening.{open-keeps}
 use Rattle.demands.specs.Unused.{untouched-none, untouched-bounded}
-use Rattle.demands.specs.SoundTest.{sound-true, sound-holds}
-use Rattle.demands.specs.Facts.{below-64}
+use Rattle.demands.specs.SoundTest.{sound-true, sound-bounded}
+use Rattle.demands.specs.Touching.{sized-touched, inv-touched, sound-touched}
 
 -- ---- one step of a cell
 
 module _ (c : State) (i : Sound c) (x : ℕ) (g : c .given x ≡ true) where
   -- where nothing changes
   same : Keeps c x c
-  same = record { sound = i; sleep = λ s. s; untouched = untouched-none c; others = λ y n. inl refl }
+  same = record { sound = i; sleep = λ s. s; untouched = untouched-none c; touched = refl; others = λ y n. inl refl }
 
   -- every way keeps the cell
   pub way-keeps : {wish : ℕ} {o : Outcome} → Way c x wish o → Keeps c x (o .cell)
@@ -75,7 +75,7 @@ step-inv c i x g wish = keeps-inv (step-keeps c (i .sound) x g wish) i
 -- ---- step calls on a table
 
 -- what a step call leaves: the table as it was, or that of a step of a given agent in a sound cell
-stepped : (P : Cell → Type 0) (t : Cell) (x wish : ℕ) → P t
+pub stepped : (P : Cell → Type 0) (t : Cell) (x wish : ℕ) → P t
     → (sound (cellOf t) ≡ true → cellOf t .given x ≡ true → P (tableOf (step (cellOf t) x wish .cell)))
     → P (stepOf t x wish .cell)
 unfolding stepOf made turnedAway
@@ -106,11 +106,13 @@ inv-stepped t x wish z i = stepped (λ (u : Cell). Inv (cellOf u)) t x wish i
 pub sized-called : (t : Cell) (k : Call) → Sized t → Sized (callOf t k .cell)
 unfolding callOf
 sized-called t (stepCall x wish) z = sized-stepped t x wish z
+sized-called t (touchCall q n) z = sized-touched t q n z
 
 -- and the invariant
 pub inv-called : (t : Cell) (k : Call) → Sized t → Inv (cellOf t) → Inv (cellOf (callOf t k .cell))
 unfolding callOf
 inv-called t (stepCall x wish) z i = inv-stepped t x wish z i
+inv-called t (touchCall q n) z i = inv-touched t q n z i
 
 -- so has every table after a list of calls
 pub sized-run : (t : Cell) (calls : List Call) → Sized t → Sized (run t calls)
@@ -126,10 +128,6 @@ inv-run t (k ∷ calls) z i = inv-run _ calls (sized-called t k z) (inv-called t
 
 -- ---- soundness as a test
 
--- a cell without places and agents past 64 that passes the test is sound
-pub sound-bounded : (c : State) → Bounded c → sound c ≡ true → Sound c
-sound-bounded c b = sound-holds c (below-64 (c .land .used) (b .used)) (below-64 (c .given) (b .given))
-
 -- a step in a cell that passes the test gives a cell that passes it
 pub step-keeps-sound : (c : State) → Bounded c → (x : ℕ) → c .given x ≡ true → (wish : ℕ) → sound c ≡ true → sound (step c x wish .cell) ≡ true
 step-keeps-sound c b x g wish e = sound-true _ (step-sound c (sound-bounded c b e) x g wish)
@@ -144,6 +142,7 @@ sound-stepped t x wish z e = stepped (λ (u : Cell). sound (cellOf u) ≡ true) 
 pub sound-called : (t : Cell) (k : Call) → Sized t → sound (cellOf t) ≡ true → sound (cellOf (callOf t k .cell)) ≡ true
 unfolding callOf
 sound-called t (stepCall x wish) z e = sound-stepped t x wish z e
+sound-called t (touchCall q n) z e = sound-touched t q n z e
 
 -- and every list of calls: a sound table is never turned away with 10
 pub sound-run : (t : Cell) (calls : List Call) → Sized t → sound (cellOf t) ≡ true → sound (cellOf (run t calls)) ≡ true

@@ -2,13 +2,14 @@
 -- and to leave every sleeper a reason to sleep. Each fact is one about the agent that steps, or one that the others keep.
 use mathlib.Core.Path.{_≡_, refl, sym, ap, _∙_, subst}
 use mathlib.Core.Logic.{_≢_, _⊎_, inl, inr}
-use Prim.Native.Nat.{ℕ, _<_}
+use Prim.Native.Nat.{ℕ, _≤_, _<_}
 use mathlib.Core.Bool.{Bool, true, false}
 use native.Mathlib.Omega.{arith}
 use Rattle.table.specs.Base.{upd}
 use Rattle.table.specs.BaseLaws.{Told, yea, nay, told, clash, eq?, upd-at, upd-other, upd-all}
 use Rattle.table.specs.Cell.{Land, State, none, linked, nextAction, kindOf}
 use Rattle.table.specs.Kinds.{Kind}
+use Rattle.table.specs.Sound.{touchSum, mostTouches}
 use Rattle.table.specs.declared.Agent.{Agent}
 use Rattle.demands.specs.Reading.{parentIn, agentIn}
 use Rattle.demands.specs.ReadingLaws.{agent-given}
@@ -17,6 +18,7 @@ use Rattle.demands.specs.Invariant.{Holds, near, far, own, destination, 
 use Rattle.demands.specs.Actions.{fit-stage, kind-of}
 use Rattle.demands.specs.Stages.{SameOrReset, same-between, ok-at, travels-away, holds-between, Returned}
 use Rattle.demands.specs.NoMore.{Untouched}
+use Rattle.demands.specs.Touches.{same-sum}
 use Rattle.demands.specs.Frame.{ok-frame, Roused, woken, unchanged, roused-home, roused-reset}
 
 -- a lock that no other agent has: it is free, or the agent that steps has it and says so by its stage
@@ -40,6 +42,8 @@ pub record Change (c c′ : State) (x : ℕ) (quiet : ℕ → Type 0) : Type 0 w
   -- no place goes out of use, and one that comes into use is linked and free
   pub used : (q : ℕ) → c .land .used q ≡ true → c′ .land .used q ≡ true
   pub fresh : (q : ℕ) → c .land .used q ≡ false → c′ .land .used q ≡ true → (linked (c′ .land) q ≡ true) × (c′ .lock q ≡ none)
+  -- touches are as they were
+  pub touches : c′ .touches ≡ c .touches
   pub new : Agent
   pub woke : ℕ → Agent
   pub reads : agentIn c′ ≡ upd woke x new
@@ -195,6 +199,10 @@ module _ {c c′ : State} {x : ℕ} {quiet : ℕ → Type 0} (i : Sound c) (m : 
   unfolding after
   read P p = subst P (sym (m .reads)) p
 
+  -- the sum of the touches stays
+  changed-sum : touchSum c′ ≡ touchSum c
+  changed-sum = same-sum c c′ (m .untouched) (m .used) (m .touches)
+
   -- the cell stays sound
   changed-sound : Sound c′
   unfolding after
@@ -208,6 +216,7 @@ module _ {c c′ : State} {x : ℕ} {quiet : ℕ → Type 0} (i : Sound c) (m : 
     ok = read (λ f. (y : ℕ) → Ok (c′ .land) (c′ .lock) y (f y)) (upd-all (m .woke) x (m .new) (Ok (c′ .land) (c′ .lock)) (m .ok) others-ok);
     locks = read (λ f. (q : ℕ) → c′ .land .used q ≡ true → Kept (c′ .land) (c′ .lock) f q) locks-kept;
     mover = read (λ f. (q : ℕ) → c′ .land .used q ≡ true → q ≢ 0 → linked (c′ .land) q ≡ false → Mover f q) moved;
+    touched = subst (λ (n : ℕ). n ≤ mostTouches) (sym changed-sum) (i .touched);
     single = read (λ f. (y z : ℕ) → Travels (f y) → Travels (f z) → f y .home ≡ f z .home → y ≡ z) single;
   }
 
@@ -231,11 +240,12 @@ module _ {c c′ : State} {x : ℕ} {quiet : ℕ → Type 0} (i : Sound c) (m : 
 -- ---- a step keeps the cell
 
 -- after a step of agent x the cell is sound, and its sleepers have a reason if those before had one; what is not in use is as it was,
--- and every other agent is as it was, or at stage 0 or 8
+-- the sum of the touches too, and every other agent is as it was, or at stage 0 or 8
 pub record Keeps (c : State) (x : ℕ) (c′ : State) : Type 0 where
   pub sound : Sound c′
   pub sleep : Reasons c → Reasons c′
   pub untouched : Untouched c c′
+  pub touched : touchSum c′ ≡ touchSum c
   pub others : (y : ℕ) → y ≢ x → SameOrReset (agentIn c y) (agentIn c′ y)
 
 -- so it keeps the invariant
@@ -249,5 +259,6 @@ keeps i m mine calm = record {
   sound = changed-sound i m;
   sleep = changed-sleep i m mine calm;
   untouched = m .untouched;
+  touched = changed-sum i m;
   others = changed-others i m;
 }

@@ -29,7 +29,7 @@ use Rattle.demands.specs.Stages.{not-between}
 use Rattle.demands.specs.SoundTest.{leads-all}
 use Rattle.demands.specs.Always.{step-back, sized-run, inv-run}
 use Rattle.demands.specs.Fresh.{Fresh}
-use Rattle.demands.specs.Loading.{accepted-fresh}
+use Rattle.demands.specs.LoadingFile.{accepted-fresh}
 use Rattle.demands.specs.LoadingLaws.{fresh-stage, fresh-inv, fresh-forth}
 use Rattle.demands.specs.Live.{Goes, live}
 use Rattle.demands.specs.AtRest.{all-linked, no-move}
@@ -96,7 +96,7 @@ module _ (t : Cell) (z : Sized t) (i : Inv (cellOf t)) where
 -- ---- the demand, from a fresh cell
 
 module _ (c : State) (f : Fresh c) (calls : List Call) where
-  start-inv : Inv (cellOf (tableOf c))
+  pub start-inv : Inv (cellOf (tableOf c))
   start-inv = subst Inv (sym (fresh-forth c f)) (fresh-inv c f)
 
   -- the table reached has the sizes of the struct

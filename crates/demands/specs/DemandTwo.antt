@@ -11,7 +11,7 @@ use Rattle.meaning.specs.Run.{Call}
 use Rattle.demands.specs.AfterCalls.{reached}
 use Rattle.demands.specs.DemandThree.{reached-sized, reached-inv}
 use Rattle.demands.specs.Fresh.{Fresh}
-use Rattle.demands.specs.Loading.{accepted-fresh}
+use Rattle.demands.specs.LoadingFile.{accepted-fresh}
 use Rattle.demands.specs.TwoSteps.{MovesReached}
 use Rattle.demands.specs.TwoChain.{raise}
 use Rattle.demands.specs.Two.{reach}

@@ -1,8 +1,9 @@
--- A cell right after an accepted load: one tree, nothing held, nothing on its way, every agent at the start of its row or done.
+-- A cell right after an accepted load: one tree, nothing held, nothing on its way, every agent at the start of its row or done, no touches but
+-- four-byte numbers.
 use mathlib.Core.Path.{_≡_}
 use mathlib.Core.List.{[]}
 use mathlib.Core.Bool.{true, false}
-use Prim.Native.Nat.{ℕ, _≤_, _<_}
+use Prim.Native.Nat.{ℕ, _^_, _≤_, _<_}
 use lib.ListN.{length}
 use Rattle.table.specs.Cell.{State, none, noPlace, freshAgent, kindOf, unused, looking, done}
 use Rattle.table.specs.Bounds.{Bounded}
@@ -33,4 +34,5 @@ pub record Fresh (c : State) : Type 0 where
   pub agents : (x : ℕ) → c .given x ≡ true → New (c .agent x)
   pub no-agents : (x : ℕ) → x < 64 → c .given x ≡ false → c .agent x ≡ freshAgent
   pub no-places : (q : ℕ) → c .land .used q ≡ false → c .land .place q ≡ noPlace
+  pub touches : (q : ℕ) → c .touches q < 2 ^ 32
   pub bounds : Bounded c

@@ -8,7 +8,7 @@ use Prim.Native.Nat.{ℕ, _≤_, _<_}
 use mathlib.Core.Bool.{true, false}
 use Rattle.table.specs.Cell.{Land, State, none, linked, kindOf, nameOf, unused, enterKind, exitKind, openKind}
 use Rattle.table.specs.Cell.{looking, found, holding, holdingBoth, onWay, onWayOwn, onWayBoth, asleep, done}
-use Rattle.table.specs.Sound.{secondPlace}
+use Rattle.table.specs.Sound.{secondPlace, touchSum, mostTouches}
 use Rattle.table.specs.declared.Agent.{Agent}
 use Rattle.meaning.specs.Step.{qualifies, stays}
 use Rattle.calculus.specs.Up.{Up}
@@ -106,6 +106,7 @@ pub record Sound (c : State) : Type 0 where
   pub ok : (x : ℕ) → Ok (c .land) (c .lock) x (agentIn c x)
   pub locks : (q : ℕ) → c .land .used q ≡ true → Kept (c .land) (c .lock) (agentIn c) q
   pub mover : (q : ℕ) → c .land .used q ≡ true → q ≢ 0 → linked (c .land) q ≡ false → Mover (agentIn c) q
+  pub touched : touchSum c ≤ mostTouches
   pub single : (x y : ℕ) → Travels (agentIn c x) → Travels (agentIn c y) → agentIn c x .home ≡ agentIn c y .home → x ≡ y
 
 -- why an agent sleeps: its place has no linked parent, or its action does not fire where it would look now

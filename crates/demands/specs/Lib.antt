@@ -5,6 +5,7 @@ pub mod Printed
 pub mod TwoSteps
 pub mod Agrees
 pub mod NoMore
+pub mod TouchTotal
 -- the theorems
 pub mod DemandOne
 pub mod DemandTwo
@@ -12,6 +13,7 @@ pub mod DemandThree
 pub mod PrintedLaws
 pub mod AgreesLaws
 pub mod NoMoreLaws
+pub mod TouchTotalLaws
 -- the invariant and the ways a step can go
 pub mod Reading
 pub mod ReadingLaws
@@ -34,6 +36,7 @@ pub mod SoundTestPlaces
 pub mod SoundTestTravellers
 -- every step keeps the invariant
 pub mod Unused
+pub mod Touches
 pub mod Frame
 pub mod Change
 pub mod Quiet
@@ -42,12 +45,15 @@ pub mod Coming
 pub mod OpeningAgents
 pub mod OpeningPlaces
 pub mod OpeningLocks
+pub mod OpeningTouches
 pub mod Opening
 pub mod Woken
+pub mod Touching
 pub mod Always
 -- an accepted load
 pub mod Fresh
 pub mod Loading
+pub mod LoadingFile
 pub mod LoadingLaws
 -- while an agent is awake, somebody can go on
 pub mod Live

@@ -1,30 +1,24 @@
--- An accepted load gives a fresh cell.
--- Idea: the bare floor is fresh and every record that is not refused keeps a cell fresh; a new place stands in one given earlier,
--- whose way to the floor does not meet it.
+-- The bare floor is fresh, and every record that is not refused keeps a cell fresh.
+-- Idea: a new place stands in one given earlier, whose way to the floor does not meet it.
 use mathlib.Core.Path.{_≡_, refl, sym, ap, _∙_, subst, fun-ext}
 use mathlib.Core.Logic.{_≢_, _⊎_, inl, inr}
-use mathlib.Core.List.{List}
 use mathlib.Core.Bool.{Bool, true, false, _||_, cond}
-use Prim.Native.Nat.{ℕ, zero, suc, _+_, _≤_, _<_}
+use Prim.Native.Nat.{ℕ, _+_, _^_, _≤_, _<_}
 use native.Mathlib.Omega.{arith}
-use lib.Dec.{ltb, eqb}
-use lib.ListN.{length, getD, set, length-set}
+use lib.Dec.{eqb}
+use lib.ListN.{getD, set, length-set}
 use lib.Seq.{getD-set-same, getD-set-other}
 use borrow.Author.Tests.{eqb-true, eq-eqb, ne-eqb, lt-ltb, leb-false}
 use Rattle.sets.specs.Word.{has}
 use Rattle.table.specs.Base.{upd}
-use Rattle.table.specs.BaseLaws.{Told, yea, nay, told, clash, eq?, upd-same, upd-at, upd-other, upd-all}
+use Rattle.table.specs.BaseLaws.{clash, eq?, upd-same, upd-at, upd-other, upd-all}
 use Rattle.table.specs.Cell.{Land, State, noPlace, noAction, freshAgent, linked, cellOf, bareTable, lastKind}
 use Rattle.table.specs.declared.Place.{Place}
 use Rattle.table.specs.declared.Action.{Action}
 use Rattle.table.specs.declared.Agent.{Agent}
-use Rattle.meaning.specs.Refusals.{afterEnd}
-use Rattle.meaning.specs.declared.Record.{Record}
-use Rattle.meaning.specs.declared.Record.the-variants.{PlaceRecord, AgentRecord, ActionRecord, EndRecord, Faulty}
 use Rattle.meaning.specs.Update.{linkedPlace, withHome, withAgent, withGiven}
-use Rattle.meaning.specs.File.{recordAt, addPlace, addAgent, withAction, addAction, isFull, knownIn, Load, accepted, refused, loadRecord, loadFrom, load}
-use Rattle.meaning.specs.FileLaws.{Fits, place, agent, action, end, faulty, record-fits, bare-bounded, bare-used, bare-given, bare-lock}
-use Rattle.meaning.specs.FileLaws.{bare-agent, bare-place, load-either}
+use Rattle.meaning.specs.File.{addPlace, addAgent, withAction, addAction, giveTouches, isFull}
+use Rattle.meaning.specs.FileLaws.{bare-bounded, bare-used, bare-given, bare-lock, bare-agent, bare-place, bare-touches}
 use Rattle.calculus.specs.Up.{Up, base, up, Off, off0, offs, move-up}
 use Rattle.demands.specs.Reading.{parentIn, nameIn}
 use Rattle.demands.specs.ReadingLaws.{readUsed, readParent, readName, readLinked, upd-self, written}
@@ -66,7 +60,7 @@ bare-parent q = go (eq? q 0)
     go (inl e) = ap (parentIn (cellOf bareTable .land)) e ∙ unfold parentIn in unfold cellOf in unfold bareTable in unfold has in refl
     go (inr n) = unfold parentIn in rw (bare-used q, ne-eqb q 0 n)
 
-bare-fresh : Fresh (cellOf bareTable)
+pub bare-fresh : Fresh (cellOf bareTable)
 bare-fresh = record {
   places = record {
     floor-used = bare-used 0;
@@ -84,6 +78,7 @@ bare-fresh = record {
   agents = λ x g. clash g (bare-given x);
   no-agents = λ x l _. bare-agent x l;
   no-places = λ q e. bare-place q (λ z. clash (ap (cellOf bareTable .land .used) z ∙ bare-used 0) e);
+  touches = λ q. rw (bare-touches q) (omega arith);
   bounds = bare-bounded;
 }
 
@@ -154,7 +149,7 @@ module _ (c : State) (f : Fresh c) (n p m : ℕ) (n0 : n ≢ 0) (n64 : n < 64) (
       named q u z (inl e) = rw (upd-at (nameIn was) n q m e) m1
       named q u z (inr d) = rw (upd-other (nameIn was) n q m d) (f .places .named q (used-before q d u) z)
 
-  add-place : Fresh (addPlace c n p m)
+  pub add-place : Fresh (addPlace c n p m)
   add-place = record {
     places = add-places;
     whole = λ q u z. rw linked-added (link q u z (eq? q n));
@@ -163,12 +158,14 @@ module _ (c : State) (f : Fresh c) (n p m : ℕ) (n0 : n ≢ 0) (n64 : n < 64) (
     agents = unfold addPlace in f .agents;
     no-agents = unfold addPlace in f .no-agents;
     no-places = λ q e. empty q e (eq? q n);
+    touches = unfold addPlace in f .touches;
     bounds = record {
       place = unfold addPlace in λ q l. upd-other (was .place) n q (linkedPlace m p) (λ z. absurd (omega arith)) ∙ f .bounds .place q l;
       used = λ q l. rw used-added (upd-other (was .used) n q true (λ z. absurd (omega arith)) ∙ f .bounds .used q l);
       lock = unfold addPlace in f .bounds .lock;
       agent = unfold addPlace in f .bounds .agent;
       given = unfold addPlace in f .bounds .given;
+      touches = unfold addPlace in f .bounds .touches;
     };
   }
     where
@@ -195,19 +192,21 @@ with-agent c f n a given l g home new = record {
   no-agents = upd-all (c .agent) n a (λ x b. x < 64 → given x ≡ false → b ≡ freshAgent)
       (λ _ e. clash (ap (λ (h : ℕ → Bool). h n) g ∙ upd-same (c .given) n true) e) (λ x d k e. f .no-agents x k (same x d ∙ e));
   no-places = f .no-places;
+  touches = f .touches;
   bounds = record {
     place = f .bounds .place;
     used = f .bounds .used;
     lock = f .bounds .lock;
     agent = λ x k. upd-other (c .agent) n x a (λ z. absurd (omega arith)) ∙ f .bounds .agent x k;
     given = λ x k. sym (same x (λ z. absurd (omega arith))) ∙ f .bounds .given x k;
+    touches = f .bounds .touches;
   };
 }
   where
     same : (x : ℕ) → x ≢ n → c .given x ≡ given x
     same x d = sym (ap (λ (h : ℕ → Bool). h x) g ∙ upd-other (c .given) n x true d)
 
-add-agent : (c : State) → Fresh c → (n home : ℕ) → n < 64 → c .given n ≡ false → c .land .used home ≡ true → Fresh (addAgent c n home)
+pub add-agent : (c : State) → Fresh c → (n home : ℕ) → n < 64 → c .given n ≡ false → c .land .used home ≡ true → Fresh (addAgent c n home)
 unfolding addAgent
 add-agent c f n home l new known =
     with-agent c f n (withHome (c .agent n) home) (λ j. eqb j n || c .given j) l (or-upd (c .given) n) known
@@ -236,7 +235,7 @@ new-action a kind name w room low high named = record {
     fits : Fit (withAction a kind name)
     fits = fit-from (withAction a kind name) (omega (arith, w .next)) (omega arith) (λ j l m. at j m (eq? j (a .count)))
 
-add-action : (c : State) → Fresh c → (n kind name : ℕ) → n < 64 → c .given n ≡ true → isFull c n ≡ false → 1 ≤ kind → kind ≤ lastKind → 1 ≤ name
+pub add-action : (c : State) → Fresh c → (n kind name : ℕ) → n < 64 → c .given n ≡ true → isFull c n ≡ false → 1 ≤ kind → kind ≤ lastKind → 1 ≤ name
     → Fresh (addAction c n kind name)
 unfolding addAction
 add-action c f n kind name l known room low high named =
@@ -244,41 +243,25 @@ add-action c f n kind name l known room low high named =
     (unfold withAction in f .homes n known)
     (new-action (c .agent n) kind name (f .agents n known) (leb-false 16 (c .agent n .count) room) low high named)
 
--- ---- the whole file
+-- ---- a touch record
 
--- a load that is accepted gives a fresh cell
-data Freshly : Load → Type 0 where
-  fresh : {c : State} → Fresh c → Freshly (accepted c)
-  away : {number offset : ℕ} → Freshly (refused number offset)
-
-load-from : (turns : ℕ) (c : State) (s : List ℕ) (at : ℕ) → Fresh c → Freshly (loadFrom turns c s at)
-unfolding loadFrom
-load-from zero c s at f = away
-load-from (suc turns) c s at f = go (told (ltb at (length s))) (record-fits (knownIn c) s at)
-    (λ d i g. load-from turns d s i g)
-  where
-    rest : ((d : State) (i : ℕ) → Fresh d → Freshly (loadFrom turns d s i)) → (r : Record) → Fits (knownIn c) r
-        → Freshly (loadRecord (λ d i. loadFrom turns d s i) c s at r)
-    rest h (PlaceRecord n p m) (place one low under new known named) =
-        unfold loadRecord in h (addPlace c n p m) (at + 5) (add-place c f n p m (λ z. absurd (omega arith)) low new known named)
-    rest h (AgentRecord n home) (agent low under new known) = unfold loadRecord in h (addAgent c n home) (at + 3) (add-agent c f n home low new known)
-    rest h (ActionRecord n k m) (action low known room one three named) =
-        unfold loadRecord in h (addAction c n k m) (at + 5) (add-action c f n k m low known room one three named)
-    rest h EndRecord end = unfold loadRecord in last (told (ltb (at + 1) (length s)))
-      where
-        last : Told (ltb (at + 1) (length s)) → Freshly (cond (ltb (at + 1) (length s)) (refused afterEnd (at + 1)) (accepted c))
-        last (yea e) = rw e away
-        last (nay e) = rw e (fresh f)
-    rest h (Faulty n) faulty = unfold loadRecord in away
-
-    go : Told (ltb at (length s)) → Fits (knownIn c) (recordAt (knownIn c) s at)
-        → ((d : State) (i : ℕ) → Fresh d → Freshly (loadFrom turns d s i)) → Freshly (loadFrom (suc turns) c s at)
-    go (yea e) t h = rw e (rest h _ t)
-    go (nay e) t h = rw e away
-
--- every accepted file gives a fresh cell
-pub accepted-fresh : (s : List ℕ) (c : State) → load s ≡ accepted c → Fresh c
-accepted-fresh s c e = got (subst Freshly e (load-either s Freshly (λ _. fresh bare-fresh) (load-from (suc (length s)) (cellOf bareTable) s 0 bare-fresh)))
-  where
-    got : {d : State} → Freshly (accepted d) → Fresh d
-    got (fresh f) = f
+pub give-touches : (c : State) → Fresh c → (q n : ℕ) → c .land .used q ≡ true → n < 2 ^ 32 → Fresh (giveTouches c q n)
+unfolding giveTouches
+give-touches c f q n u l = record {
+  places = f .places;
+  whole = f .whole;
+  free = f .free;
+  homes = f .homes;
+  agents = f .agents;
+  no-agents = f .no-agents;
+  no-places = f .no-places;
+  touches = upd-all (c .touches) q n (λ _ v. v < 2 ^ 32) l (λ r _. f .touches r);
+  bounds = record {
+    place = f .bounds .place;
+    used = f .bounds .used;
+    lock = f .bounds .lock;
+    agent = f .bounds .agent;
+    given = f .bounds .given;
+    touches = λ r k. upd-other (c .touches) q r n (λ z. clash (ap (c .land .used) z ∙ u) (f .bounds .used r k)) ∙ f .bounds .touches r k;
+  };
+}

@@ -4,13 +4,14 @@ use mathlib.Core.Path.{_≡_, refl}
 use mathlib.Core.Logic.{_⊎_, inl, inr}
 use mathlib.Core.List.{List}
 use mathlib.Core.Bool.{true}
-use Prim.Native.Nat.{ℕ}
+use Prim.Native.Nat.{ℕ, _^_, _≤_}
 use native.Mathlib.Omega.{arith}
-use Rattle.table.specs.BaseLaws.{clash}
+use Rattle.table.specs.BaseLaws.{Told, yea, nay, told, clash}
+use Rattle.table.specs.SumLaws.{sum-most}
 use Rattle.table.specs.Bounds.{Bounded}
 use Rattle.table.specs.Cell.{State, freshAgent, cellOf, tableOf}
 use Rattle.table.specs.CellLaws.{forth}
-use Rattle.table.specs.Sound.{leads, sound}
+use Rattle.table.specs.Sound.{leads, touchesAt, touchSum, mostTouches, sound}
 use Rattle.meaning.specs.File.{accepted, load}
 use Rattle.meaning.specs.Run.{settled}
 use Rattle.demands.specs.Reading.{agentIn}
@@ -22,7 +23,7 @@ use Rattle.demands.specs.Fresh.{Starts, looks, without, Fresh}
 use Rattle.demands.specs.Given.{agent-all}
 use Rattle.demands.specs.SoundTestActions.{fit-empty}
 use Rattle.demands.specs.SoundTest.{sound-true, leads-all}
-use Rattle.demands.specs.Loading.{accepted-fresh}
+use Rattle.demands.specs.LoadingFile.{accepted-fresh}
 
 -- ---- a fresh cell
 
@@ -46,6 +47,15 @@ module _ (c : State) (f : Fresh c) where
       go (looks s k) = ok0 s k
       go (without s e) = ok8 s e
 
+  -- 64 four-byte numbers stay below the bound
+  pub fresh-touches : touchSum c ≤ mostTouches
+  unfolding touchSum
+  fresh-touches = let m = sum-most (touchesAt c) 64 (2 ^ 32) (λ q _. few q (told (c .land .used q))) in omega (arith, m)
+    where
+      few : (q : ℕ) → Told (c .land .used q) → touchesAt c q ≤ 2 ^ 32
+      few q (yea u) = let l = f .touches q in rw u (omega arith)
+      few q (nay u) = rw u (omega arith)
+
   fresh-sound : Sound c
   fresh-sound = record {
     places = f .places;
@@ -55,6 +65,7 @@ module _ (c : State) (f : Fresh c) where
     ok = fresh-ok;
     locks = λ q u. free (f .free q (f .places .small q u));
     mover = λ q u z e. clash (f .whole q u z) e;
+    touched = fresh-touches;
     single = λ x y t v e. absurd (not-between (fresh-stage x) (omega (arith, t .from)) (omega (arith, t .to)));
   }
 
@@ -80,6 +91,10 @@ module _ (s : List ℕ) (c : State) (e : load s ≡ accepted c) where
   -- it is sound
   pub accepted-sound : sound c ≡ true
   accepted-sound = sound-true c (accepted-inv .sound)
+
+  -- no load passes the bound of touches
+  pub accepted-touches : touchSum c ≤ mostTouches
+  accepted-touches = fresh-touches c (accepted-fresh s c e)
 
   -- it is settled
   pub accepted-settled : settled c ≡ true

@@ -1,7 +1,8 @@
 -- What a call changes, and no more (demand 2): the claim. Definitions only.
 use mathlib.Core.Path.{_≡_}
-use mathlib.Core.Bool.{Bool, true, false, not, _&&_}
-use Prim.Native.Nat.{ℕ}
+use mathlib.Core.Logic.{_≢_}
+use mathlib.Core.Bool.{Bool, true, false, not, _&&_, cond}
+use Prim.Native.Nat.{ℕ, _+_}
 use lib.Dec.{eqb}
 use Rattle.table.specs.Cell.{State}
 use Rattle.table.specs.declared.Agent.{Agent}
@@ -10,7 +11,7 @@ use Rattle.meaning.specs.declared.Word.the-variants.{Looked, Took, Held, Back, 
 use Rattle.meaning.specs.declared.Answer.{Answer}
 use Rattle.meaning.specs.declared.Answer.the-variants.{Did, Refused}
 
--- from cell c to cell d nothing is changed that is not in use: such a place keeps its name, parent and way, its lock, and stays unused;
+-- from cell c to cell d nothing is changed that is not in use: such a place keeps its name, parent and way, its lock and touches, and stays unused;
 -- an agent that is not given keeps every field, and the same agents are given
 pub record Untouched (c d : State) : Type 0 where
   pub place : (q : ℕ) → c .land .used q ≡ false → d .land .place q ≡ c .land .place q
@@ -18,6 +19,7 @@ pub record Untouched (c d : State) : Type 0 where
   pub unused : (q : ℕ) → c .land .used q ≡ false → d .land .used q ≡ false
   pub agent : (y : ℕ) → c .given y ≡ false → d .agent y ≡ c .agent y
   pub given : d .given ≡ c .given
+  pub touches : (q : ℕ) → c .land .used q ≡ false → d .touches q ≡ c .touches q
 
 -- the word is opened
 abbrev pub isOpened : Word → Bool
@@ -41,7 +43,25 @@ saysOpened (Refused number) = false
 abbrev pub usedAfter : Answer → Agent → (ℕ → Bool) → ℕ → Bool
 usedAfter answer a used q = not (saysOpened answer && eqb q (a .chosen)) && used q
 
--- by a call of agent x with this answer nothing is changed that is not in use, and the places in use are the same but for the one that is opened
+-- "its count is pooled into the place of the agent that opened it" (document 02, W3), and the number that becomes unused has none: the touches
+-- after a call of an agent, which is a, with this answer
+abbrev pub touchesAfter : Answer → Agent → (ℕ → ℕ) → ℕ → ℕ
+touchesAfter answer a touches q =
+    cond (saysOpened answer)
+    (cond (eqb q (a .chosen)) 0 (cond (eqb q (a .home)) (touches q + touches (a .chosen)) (touches q)))
+    (touches q)
+
+-- by a step call of agent x with this answer nothing is changed that is not in use; the places in use are the same but for the one that is
+-- opened, and so are the touches but for that one and the opener's place
 pub record NoMore (c : State) (x : ℕ) (d : State) (answer : Answer) : Type 0 where
   pub untouched : Untouched c d
   pub used : (q : ℕ) → d .land .used q ≡ usedAfter answer (c .agent x) (c .land .used) q
+  pub touches : (q : ℕ) → d .touches q ≡ touchesAfter answer (c .agent x) (c .touches) q
+
+-- "A touch call adds a four-byte number to a place", and that is all: from cell c to cell d the touches of place p change and nothing else
+pub record OnlyTouches (c : State) (p : ℕ) (d : State) : Type 0 where
+  pub land : d .land ≡ c .land
+  pub lock : d .lock ≡ c .lock
+  pub agent : d .agent ≡ c .agent
+  pub given : d .given ≡ c .given
+  pub touches : (q : ℕ) → q ≢ p → d .touches q ≡ c .touches q

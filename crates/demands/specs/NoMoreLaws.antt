@@ -1,9 +1,10 @@
 -- A call changes what its step says, and no more: of every table, every agent and wish, and over every list of calls.
--- Each way that a step can go leaves alone what is not in use, and only the one that opens makes a number unused.
-use mathlib.Core.Path.{_≡_, refl, sym, subst}
-use mathlib.Core.Bool.{true}
+-- Each way that a step can go leaves alone what is not in use, and only the one that opens makes a number unused and moves touches.
+use mathlib.Core.Path.{_≡_, refl, sym, ap, _∙_, subst}
+use mathlib.Core.Bool.{true, cond}
 use mathlib.Core.List.{List, [], _∷_}
-use Prim.Native.Nat.{ℕ}
+use Prim.Native.Nat.{ℕ, _+_}
+use lib.Dec.{eqb}
 use Rattle.table.specs.BaseLaws.{Told, yea, nay, told}
 use Rattle.table.specs.Bounds.{Sized}
 use Rattle.table.specs.Cell.{State, cellOf, tableOf}
@@ -12,15 +13,20 @@ use Rattle.table.specs.Sound.{sound}
 use Rattle.table.specs.declared.Cell.{Cell}
 use Rattle.meaning.specs.declared.Answer.the-variants.{Did}
 use Rattle.meaning.specs.Step.{Outcome, still, leave, dissolve, arrive, step}
-use Rattle.meaning.specs.Run.{Call, stepCall, stepOf, made, turnedAway, callOf, run}
-use Rattle.demands.specs.NoMore.{Untouched, usedAfter, NoMore}
+use Rattle.meaning.specs.Run.{Call, stepCall, touchCall, stepOf, made, turnedAway, callOf, run}
+use Rattle.meaning.specs.Touch.{counted, untouched, touchOf}
+use Rattle.demands.specs.NoMore.{Untouched, usedAfter, touchesAfter, NoMore, OnlyTouches}
 use Rattle.demands.specs.Invariant.{Sound}
 use Rattle.demands.specs.Ways.{Way, is-done, is-asleep, held-first, held-second, held-own, held-destination, looks-up, looks-home}
 use Rattle.demands.specs.Ways.{sleeps-alone, takes-first, goes-back, sleeps-stuck, takes-second, gives-up, enters, exits, opens}
 use Rattle.demands.specs.Ways.{takes-own, takes-destination, comes}
 use Rattle.demands.specs.StepWays.{step-way}
 use Rattle.demands.specs.Unused.{untouched-none, untouched-more}
-use Rattle.demands.specs.Always.{step-keeps, step-back, sound-bounded, sized-called}
+use Rattle.demands.specs.OpeningLocks.{opener}
+use Rattle.demands.specs.OpeningTouches.{open-touches}
+use Rattle.demands.specs.Touching.{touch-only, touch-untouched, touched, touch-back}
+use Rattle.demands.specs.SoundTest.{sound-bounded}
+use Rattle.demands.specs.Always.{step-keeps, step-back, sized-called}
 
 -- ---- one step of a cell
 
@@ -49,10 +55,42 @@ way-used (takes-own _ _) q = refl
 way-used (takes-destination _ _) q = refl
 way-used (comes _) q = refl
 
+-- the touches after each way: the opener remembers its home
+way-touches : {c : State} {x wish : ℕ} {o : Outcome} → Sound c → c .given x ≡ true → Way c x wish o
+    → (q : ℕ) → o .cell .touches q ≡ touchesAfter (Did (o .word) (o .woken)) (c .agent x) (c .touches) q
+unfolding still leave arrive
+way-touches i g (is-done _) q = refl
+way-touches i g (is-asleep _) q = refl
+way-touches i g (held-first _ _) q = refl
+way-touches i g (held-second _ _ _ _) q = refl
+way-touches i g (held-own _ _) q = refl
+way-touches i g (held-destination _ _) q = refl
+way-touches i g (looks-up _ _ _) q = refl
+way-touches i g (looks-home _ _) q = refl
+way-touches i g (sleeps-alone _ _ _) q = refl
+way-touches i g (takes-first _ _) q = refl
+way-touches i g (goes-back _ _) q = refl
+way-touches i g (sleeps-stuck _ _ _) q = refl
+way-touches i g (takes-second _ _ _ _ _ _) q = refl
+way-touches i g (gives-up _ _) q = refl
+way-touches i g (enters _ _ _) q = refl
+way-touches i g (exits _ _ _) q = refl
+way-touches {c} {x} i g (opens s k _) q =
+    let o = opener c i x g s k in
+    open-touches i o q ∙ (unfold dissolve in
+    ap (λ (h : ℕ). cond (eqb q (c .agent x .chosen)) 0 (cond (eqb q h) (c .touches q + c .touches (c .agent x .chosen)) (c .touches q))) (sym (o .home)))
+way-touches i g (takes-own _ _) q = refl
+way-touches i g (takes-destination _ _) q = refl
+way-touches i g (comes _) q = refl
+
 -- a step of a given agent in a sound cell
 pub step-no-more : (c : State) → Sound c → (x : ℕ) → c .given x ≡ true → (wish : ℕ)
     → NoMore c x (step c x wish .cell) (Did (step c x wish .word) (step c x wish .woken))
-step-no-more c i x g wish = record { untouched = step-keeps c i x g wish .untouched; used = way-used (step-way c i x g wish) }
+step-no-more c i x g wish = record {
+  untouched = step-keeps c i x g wish .untouched;
+  used = way-used (step-way c i x g wish);
+  touches = way-touches i g (step-way c i x g wish);
+}
 
 -- ---- calls on a table
 
@@ -62,21 +100,35 @@ made-no-more : (t : Cell) → Sized t → Sound (cellOf t) → (x : ℕ) → cel
 made-no-more t z i x g wish = subst (λ (d : State). NoMore (cellOf t) x d (Did (step (cellOf t) x wish .word) (step (cellOf t) x wish .woken)))
     (sym (step-back t z i x g wish)) (step-no-more (cellOf t) i x g wish)
 
--- a call changes nothing that is not in use, and makes no number unused but that of the place that it opens; the table has the sizes of the
--- struct, as every value of it has
+-- a step call changes nothing that is not in use, makes no number unused but that of the place that it opens, and moves that one's touches to
+-- the opener's place and no others; the table has the sizes of the struct, as every value of it has
 pub no-more : (t : Cell) (x wish : ℕ) → Sized t → NoMore (cellOf t) x (cellOf (stepOf t x wish .cell)) (stepOf t x wish .answer)
 unfolding stepOf made turnedAway
 no-more t x wish z = go (told (sound (cellOf t))) (told (cellOf t .given x))
   where
     go : Told (sound (cellOf t)) → Told (cellOf t .given x) → NoMore (cellOf t) x (cellOf (stepOf t x wish .cell)) (stepOf t x wish .answer)
     go (yea e) (yea g) = rw (e, g) (made-no-more t z (sound-bounded (cellOf t) (bounded t z) e) x g wish)
-    go (yea e) (nay g) = rw (e, g) (record { untouched = untouched-none (cellOf t); used = λ q. refl })
-    go (nay e) _ = rw e (record { untouched = untouched-none (cellOf t); used = λ q. refl })
+    go (yea e) (nay g) = rw (e, g) (record { untouched = untouched-none (cellOf t); used = λ q. refl; touches = λ q. refl })
+    go (nay e) _ = rw e (record { untouched = untouched-none (cellOf t); used = λ q. refl; touches = λ q. refl })
+
+-- a touch call changes nothing but the touches of the place that it names
+pub only-touches : (t : Cell) (q n : ℕ) → Sized t → OnlyTouches (cellOf t) q (cellOf (touchOf t q n .cell))
+unfolding counted untouched
+only-touches t q n z = touched (λ s. OnlyTouches (cellOf t) q (cellOf (s .cell))) t q n
+    (λ _. record { land = refl; lock = refl; agent = refl; given = refl; touches = λ r d. refl })
+    (λ u _. subst (OnlyTouches (cellOf t) q) (sym (touch-back t q n z u)) (touch-only (cellOf t) q n))
+
+-- and nothing of a number that is not in use
+touched-untouched : (t : Cell) (q n : ℕ) → Sized t → Untouched (cellOf t) (cellOf (touchOf t q n .cell))
+unfolding counted untouched
+touched-untouched t q n z = touched (λ s. Untouched (cellOf t) (cellOf (s .cell))) t q n (λ _. untouched-none (cellOf t))
+    (λ u _. subst (Untouched (cellOf t)) (sym (touch-back t q n z u)) (touch-untouched (cellOf t) q n u))
 
 -- any call leaves alone what is not in use
 pub called-untouched : (t : Cell) (k : Call) → Sized t → Untouched (cellOf t) (cellOf (callOf t k .cell))
 unfolding callOf
 called-untouched t (stepCall x wish) z = no-more t x wish z .untouched
+called-untouched t (touchCall q n) z = touched-untouched t q n z
 
 -- over a list of calls what was not in use is as it was; what an opening made unused stays so, by the same law from there on
 pub no-more-run : (t : Cell) (calls : List Call) → Sized t → Untouched (cellOf t) (cellOf (run t calls))

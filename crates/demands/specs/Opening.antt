@@ -9,6 +9,7 @@ use native.Mathlib.Omega.{arith}
 use Rattle.table.specs.Base.{upd}
 use Rattle.table.specs.BaseLaws.{Told, yea, nay, told, clash, eq?, upd-other, upd-all}
 use Rattle.table.specs.Cell.{Land, State, freshAgent, linked, nextAction, kindOf, unused, openKind}
+use Rattle.table.specs.Sound.{mostTouches}
 use Rattle.table.specs.declared.Agent.{Agent}
 use Rattle.meaning.specs.Update.{atStage, useUp, released}
 use Rattle.meaning.specs.Step.{awaited, fires, dissolve, dissolveLand, dissolveLock, dissolveAgent, restStage}
@@ -28,6 +29,7 @@ use Rattle.demands.specs.OpeningAgents.{home-after, fit-same}
 use Rattle.demands.specs.OpeningPlaces.{linked-not-floor, used-same, used-before, linked-same, linked-before, name-same, parent-same}
 use Rattle.demands.specs.OpeningPlaces.{parent-up, parent-kept, places-dissolved, away-same}
 use Rattle.demands.specs.OpeningLocks.{Opener, opener, others, has-same, elsewhere-same, away-kept, locks-kept}
+use Rattle.demands.specs.OpeningTouches.{open-sum}
 
 -- an agent of a linked place that is not done has an action left
 linked-some : {l : Land} {lock : ℕ → ℕ} {x : ℕ} {a : Agent} → linked l (a .home) ≡ true → a .stage ≢ 8 → Ok l lock x a → 1 ≤ kindOf a
@@ -160,6 +162,7 @@ module _ (c : State) (i : Sound c) (x : ℕ) (g : c .given x ≡ true) (s : c .a
         (rest-ok (useUp (c .agent x)) fit-opener) (λ y n. ok-other n (dissolved p t (agentIn c y))));
     locks = read (λ f. (q : ℕ) → after .used q ≡ true → Kept after locks f q) (locks-kept i o w agents others-are);
     mover = read (λ f. (q : ℕ) → after .used q ≡ true → q ≢ 0 → linked after q ≡ false → Mover f q) mover-kept;
+    touched = subst (λ (n : ℕ). n ≤ mostTouches) (sym (open-sum i o)) (i .touched);
     single = read (λ f. (y z : ℕ) → Travels (f y) → Travels (f z) → f y .home ≡ f z .home → y ≡ z)
         (λ y z v u e. i .single y z (subst Travels (went y v) v) (subst Travels (went z u) u)
         (ap (λ (a : Agent). a .home) (sym (went y v)) ∙ e ∙ ap (λ (a : Agent). a .home) (went z u)));
@@ -236,5 +239,6 @@ open-keeps c i x g s k f =
       sound = sound-opened c i x g s k _ _ o w;
       sleep = sleep-opened c i x g s k _ _ o w;
       untouched = opened-untouched c x g _ _ (ok-at 3 s (ok-given c i x g) .0 .known) (link-used (c .land) _ (o .under .link));
+      touched = open-sum i o;
       others = others-opened c i x g s k _ _ o w;
     }

@@ -4,7 +4,7 @@ use Prim.Native.Nat.{ℕ}
 use Rattle.table.specs.Base.{tab}
 use Rattle.table.specs.Cell.{State}
 use Rattle.meaning.specs.Text.{ascii}
-use Rattle.meaning.specs.Run.{Call, stepCall, agentOf, Reply, stepReply}
+use Rattle.meaning.specs.Run.{Call, stepCall, agentOf, Reply, stepReply, touchReply}
 use Rattle.meaning.specs.Calculus.{Tree}
 use Rattle.meaning.specs.Plain.{plainOf}
 use Rattle.meaning.specs.TreeListing.{treeListing}
@@ -21,9 +21,10 @@ unfoldable pub pairCalls : List Pair → List Call
 pairCalls [] = []
 pairCalls (k ∷ pairs) = stepCall (k .agent) (k .wish) ∷ pairCalls pairs
 
--- "between, agent, answer, number woken": the line of a call with what it answered
+-- "between, agent, answer, number woken": the line of a call with what it answered; walk makes no touch calls
 abbrev pub replyLine : Call → Reply → List ℕ
 replyLine k (stepReply a) = stepLine (agentOf k) a
+replyLine k (touchReply a) = []
 
 -- a line for each call
 unfoldable pub stepLines : List Call → List Reply → List ℕ

@@ -14,7 +14,7 @@ use Rattle.meaning.specs.Run.{Call, stepOf, callOf, run, answers}
 use Rattle.meaning.specs.Plain.{treeOf, plainOf}
 use Rattle.meaning.specs.Report.{Pair, stepLine, listingLine, refusedLine, callsIn, reportRun, reportOf, report}
 use Rattle.demands.specs.Fresh.{Fresh}
-use Rattle.demands.specs.Loading.{accepted-fresh}
+use Rattle.demands.specs.LoadingFile.{accepted-fresh}
 use Rattle.demands.specs.LoadingLaws.{fresh-forth}
 use Rattle.demands.specs.AfterCalls.{reached, answered, plainAfter}
 use Rattle.demands.specs.DemandThree.{reached-tree}

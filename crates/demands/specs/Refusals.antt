@@ -4,30 +4,34 @@ use mathlib.Core.Path.{_≡_}
 use mathlib.Core.Logic.{_↔_}
 use mathlib.Core.Bool.{Bool, true, false, _&&_, _||_}
 use mathlib.Core.List.{List, []}
-use Prim.Native.Nat.{ℕ, _≤_, _<_}
+use Prim.Native.Nat.{ℕ, _+_, _≤_, _<_}
 use lib.Dec.{leb, eqb}
 use lib.ListN.{length}
 use Rattle.table.specs.Cell.{cellOf}
-use Rattle.table.specs.Sound.{sound}
+use Rattle.table.specs.Sound.{touchSum, mostTouches, sound}
 use Rattle.table.specs.declared.Cell.{Cell}
 use Rattle.meaning.specs.declared.Verdict.the-variants.{Rejected}
 use Rattle.meaning.specs.declared.Answer.the-variants.{Refused}
 use Rattle.meaning.specs.declared.Listed.the-variants.{Unlisted}
+use Rattle.meaning.specs.declared.Touching.the-variants.{Untouched}
 use Rattle.meaning.specs.declared.Checked.the-variants.{Unsound}
 use Rattle.meaning.specs.declared.Idled.the-variants.{Unknown}
-use Rattle.meaning.specs.Refusals.{cutShort, afterEnd, parentTooLarge, agentTooLarge, unsoundTable, noSuchAgent, tooLong}
+use Rattle.meaning.specs.Refusals.{cutShort, afterEnd, placeTooLarge, notYetGiven, parentTooLarge, agentTooLarge, unsoundTable, noSuchAgent, tooLong, tooManyTouches}
 use Rattle.meaning.specs.File.{refused, load, loadOf}
 use Rattle.meaning.specs.Run.{stepOf}
+use Rattle.meaning.specs.Touch.{touchOf, touchesOf}
 use Rattle.meaning.specs.Listing.{listing, listAnswer, listBuffer}
 use Rattle.meaning.specs.Codes.{checkOf, idleOf}
 
 -- ---- the calls
 
--- a call with what it is given: a table with anything in it; a file, an agent and a wish, or a buffer
+-- a call with what it is given: a table with anything in it; a file, an agent and a wish, a buffer, a place and a number, or a place
 pub data KeeperCall : Type 0 where
   load-call : Cell → List ℕ → KeeperCall
   step-call : Cell → ℕ → ℕ → KeeperCall
   list-call : Cell → List ℕ → KeeperCall
+  touch-call : Cell → ℕ → ℕ → KeeperCall
+  touches-call : Cell → ℕ → KeeperCall
   check-call : Cell → KeeperCall
   idle-call : Cell → KeeperCall
 
@@ -38,6 +42,9 @@ pub data Refuses : KeeperCall → ℕ → ℕ → Type 0 where
   step-refused : {t : Cell} {agent wish number : ℕ} → stepOf t agent wish .answer ≡ Refused number → Refuses (step-call t agent wish) number 0
   list-refused : {t : Cell} {buffer : List ℕ} {number : ℕ} → listAnswer (cellOf t) buffer ≡ Unlisted number
       → Refuses (list-call t buffer) number 0
+  touch-refused : {t : Cell} {place touches number : ℕ} → touchOf t place touches .answer ≡ Untouched number
+      → Refuses (touch-call t place touches) number 0
+  touches-refused : {t : Cell} {place number : ℕ} → touchesOf t place ≡ Untouched number → Refuses (touches-call t place) number 0
   check-refused : {t : Cell} {number : ℕ} → checkOf t ≡ Unsound number → Refuses (check-call t) number 0
   idle-refused : {t : Cell} {number : ℕ} → idleOf t ≡ Unknown number → Refuses (idle-call t) number 0
 
@@ -47,11 +54,17 @@ pub data Refuses : KeeperCall → ℕ → ℕ → Type 0 where
 abbrev pub ofFile : ℕ → Bool
 ofFile number = (leb cutShort number && leb number afterEnd) || (eqb number parentTooLarge || eqb number agentTooLarge)
 
--- the numbers of each call: "Calls on a table test 10 first, then 11 or 12"
+-- the numbers of a call on one place: 10, 3 and 5
+abbrev pub ofPlace : ℕ → Bool
+ofPlace number = eqb number unsoundTable || (eqb number placeTooLarge || eqb number notYetGiven)
+
+-- the numbers of each call: "Calls on a table test 10 first, then 11 or 12"; a touch call's last is 15 (document 02, W3)
 abbrev pub mayAnswer : KeeperCall → ℕ → Bool
 mayAnswer (load-call t file) number = ofFile number
 mayAnswer (step-call t agent wish) number = eqb number unsoundTable || eqb number noSuchAgent
 mayAnswer (list-call t buffer) number = eqb number unsoundTable || eqb number tooLong
+mayAnswer (touch-call t place touches) number = ofPlace number || eqb number tooManyTouches
+mayAnswer (touches-call t place) number = ofPlace number
 mayAnswer (check-call t) number = eqb number unsoundTable
 mayAnswer (idle-call t) number = eqb number unsoundTable
 
@@ -65,6 +78,17 @@ pub data Grounds : KeeperCall → ℕ → ℕ → Type 0 where
   list-10 : {t : Cell} {buffer : List ℕ} → sound (cellOf t) ≡ false → Grounds (list-call t buffer) unsoundTable 0
   list-12 : {t : Cell} {buffer : List ℕ} → sound (cellOf t) ≡ true → length buffer < length (listing (cellOf t))
       → Grounds (list-call t buffer) tooLong 0
+  -- "or 3 for a place above 63 and 5 for an unused one"; "15, last in a touch call", if that call would make the table unsound
+  touch-10 : {t : Cell} {place touches : ℕ} → sound (cellOf t) ≡ false → Grounds (touch-call t place touches) unsoundTable 0
+  touch-3 : {t : Cell} {place touches : ℕ} → sound (cellOf t) ≡ true → 64 ≤ place → Grounds (touch-call t place touches) placeTooLarge 0
+  touch-5 : {t : Cell} {place touches : ℕ} → sound (cellOf t) ≡ true → place < 64 → cellOf t .land .used place ≡ false
+      → Grounds (touch-call t place touches) notYetGiven 0
+  touch-15 : {t : Cell} {place touches : ℕ} → sound (cellOf t) ≡ true → place < 64 → cellOf t .land .used place ≡ true
+      → mostTouches < touchSum (cellOf t) + touches → Grounds (touch-call t place touches) tooManyTouches 0
+  touches-10 : {t : Cell} {place : ℕ} → sound (cellOf t) ≡ false → Grounds (touches-call t place) unsoundTable 0
+  touches-3 : {t : Cell} {place : ℕ} → sound (cellOf t) ≡ true → 64 ≤ place → Grounds (touches-call t place) placeTooLarge 0
+  touches-5 : {t : Cell} {place : ℕ} → sound (cellOf t) ≡ true → place < 64 → cellOf t .land .used place ≡ false
+      → Grounds (touches-call t place) notYetGiven 0
   check-10 : {t : Cell} → sound (cellOf t) ≡ false → Grounds (check-call t) unsoundTable 0
   idle-10 : {t : Cell} → sound (cellOf t) ≡ false → Grounds (idle-call t) unsoundTable 0
 
@@ -80,6 +104,8 @@ abbrev pub before : KeeperCall → Lent
 before (load-call t file) = record { table = t; bytes = file }
 before (step-call t agent wish) = record { table = t; bytes = [] }
 before (list-call t buffer) = record { table = t; bytes = buffer }
+before (touch-call t place touches) = record { table = t; bytes = [] }
+before (touches-call t place) = record { table = t; bytes = [] }
 before (check-call t) = record { table = t; bytes = [] }
 before (idle-call t) = record { table = t; bytes = [] }
 
@@ -88,6 +114,8 @@ abbrev pub after : KeeperCall → Lent
 after (load-call t file) = record { table = loadOf t file .cell; bytes = file }
 after (step-call t agent wish) = record { table = stepOf t agent wish .cell; bytes = [] }
 after (list-call t buffer) = record { table = t; bytes = listBuffer (cellOf t) buffer }
+after (touch-call t place touches) = record { table = touchOf t place touches .cell; bytes = [] }
+after (touches-call t place) = record { table = t; bytes = [] }
 after (check-call t) = record { table = t; bytes = [] }
 after (idle-call t) = record { table = t; bytes = [] }
 

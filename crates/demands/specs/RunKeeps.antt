@@ -1,6 +1,7 @@
 -- A run of calls on a table whose cell has the invariant keeps the plain tree beside the cell, by one permitted move for each left or opened.
--- By induction over the calls: a call for an agent that is not given is refused with 11 and changes nothing; any other is a step.
-use mathlib.Core.Path.{_≡_, sym, ap, subst}
+-- By induction over the calls: a step call for an agent that is not given is refused with 11 and changes nothing, any other is a step; a touch
+-- call changes touches, of which the plain tree knows nothing.
+use mathlib.Core.Path.{_≡_, refl, sym, ap, subst}
 use mathlib.Core.List.{List, [], _∷_}
 use mathlib.Core.Bool.{true, false}
 use Prim.Native.Nat.{ℕ}
@@ -12,12 +13,15 @@ use Rattle.table.specs.Sound.{sound}
 use Rattle.table.specs.declared.Cell.{Cell}
 use Rattle.meaning.specs.Refusals.{noSuchAgent}
 use Rattle.meaning.specs.Step.{step}
-use Rattle.meaning.specs.Run.{Call, stepCall, agentOf, Reply, Called, byStep, made, turnedAway, stepOf, callOf, run, answers}
+use Rattle.meaning.specs.Run.{Call, stepCall, touchCall, agentOf, Reply, Called, byStep, byTouch, made, turnedAway, stepOf, callOf, run, answers}
+use Rattle.meaning.specs.Touch.{addTouches, counted, untouched, touchOf}
 use Rattle.meaning.specs.Calculus.{Tree}
-use Rattle.meaning.specs.Plain.{Plain, plainStep, plainRun, saysMove, History, start, moved, stayed}
+use Rattle.meaning.specs.Plain.{Plain, treeOf, plainStep, plainRun, saysMove, History, start, moved, stayed}
+use Rattle.demands.specs.Reading.{agentIn}
 use Rattle.demands.specs.Invariant.{Inv}
 use Rattle.demands.specs.StepWays.{step-way}
 use Rattle.demands.specs.SoundTest.{sound-true}
+use Rattle.demands.specs.Touching.{touched, touch-back, sized-touched, inv-touched}
 use Rattle.demands.specs.Always.{step-inv, step-back}
 use Rattle.demands.specs.SamePlain.{Same}
 use Rattle.demands.specs.MovesMade.{MovedOrSame, unmoved, way-follows}
@@ -76,9 +80,14 @@ module _ (t : Cell) (i : Inv (cellOf t)) (x wish : ℕ) where
   unfolding stepOf
   call-refused g = rw (sound-true (cellOf t) (i .sound), g)
 
+-- a cell with some touches more has the same plain tree beside it
+same-touched : (c : State) (q n : ℕ) (p : Plain) → Same c p → Same (addTouches c q n) p
+unfolding treeOf agentIn
+same-touched c q n p m = record { tree = m .tree; travels = m .travels; pick = m .pick }
+
 -- a run keeps the plain tree beside the cell
 pub run-keeps : (calls : List Call) (t : Cell) → Sized t → Inv (cellOf t) → (p : Plain) → Same (cellOf t) p → Beside t p calls
-unfolding run answers plainRun made turnedAway plainStep callOf
+unfolding run answers plainRun made turnedAway plainStep callOf counted untouched
 run-keeps [] t z i p m = record { same = m; steps = no-step }
 run-keeps (stepCall x wish ∷ calls) t z i p m = go (told (cellOf t .given x)) (run-keeps calls)
   where
@@ -92,3 +101,6 @@ run-keeps (stepCall x wish ∷ calls) t z i p m = go (told (cellOf t .given x)) 
         first-call t p (stepCall x wish) calls (byStep (made (step c x wish))) (ap byStep (call-made t i x wish g)) (f .step)
         (rest (tableOf d) (sized-table d) (subst Inv b (step-inv c i x g wish)) _ (same-cell b (f .same)))
     go (nay g) rest = first-call t p (stepCall x wish) calls (byStep (turnedAway t noSuchAgent)) (ap byStep (call-refused t i x wish g)) unmoved (rest t z i p m)
+run-keeps (touchCall q n ∷ calls) t z i p m = first-call t p (touchCall q n) calls (byTouch (touchOf t q n)) refl unmoved
+    (run-keeps calls _ (sized-touched t q n z) (inv-touched t q n z i) p
+    (touched (λ s. Same (cellOf (s .cell)) p) t q n (λ _. m) (λ u _. same-cell (sym (touch-back t q n z u)) (same-touched (cellOf t) q n p m))))

@@ -10,14 +10,16 @@ use lib.Dec.{eqb}
 use borrow.Author.Tests.{eqb-true, eq-eqb}
 use Rattle.table.specs.Base.{allBelow, anyBelow, countBelow, iter}
 use Rattle.table.specs.BaseLaws.{Told, yea, nay, told, and-left, and-right, all-yes, all-at, any-at, any-found}
+use Rattle.table.specs.Bounds.{Bounded}
 use Rattle.table.specs.Cell.{State, none, freshAgent}
 use Rattle.table.specs.Sound.{firstHeld, secondHeldIn, lockIs, claims, goes, agentFits, agentSound, stands, travellersFit, placeFits}
 use Rattle.table.specs.Sound.{placeSound, leads, coreSound, sound}
-use Rattle.table.specs.SoundParts.{sound-core, core-sound}
+use Rattle.table.specs.SoundParts.{sound-core, sound-touches, parts-sound}
 use Rattle.table.specs.declared.Agent.{Agent}
 use Rattle.demands.specs.Reading.{agentIn}
 use Rattle.demands.specs.ReadingLaws.{agent-given}
 use Rattle.demands.specs.Invariant.{Places, Fit, Away, Ok, ok8, Holds, Kept, free, kept, Travels, Sound}
+use Rattle.demands.specs.Facts.{below-64}
 use Rattle.demands.specs.Actions.{unused-none}
 use Rattle.demands.specs.Stages.{holds-given, ok-given, fit-given, home-given}
 use Rattle.demands.specs.Given.{agent-all}
@@ -78,7 +80,7 @@ module _ (c : State) where
     )
 
     pub sound-true : sound c ≡ true
-    sound-true = core-sound c core-true
+    sound-true = parts-sound c core-true (i .touched)
 
   -- ---- and back
 
@@ -177,5 +179,10 @@ module _ (c : State) where
       ok = agent-all c (λ x a. Ok (c .land) (c .lock) x a) agent-is (λ x. ok8 refl (unused-none freshAgent refl));
       locks = lock-kept;
       mover = mover-holds c small few travellers;
+      touched = sound-touches c t;
       single = λ x y. single-holds c small few travellers x y (homes x);
     }
+
+-- a cell that reads nothing at and past 64 and passes the test is sound
+pub sound-bounded : (c : State) → Bounded c → sound c ≡ true → Sound c
+sound-bounded c b = sound-holds c (below-64 (c .land .used) (b .used)) (below-64 (c .given) (b .given))

@@ -27,7 +27,7 @@ released-outside P lock p q u v j n = upd-outside P (upd lock p none) q none v j
 -- ---- nothing, and one change after another
 
 pub untouched-none : (c : State) → Untouched c c
-untouched-none c = record { place = λ q u. refl; lock = λ q u. refl; unused = λ q u. u; agent = λ y n. refl; given = refl }
+untouched-none c = record { place = λ q u. refl; lock = λ q u. refl; unused = λ q u. u; agent = λ y n. refl; given = refl; touches = λ q u. refl }
 
 pub untouched-more : {c d e : State} → Untouched c d → Untouched d e → Untouched c e
 untouched-more m n = record {
@@ -36,6 +36,7 @@ untouched-more m n = record {
   unused = λ q u. n .unused q (m .unused q u);
   agent = λ y g. n .agent y (ap (λ (f : ℕ → Bool). f y) (m .given) ∙ g) ∙ m .agent y g;
   given = n .given ∙ m .given;
+  touches = λ q u. n .touches q (m .unused q u) ∙ m .touches q u;
 }
 
 -- what reads nothing at and past 64 reads nothing there after
@@ -46,6 +47,7 @@ untouched-bounded m b = record {
   lock = λ q l. m .lock q (b .used q l) ∙ b .lock q l;
   agent = λ y l. m .agent y (b .given y l) ∙ b .agent y l;
   given = λ y l. ap (λ (f : ℕ → Bool). f y) (m .given) ∙ b .given y l;
+  touches = λ q l. m .touches q (b .used q l) ∙ b .touches q l;
 }
 
 -- ---- the changes of a step of agent x
@@ -60,6 +62,7 @@ module _ (c : State) (x : ℕ) (g : c .given x ≡ true) where
     unused = λ q u. u;
     agent = upd-outside (c .given) (c .agent) x a g;
     given = refl;
+    touches = λ q u. refl;
   }
 
   -- sleepers are woken, and place h changes too
@@ -73,6 +76,7 @@ module _ (c : State) (x : ℕ) (g : c .given x ≡ true) where
     unused = λ s v. v;
     agent = λ y n. upd-outside (c .given) (wake c p q r) x a g y n ∙ rw n;
     given = refl;
+    touches = λ s v. refl;
   }
 
   -- place t is dissolved into p
@@ -84,4 +88,5 @@ module _ (c : State) (x : ℕ) (g : c .given x ≡ true) where
     unused = λ q u. rw u (and-false (not (eqb q t)));
     agent = λ y n. upd-outside (c .given) _ x _ g y n ∙ rw n;
     given = refl;
+    touches = λ q u. upd-outside (c .land .used) _ t _ w q u ∙ upd-outside (c .land .used) _ p _ v q u;
   }

@@ -27,7 +27,7 @@ use Rattle.demands.specs.Ways.{Way, is-done, is-asleep, held-first, held
 use Rattle.demands.specs.Ways.{sleeps-alone, takes-first, goes-back, sleeps-stuck, takes-second, gives-up, enters, exits, opens}
 use Rattle.demands.specs.Ways.{takes-own, takes-destination, comes}
 use Rattle.demands.specs.StepWays.{step-way}
-use Rattle.demands.specs.Always.{sound-bounded}
+use Rattle.demands.specs.SoundTest.{sound-bounded}
 
 -- ---- the claim
 

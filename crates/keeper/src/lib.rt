@@ -6,10 +6,12 @@ use meaning::Checked;
 use meaning::Idled;
 use meaning::Verdict;
 use table::Cell;
+use touch::TouchDecision;
 ghost use mathlib.Core.Path.{_≡_};
 ghost use mathlib.Core.Bool.{cond};
 ghost use Rattle.table.specs.Cell.{cellOf};
-ghost use Rattle.meaning.specs.Codes.{checkOf, idleOf, loadNumber, listNumber};
+ghost use Rattle.meaning.specs.Codes.{checkOf, idleOf, loadNumber, touchNumber, listNumber};
+ghost use Rattle.touch.specs.Known.{knownTouch, knownTouches};
 ghost use Rattle.listing.specs.Known.{knownAnswer, knownBuffer};
 ghost use Rattle.keeper.specs.Known.{knownIdle};
 
@@ -22,6 +24,10 @@ pub use reader::load;
 // One step call: `stepOf`.
 pub use step::step;
 
+// A touch call, `touchOf`, and the touches of a place, `touchesOf`.
+pub use touch::touch;
+pub use touch::touches;
+
 // The listing in a lent text, or the refusal and the text as it was: `listAnswer` and `listBuffer`.
 pub use listing::list;
 
@@ -31,6 +37,7 @@ pub use numbers::idle_number;
 pub use numbers::list_number;
 pub use numbers::load_number;
 pub use numbers::step_number;
+pub use numbers::touch_number;
 pub use numbers::word_number;
 
 // The number that a load answers.
@@ -46,6 +53,20 @@ fn numbered_list(known: bool, c: Cell, text: &mut [u8]) -> u64
         × (r ≡ listNumber (knownAnswer known (cellOf c) (now (text .entry)))) ⌝ }
 {
     list_number(listing::list_known(known, c, text))
+}
+
+// What a touch call does, told whether the cell is sound.
+fn decided_touch(known: bool, c: Cell, place: u8, number: u32) -> TouchDecision
+    ensures { λ r. ⌜ r ≡ knownTouch known c place number ⌝ }
+{
+    touch::decide_touch(known, c, place, number)
+}
+
+// The number that a call for the touches of a place answers, told whether the cell is sound.
+fn numbered_touches(known: bool, c: Cell, place: u8) -> u64
+    ensures { λ r. ⌜ r ≡ touchNumber (knownTouches known c place) ⌝ }
+{
+    touch_number(touch::touches_known(known, c, place))
 }
 
 // What a check answers: 10 is its one refusal.

@@ -1,14 +1,15 @@
 -- One element of an array that lies in memory is a place of its own, and a place has its type with or without the names of structs: two rules beside `sub`.
 --     unraw        the cell at the raw form of a type is the cell at the type
 --     elem k       element k of an array's cell
---     map-set      the values of a list with one element set
+--     one-val, all-vals    the machine value of an element, and those of the elements of an array
+--     vals-set, vals-length    those of an array with one element set, and how many there are
 --     array-set    and they are values of the array's type
 -- Assumes nothing.
 use mathlib.Core.List.{map}
 use Prim.Native.Nat.{zero, suc, _+_, _*_}
 use native.Mathlib.Nat.{add-zero, zero-mul, suc-mul, le-of-suc-le-suc, not-suc-le-zero}
 use native.Mathlib.Omega.{arith}
-use lib.ListN.{length, getD, set, length-set}
+use lib.ListN.{length, getD, set, length-set, length-map}
 use lib.Seq.{set-getD}
 use mir.Syntax.{Ty, tyArray}
 use mir.Raw.{raw as rawTy}
@@ -26,7 +27,7 @@ use Rattle.lending.proofs.Walk.{_≡_, refl, sym, ap, subst, _∙_, ℕ
 
 -- ---- lists
 
-pub map-set : {X Y : Type 0} (f : X → Y) (l : List X) (k : ℕ) (x : X) → map f (set l k x) ≡ set (map f l) k (f x)
+map-set : {X Y : Type 0} (f : X → Y) (l : List X) (k : ℕ) (x : X) → map f (set l k x) ≡ set (map f l) k (f x)
 map-set f [] k x = refl
 map-set f (y ∷ l) zero x = refl
 map-set {Y = Y} f (y ∷ l) (suc k) x = ap (λ (z : List Y). f y ∷ z) (map-set f l k x)
@@ -47,8 +48,35 @@ module _ (F : Field) (L : FLaws F) where
   changed (x ∷ xs) zero y s p = (p, s .1)
   changed (x ∷ xs) (suc k) y s p = (s .0, changed xs k y (s .1) p)
 
-  pub array-set : (n : ℕ) (xs : List D) (k : ℕ) (y : D) → Is (Array (F .row) n) xs (arrayVal (map (L .val) xs) ∷ []) → Is (F .row) y (L .val y ∷ []) → Is (Array (F .row) n) (set xs k y) (arrayVal (map (L .val) (set xs k y)) ∷ [])
-  array-set n xs k y p q = (map (L .val) (set xs k y), ((refl, length-set xs k y ∙ p .1 .0 .1), changed xs k y (told xs (p .0) (p .1 .1)) q))
+  -- the machine value of an element, and those of elements
+  abbrev pub one-val : F .Value → Val
+  one-val x = L .val (F .into x)
+
+  abbrev pub all-vals : List (F .Value) → List Val
+  all-vals xs = map (L .val) (map (F .into) xs)
+
+  pub vals-set : (xs : List (F .Value)) (k : ℕ) (x : F .Value) → set (all-vals xs) k (one-val x) ≡ all-vals (set xs k x)
+  vals-set xs k x = sym (map-set (L .val) (map (F .into) xs) k (F .into x)) ∙ ap (map (L .val)) (sym (map-set (F .into) xs k x))
+
+  pub vals-length : (xs : List (F .Value)) → length (all-vals xs) ≡ length xs
+  vals-length xs = length-map (map (F .into) xs) (L .val) ∙ length-map xs (F .into)
+
+  -- xs is an array of n elements, and x an element
+  abbrev pub Elements : ℕ → List (F .Value) → Type 0
+  Elements n xs = Is (Array (F .row) n) (map (F .into) xs) (arrayVal (all-vals xs) ∷ [])
+
+  abbrev pub Element : F .Value → Type 0
+  Element x = Is (F .row) (F .into x) (one-val x ∷ [])
+
+  pub array-set : (n : ℕ) (xs : List (F .Value)) (k : ℕ) (x : F .Value) → Elements n xs → Element x → Elements n (set xs k x)
+  array-set n xs k x p q = subst (λ (ys : List D). Is (Array (F .row) n) ys (arrayVal (map (L .val) ys) ∷ [])) (sym (map-set (F .into) xs k x))
+      (map (L .val) (set ys k y), ((refl, length-set ys k y ∙ p .1 .0 .1), changed ys k y (told ys (p .0) (p .1 .1)) q))
+    where
+      ys : List D
+      ys = map (F .into) xs
+
+      y : D
+      y = F .into x
 
 -- ---- places
 

@@ -8,3 +8,4 @@ pub mod Offsets
 pub mod Placed
 pub mod Settled
 pub mod Freed
+pub mod Tallied

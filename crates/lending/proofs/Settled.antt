@@ -13,6 +13,7 @@ use denote.Struct.Laws as LL
 use denote.Enum.Laws as EL
 use Rattle.table.specs.declared.Cell.{Cell}
 use Rattle.table.proofs.Cell.Laws as T′
+use Rattle.table.proofs.Agent as Agent′
 use Rattle.table.proofs.Agent.Laws as agent-laws
 use Rattle.meaning.specs.Codes.{stepNumber}
 use Rattle.meaning.proofs.Answer as Answer
@@ -23,8 +24,9 @@ use Rattle.step.proofs.Decision.Laws as decision-laws
 use Rattle.lending.proofs.Walk.{_≡_, refl, ℕ, _<_, List, [], _∷_, URA, fullShare, w64, Val, vptr, GName, Lft, Share, fat, flft, fobs, fbor, Heap, Calls, Loops, Atoms, Given, ‵, _$_, move, rewrite, look, init, stop, hop, fld, from, load, of-opd, and-then, no-more, assigns, land, whole, sub, look-in, Body, FmC, Is, mem, uint-lawful, u64, owned, Triple}
 use Rattle.lending.proofs.Lent.{R, mach, closed, Equates, applied}
 use Rattle.lending.proofs.Stored.{find}
+use Rattle.lending.proofs.Element.{vals-set}
 use Rattle.lending.proofs.Offsets.{agentsAt, agentSize}
-use Rattle.lending.proofs.Placed.{placed, placed-is, agent-val, agent-vals, with-agents, vals-set, store-agent, store-locks}
+use Rattle.lending.proofs.Placed.{placed, placed-is, agent-val, agent-vals, with-agents, store-agent, store-locks}
 
 -- the machine value of a decision
 abbrev pub val : Decision → Val
@@ -47,7 +49,7 @@ module _ {M : Type 1} {𝓤 : URA M} {H : Heap 𝓤} {A : Atoms 𝓤} {K : Type 
       (store-agent t h k (d .agent) was small (LL.owed Decision′.the-type decision-laws.the-laws d _ is .1 .1 .0)) $
       assigns t (of-opd t (load t (find t e (fld t refl (stop t))) (look-in t 4 (sub t 3 refl (whole t))))) (from t (hop t (look t 6 refl) (fld t refl (stop t))))
       (store-locks t h (set (agent-vals (h .agents)) k (agent-val (d .agent))) k (d .agent) (d .locks) (LL.owed Decision′.the-type decision-laws.the-laws d _ is .1 .1 .1 .0)) $
-      rewrite t 0 (λ (us : List Val). ‵ (fat fullShare (rawTy T′.mir) b o (with-agents (placed h k (d .agent) (d .locks)) us))) (vals-set (h .agents) k (d .agent)) refl $
+      rewrite t 0 (λ (us : List Val). ‵ (fat fullShare (rawTy T′.mir) b o (with-agents (placed h k (d .agent) (d .locks)) us))) (vals-set Agent′.the-field agent-laws.the-field-laws (h .agents) k (d .agent)) refl $
       closed t tt (placed h k (d .agent) (d .locks)) (placed-is h k (d .agent) (d .locks) was (LL.owed Decision′.the-type decision-laws.the-laws d _ is .1 .1 .0) (LL.owed Decision′.the-type decision-laws.the-laws d _ is .1 .1 .1 .0)) b o $
       -- [obs; the borrow; the token; d; the pointer; the reference; room for the result]
       owned t Answer.the-row (Is Answer.the-row) (EL.makes Answer.the-type answer.the-plain 𝓤 H A) (d .answer) (EL.vals Answer.the-type answer.the-laws (d .answer)) (LL.owed Decision′.the-type decision-laws.the-laws d _ is .1 .1 .1 .1 .0) $

@@ -1,6 +1,6 @@
--- A load is decided by the first 5,633 bytes of the file, and an accepted file has 5,628 bytes at most.
--- Idea: each record that is not refused gives a new place, a new agent or a new action, and there is room for 63, 64 and 1,024 of
--- these: 5 * 63 + 3 * 64 + 5 * 1024 = 5,627 bytes. What comes next is the end or a refusal, and looks at five bytes at most.
+-- A load is decided by the first 6,017 bytes of the file, and an accepted file has 6,012 bytes at most.
+-- Idea: each record that is not refused gives a new place, a new agent, a new action or a place's touches, and there is room for 63, 64, 1,024
+-- and 64 of these: 5 * 63 + 3 * 64 + 5 * 1024 + 6 * 64 = 6,011 bytes. What comes next is the end or a refusal, and looks at six bytes at most.
 use mathlib.Core.Path.{_≡_, refl, sym, ap, _∙_, subst}
 use mathlib.Core.Bool.{Bool, true, false, _||_, cond}
 use mathlib.Core.List.{List}
@@ -13,16 +13,18 @@ use lib.Seq.{getD-take, take-all, length-take-le}
 use borrow.Author.Tests.{eq-eqb, ne-eqb, lt-ltb, le-ltb, leb-true, leb-false, ltb-false}
 use Rattle.sets.specs.Word.{bit, has}
 use Rattle.sets.specs.WordLaws.{bit-lt}
+use Rattle.table.specs.Base.{sumBelow}
+use Rattle.table.specs.SumLaws.{sum-ext, sum-most, sum-more}
 use Rattle.table.specs.BaseLaws.{Told, yea, nay, told, eq?, upd-at, upd-other, upd-all}
 use Rattle.table.specs.Cell.{State, cellOf, bareTable}
 use Rattle.table.specs.declared.Agent.{Agent}
 use Rattle.meaning.specs.Refusals.{cutShort, afterEnd}
 use Rattle.meaning.specs.declared.Record.{Record}
-use Rattle.meaning.specs.declared.Record.the-variants.{PlaceRecord, AgentRecord, ActionRecord, EndRecord, Faulty}
+use Rattle.meaning.specs.declared.Record.the-variants.{PlaceRecord, AgentRecord, ActionRecord, EndRecord, TouchRecord, Faulty}
 use Rattle.meaning.specs.Update.{withHome}
-use Rattle.meaning.specs.File.{byteAt, Known, recordAt, addPlace, addAgent, withAction, addAction, isFull, knownIn, Load, accepted, refused, loadRecord, loadFrom, load}
-use Rattle.meaning.specs.FileLaws.{Fits, place, agent, action, end, faulty, record-fits, bare-agent, load-either, load-begun}
-use Rattle.lengths.specs.Sums.{sumBelow, sum-ext, sum-most, sum-more}
+use Rattle.meaning.specs.File.{byteAt, Known, recordAt, addPlace, addAgent, withAction, addAction, giveTouches, isFull, Progress, withCell, withCounted}
+use Rattle.meaning.specs.File.{knownIn, bareProgress, Load, accepted, refused, loadRecord, loadFrom, load}
+use Rattle.meaning.specs.FileLaws.{Fits, place, agent, action, end, touch, faulty, record-fits, bare-agent, load-either, load-begun}
 
 -- ---- sets counted
 
@@ -46,42 +48,54 @@ agents c = sumBelow (one (c .given)) 64
 abbrev counts : State → ℕ → ℕ
 counts c x = c .agent x .count
 
--- the cell so far took the bytes before the offset, the floor none, and no row is longer than sixteen
-record Took (c : State) (at : ℕ) : Type 0 where
-  size : at + 5 ≡ 5 * places c + 3 * agents c + 5 * sumBelow (counts c) 64
-  most : (j : ℕ) → j < 64 → counts c j ≤ 16
+abbrev gave : Progress → ℕ
+gave p = sumBelow (one (p .counted)) 64
+
+-- what was made so far took the bytes before the offset, the floor none, and no row is longer than sixteen
+record Took (p : Progress) (at : ℕ) : Type 0 where
+  size : at + 5 ≡ 5 * places (p .cell) + 3 * agents (p .cell) + 5 * sumBelow (counts (p .cell)) 64 + 6 * gave p
+  most : (j : ℕ) → j < 64 → counts (p .cell) j ≤ 16
 
 -- the bare floor took none
-took-bare : Took (cellOf bareTable) 0
+took-bare : Took bareProgress 0
 took-bare = record {
   size = unfold cellOf in unfold bareTable in unfold has in unfold sumBelow in refl;
   most = λ j l. subst (λ (a : Agent). a .count ≤ 16) (sym (bare-agent j l)) (omega arith);
 }
 
 -- so the offset is small
-at-most : (c : State) (at : ℕ) → Took c at → at ≤ 5627
-at-most c at t =
-    let p : places c ≤ 64 = sum-most (one (c .land .used)) 64 1 (λ j l. omega (arith, bit-lt (c .land .used j))) in
-    let a : agents c ≤ 64 = sum-most (one (c .given)) 64 1 (λ j l. omega (arith, bit-lt (c .given j))) in
-    let n : sumBelow (counts c) 64 ≤ 1024 = sum-most (counts c) 64 16 (t .most) in
+at-most : (p : Progress) (at : ℕ) → Took p at → at ≤ 6011
+at-most p at t =
+    let q : places (p .cell) ≤ 64 = sum-most (one (p .cell .land .used)) 64 1 (λ j l. omega (arith, bit-lt (p .cell .land .used j))) in
+    let a : agents (p .cell) ≤ 64 = sum-most (one (p .cell .given)) 64 1 (λ j l. omega (arith, bit-lt (p .cell .given j))) in
+    let n : sumBelow (counts (p .cell)) 64 ≤ 1024 = sum-most (counts (p .cell)) 64 16 (t .most) in
+    let g : gave p ≤ 64 = sum-most (one (p .counted)) 64 1 (λ j l. omega (arith, bit-lt (p .counted j))) in
     omega (arith, t .size)
 
 -- ---- each record takes its bytes
 
-took-place : (c : State) (at n p m : ℕ) → Took c at → n < 64 → c .land .used n ≡ false → Took (addPlace c n p m) (at + 5)
+took-place : (p : Progress) (at n parent m : ℕ) → Took p at → n < 64 → p .cell .land .used n ≡ false
+    → Took (withCell p (addPlace (p .cell) n parent m)) (at + 5)
 unfolding addPlace
-took-place c at n p m t l e = record { size = omega (arith, t .size, one-more (c .land .used) n l e); most = t .most }
+took-place p at n parent m t l e = record { size = omega (arith, t .size, one-more (p .cell .land .used) n l e); most = t .most }
+
+took-touches : (p : Progress) (at q n : ℕ) → Took p at → q < 64 → p .counted q ≡ false → Took (withCounted p q n) (at + 6)
+unfolding giveTouches
+took-touches p at q n t l e = record { size = omega (arith, t .size, one-more (p .counted) q l e); most = t .most }
 
 home-count : (c : State) (n h j : ℕ) → counts (addAgent c n h) j ≡ counts c j
 unfolding addAgent
 home-count c n h = upd-all (c .agent) n (withHome (c .agent n) h) (λ j a. a .count ≡ counts c j) refl (λ j _. refl)
 
-took-agent : (c : State) (at n h : ℕ) → Took c at → n < 64 → c .given n ≡ false → Took (addAgent c n h) (at + 3)
-took-agent c at n h t l e = record {
+took-agent : (p : Progress) (at n h : ℕ) → Took p at → n < 64 → p .cell .given n ≡ false → Took (withCell p (addAgent (p .cell) n h)) (at + 3)
+took-agent p at n h t l e = record {
   size = omega (arith, t .size, given, same, land);
   most = λ j k. subst (λ (z : ℕ). z ≤ 16) (sym (home-count c n h j)) (t .most j k);
 }
   where
+    c : State
+    c = p .cell
+
     same : sumBelow (counts (addAgent c n h)) 64 ≡ sumBelow (counts c) 64
     same = sum-ext (counts (addAgent c n h)) (counts c) 64 (λ j k. home-count c n h j)
 
@@ -100,25 +114,28 @@ module _ (c : State) (n k m : ℕ) where
   unfolding addAction withAction
   action-else j q = ap (λ (a : Agent). a .count) (upd-other (c .agent) n j (withAction (c .agent n) k m) q)
 
-  took-action : (at : ℕ) → Took c at → n < 64 → isFull c n ≡ false → Took (addAction c n k m) (at + 5)
-  took-action at t l e = record { size = omega (arith, t .size, more, land, given); most = λ j h. go j h (eq? j n) }
-    where
-      more : sumBelow (counts (addAction c n k m)) 64 ≡ sumBelow (counts c) 64 + 1
-      more = sum-more (counts c) (counts (addAction c n k m)) 64 n l (action-there n refl) action-else
+took-action : (p : Progress) (n k m at : ℕ) → Took p at → n < 64 → isFull (p .cell) n ≡ false → Took (withCell p (addAction (p .cell) n k m)) (at + 5)
+took-action p n k m at t l e = record { size = omega (arith, t .size, more, land, given); most = λ j h. go j h (eq? j n) }
+  where
+    c : State
+    c = p .cell
 
-      land : places (addAction c n k m) ≡ places c
-      land = unfold addAction in refl
+    more : sumBelow (counts (addAction c n k m)) 64 ≡ sumBelow (counts c) 64 + 1
+    more = sum-more (counts c) (counts (addAction c n k m)) 64 n l (action-there c n k m n refl) (action-else c n k m)
 
-      given : agents (addAction c n k m) ≡ agents c
-      given = unfold addAction in refl
+    land : places (addAction c n k m) ≡ places c
+    land = unfold addAction in refl
 
-      go : (j : ℕ) → j < 64 → (j ≡ n) ⊎ (j ≢ n) → counts (addAction c n k m) j ≤ 16
-      go j h (inl q) = subst (λ (z : ℕ). z ≤ 16) (sym (action-there j q)) (omega (arith, leb-false 16 (c .agent n .count) e))
-      go j h (inr q) = subst (λ (z : ℕ). z ≤ 16) (sym (action-else j q)) (t .most j h)
+    given : agents (addAction c n k m) ≡ agents c
+    given = unfold addAction in refl
+
+    go : (j : ℕ) → j < 64 → (j ≡ n) ⊎ (j ≢ n) → counts (addAction c n k m) j ≤ 16
+    go j h (inl q) = subst (λ (z : ℕ). z ≤ 16) (sym (action-there c n k m j q)) (omega (arith, leb-false 16 (c .agent n .count) e))
+    go j h (inr q) = subst (λ (z : ℕ). z ≤ 16) (sym (action-else c n k m j q)) (t .most j h)
 
 -- ---- the file and its first b bytes
 
-module _ (s : List ℕ) (b : ℕ) (wide : 5633 ≤ b) (long : b ≤ length s) where
+module _ (s : List ℕ) (b : ℕ) (wide : 6017 ≤ b) (long : b ≤ length s) where
   -- these bytes
   start : List ℕ
   start = take b s
@@ -132,7 +149,7 @@ module _ (s : List ℕ) (b : ℕ) (wide : 5633 ≤ b) (long : b ≤ length s) wh
   same-byte i l = getD-take b s i 0 l
 
   -- a record that begins early enough is the same
-  same-record : (k : Known) (at : ℕ) → at ≤ 5627 → recordAt k start at ≡ recordAt k s at
+  same-record : (k : Known) (at : ℕ) → at ≤ 6011 → recordAt k start at ≡ recordAt k s at
   unfolding recordAt
   same-record k at l = rw (
     same-byte at (omega arith),
@@ -140,14 +157,17 @@ module _ (s : List ℕ) (b : ℕ) (wide : 5633 ≤ b) (long : b ≤ length s) wh
     same-byte (at + 2) (omega arith),
     same-byte (at + 3) (omega arith),
     same-byte (at + 4) (omega arith),
+    same-byte (at + 5) (omega arith),
     le-ltb (length start - at) 5 (omega (arith, start-long)),
     le-ltb (length start - at) 3 (omega (arith, start-long)),
+    le-ltb (length start - at) 6 (omega (arith, start-long)),
     le-ltb (length s - at) 5 (omega arith),
     le-ltb (length s - at) 3 (omega arith),
+    le-ltb (length s - at) 6 (omega arith),
   )
 
   -- and so is the load from there on, with turns enough in both
-  same-load : (k m : ℕ) (c : State) (at : ℕ) → Took c at → b < k + at → length s < m + at → loadFrom k c start at ≡ loadFrom m c s at
+  same-load : (k m : ℕ) (c : Progress) (at : ℕ) → Took c at → b < k + at → length s < m + at → loadFrom k c start at ≡ loadFrom m c s at
   unfolding loadFrom
   same-load zero m c at h p q = absurd (omega (arith, at-most c at h))
   same-load (suc k) zero c at h p q = absurd (omega (arith, at-most c at h))
@@ -160,24 +180,26 @@ module _ (s : List ℕ) (b : ℕ) (wide : 5633 ≤ b) (long : b ≤ length s) wh
       (go (recordAt (knownIn c) s at) (record-fits (knownIn c) s at)
       (λ d i g x y. same-load k m d i g x y))
     where
-      l : at ≤ 5627
+      l : at ≤ 6011
       l = at-most c at h
 
       go : (r : Record) → Fits (knownIn c) r
-          → ((d : State) (i : ℕ) → Took d i → b < k + i → length s < m + i → loadFrom k d start i ≡ loadFrom m d s i)
+          → ((d : Progress) (i : ℕ) → Took d i → b < k + i → length s < m + i → loadFrom k d start i ≡ loadFrom m d s i)
           → loadRecord (λ d i. loadFrom k d start i) c start at r ≡ loadRecord (λ d i. loadFrom m d s i) c s at r
       go (PlaceRecord n x y) (place one low under new known named) r =
-          unfold loadRecord in r (addPlace c n x y) (at + 5) (took-place c at n x y h low new) (omega arith) (omega arith)
+          unfold loadRecord in r (withCell c (addPlace (c .cell) n x y)) (at + 5) (took-place c at n x y h low new) (omega arith) (omega arith)
       go (AgentRecord n x) (agent low under new known) r =
-          unfold loadRecord in r (addAgent c n x) (at + 3) (took-agent c at n x h low new) (omega arith) (omega arith)
+          unfold loadRecord in r (withCell c (addAgent (c .cell) n x)) (at + 3) (took-agent c at n x h low new) (omega arith) (omega arith)
       go (ActionRecord n x y) (action low known room one three named) r =
-          unfold loadRecord in r (addAction c n x y) (at + 5) (took-action c n x y at h low room) (omega arith) (omega arith)
+          unfold loadRecord in r (withCell c (addAction (c .cell) n x y)) (at + 5) (took-action c n x y at h low room) (omega arith) (omega arith)
+      go (TouchRecord n x) (touch low new known few) r =
+          unfold loadRecord in r (withCounted c n x) (at + 6) (took-touches c at n x h low new) (omega arith) (omega arith)
       go EndRecord end r = unfold loadRecord in
           rw (lt-ltb (at + 1) (length start) (omega (arith, start-long, l)), lt-ltb (at + 1) (length s) (omega (arith, l)))
       go (Faulty n) faulty r = unfold loadRecord in refl
 
--- whatever follows the first 5,633 bytes, the answer is theirs: the same cell, or the same refusal at the same offset
-pub prefix : (s : List ℕ) (b : ℕ) → 5633 ≤ b → load (take b s) ≡ load s
+-- whatever follows the first 6,017 bytes, the answer is theirs: the same cell, or the same refusal at the same offset
+pub prefix : (s : List ℕ) (b : ℕ) → 6017 ≤ b → load (take b s) ≡ load s
 prefix s b wide = go (told (leb (length s) b))
   where
     go : Told (leb (length s) b) → load (take b s) ≡ load s
@@ -185,17 +207,17 @@ prefix s b wide = go (told (leb (length s) b))
     go (nay e) = unfold start in
         (let l : b ≤ length s = omega (arith, leb-false (length s) b e) in
         load-begun (take b s) (omega (arith, start-long s b wide l))
-        ∙ same-load s b wide l (suc (length (take b s))) (suc (length s)) (cellOf bareTable) 0 took-bare (omega (arith, start-long s b wide l)) (omega arith)
+        ∙ same-load s b wide l (suc (length (take b s))) (suc (length s)) bareProgress 0 took-bare (omega (arith, start-long s b wide l)) (omega arith)
         ∙ sym (load-begun s (omega arith)))
 
 -- ---- accepted files
 
 -- a file that is accepted is short
 abbrev ShortIf : List ℕ → Load → Type 0
-ShortIf s (accepted c) = length s ≤ 5628
+ShortIf s (accepted c) = length s ≤ 6012
 ShortIf s (refused number offset) = Unit {0}
 
-short-from : (s : List ℕ) (turns : ℕ) (c : State) (at : ℕ) → Took c at → ShortIf s (loadFrom turns c s at)
+short-from : (s : List ℕ) (turns : ℕ) (c : Progress) (at : ℕ) → Took c at → ShortIf s (loadFrom turns c s at)
 unfolding loadFrom
 short-from s zero c at h = tt
 short-from s (suc turns) c at h =
@@ -206,18 +228,19 @@ short-from s (suc turns) c at h =
     before true l g = g
     before false l g = tt
 
-    go : (r : Record) → Fits (knownIn c) r → ((d : State) (i : ℕ) → Took d i → ShortIf s (loadFrom turns d s i))
+    go : (r : Record) → Fits (knownIn c) r → ((d : Progress) (i : ℕ) → Took d i → ShortIf s (loadFrom turns d s i))
         → ShortIf s (loadRecord (λ d i. loadFrom turns d s i) c s at r)
-    go (PlaceRecord n x y) (place one low under new known named) r = unfold loadRecord in r (addPlace c n x y) (at + 5) (took-place c at n x y h low new)
-    go (AgentRecord n x) (agent low under new known) r = unfold loadRecord in r (addAgent c n x) (at + 3) (took-agent c at n x h low new)
-    go (ActionRecord n x y) (action low known room one three named) r = unfold loadRecord in r (addAction c n x y) (at + 5) (took-action c n x y at h low room)
+    go (PlaceRecord n x y) (place one low under new known named) r = unfold loadRecord in r (withCell c (addPlace (c .cell) n x y)) (at + 5) (took-place c at n x y h low new)
+    go (AgentRecord n x) (agent low under new known) r = unfold loadRecord in r (withCell c (addAgent (c .cell) n x)) (at + 3) (took-agent c at n x h low new)
+    go (ActionRecord n x y) (action low known room one three named) r = unfold loadRecord in r (withCell c (addAction (c .cell) n x y)) (at + 5) (took-action c n x y at h low room)
+    go (TouchRecord n x) (touch low new known few) r = unfold loadRecord in r (withCounted c n x) (at + 6) (took-touches c at n x h low new)
     go EndRecord end r = unfold loadRecord in last (told (ltb (at + 1) (length s)))
       where
-        last : Told (ltb (at + 1) (length s)) → ShortIf s (cond (ltb (at + 1) (length s)) (refused afterEnd (at + 1)) (accepted c))
+        last : Told (ltb (at + 1) (length s)) → ShortIf s (cond (ltb (at + 1) (length s)) (refused afterEnd (at + 1)) (accepted (c .cell)))
         last (yea e) = rw e tt
         last (nay e) = rw e (omega (arith, ltb-false (at + 1) (length s) e, at-most c at h))
     go (Faulty n) faulty r = unfold loadRecord in tt
 
--- the longest file that is accepted has 5,628 bytes
-pub accepted-longest : (s : List ℕ) (c : State) → load s ≡ accepted c → length s ≤ 5628
-accepted-longest s c e = subst (ShortIf s) e (load-either s (ShortIf s) (λ z. omega arith) (short-from s (suc (length s)) (cellOf bareTable) 0 took-bare))
+-- the longest file that is accepted has 6,012 bytes
+pub accepted-longest : (s : List ℕ) (c : State) → load s ≡ accepted c → length s ≤ 6012
+accepted-longest s c e = subst (ShortIf s) e (load-either s (ShortIf s) (λ z. omega arith) (short-from s (suc (length s)) bareProgress 0 took-bare))

@@ -7,10 +7,12 @@ use native.Mathlib.Nat.{le-refl, suc-mul}
 use native.Mathlib.Omega.{arith}
 use lib.Dec.{eqb}
 use borrow.Author.Tests.{eqb-true, not-true}
+use Rattle.table.specs.Base.{sumBelow}
 use Rattle.table.specs.BaseLaws.{Told, yea, nay, told, clash, and-left, and-right}
+use Rattle.table.specs.SumLaws.{sum-at, sum-most}
 use Rattle.table.specs.Cell.{State, hasUnused}
 use Rattle.meaning.specs.Listing.{listsIn, standsUnder}
-use Rattle.lengths.specs.Sums.{sumBelow, pick, sum-le, sum-both, sum-none, sum-at, sum-most, pick-le, picks-add, gathered}
+use Rattle.lengths.specs.Sums.{pick, sum-le, sum-both, sum-none, pick-le, picks-add, gathered}
 
 -- ---- tests
 

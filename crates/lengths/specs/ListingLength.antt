@@ -8,9 +8,10 @@ use native.Mathlib.Omega.{arith}
 use lib.Dec.{eqb}
 use lib.ListN.{length, length-append, getD}
 use borrow.Author.Tests.{le-leb}
-use Rattle.table.specs.Base.{tab}
+use Rattle.table.specs.Base.{tab, sumBelow}
 use Rattle.table.specs.Cell.{State, noAction, cellOf}
 use Rattle.table.specs.BaseLaws.{Told, yea, nay, told}
+use Rattle.table.specs.SumLaws.{sum-most}
 use Rattle.table.specs.Sound.{sound}
 use Rattle.table.specs.Bounds.{Names16}
 use Rattle.table.specs.declared.Cell.{Cell}
@@ -18,7 +19,7 @@ use Rattle.meaning.specs.Refusals.{unsoundTable}
 use Rattle.meaning.specs.Text.{ascii, decimal}
 use Rattle.meaning.specs.Listing.{kindText, actionText, isUnused, actionTurn, agentText, listsIn, agentTurn, agentsText, standsUnder, bracketed, placeTurn, contentsText, listing, listAnswer}
 use Rattle.meaning.specs.declared.Listed.the-variants.{Length, Unlisted}
-use Rattle.lengths.specs.Sums.{sumBelow, pick, sum-most, pick-le}
+use Rattle.lengths.specs.Sums.{pick, pick-le}
 use Rattle.lengths.specs.Parts.{digits-short, digits-most, room, room-none, length-room, room-length, room-turn, room-fold}
 use Rattle.lengths.specs.Levels.{heap, heap-floor}
 

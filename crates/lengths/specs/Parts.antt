@@ -9,10 +9,10 @@ use native.Mathlib.Omega.{arith}
 use lib.Dec.{eqb, ltb}
 use lib.ListN.{length, length-append}
 use borrow.Author.Tests.{eqb-true, ltb-false}
-use Rattle.table.specs.Base.{foldUp}
+use Rattle.table.specs.Base.{foldUp, sumBelow}
 use Rattle.table.specs.BaseLaws.{Told, yea, nay, told}
 use Rattle.meaning.specs.Text.{digits, gap, joined}
-use Rattle.lengths.specs.Sums.{sumBelow, pick}
+use Rattle.lengths.specs.Sums.{pick}
 
 -- ---- decimals
 

@@ -1,49 +1,19 @@
--- Sums below a bound, and what is gathered from many places, each thing from one of them. Assumes nothing.
-use mathlib.Core.Path.{_≡_, refl, sym, ap, ap₂, _∙_}
+-- More of sums below a bound, and what is gathered from many places, each thing from one of them. Assumes nothing.
+use mathlib.Core.Path.{_≡_, refl, sym, ap, _∙_}
 use mathlib.Core.Bool.{Bool, true, false, cond}
-use mathlib.Core.Logic.{_≢_, _⊎_, inl, inr}
-use Prim.Native.Nat.{ℕ, zero, suc, _+_, _*_, _≤_, _<_, zero-le}
-use native.Mathlib.Nat.{le-refl, suc-mul}
+use Prim.Native.Nat.{ℕ, zero, suc, _+_, _≤_, zero-le}
+use native.Mathlib.Nat.{le-refl}
 use native.Mathlib.Omega.{arith}
 use lib.Dec.{eqb}
-use borrow.Author.Tests.{eqb-true, eqb-false, eq-eqb, ne-eqb}
-use Rattle.table.specs.BaseLaws.{Told, yea, nay, told, eq?}
-
--- f 0 + f 1 + .. below n
-unfoldable pub sumBelow : (ℕ → ℕ) → ℕ → ℕ
-sumBelow f zero = 0
-sumBelow f (suc n) = sumBelow f n + f n
+use borrow.Author.Tests.{eqb-true, eq-eqb, ne-eqb}
+use Rattle.table.specs.Base.{sumBelow}
+use Rattle.table.specs.BaseLaws.{Told, yea, nay, told}
 
 -- v where the test holds, else nothing
 abbrev pub pick : Bool → ℕ → ℕ
 pick b v = cond b v 0
 
 -- ---- sums
-
--- equal numbers give equal sums, small ones a small sum
-pub sum-ext : (f g : ℕ → ℕ) (n : ℕ) → ((j : ℕ) → j < n → f j ≡ g j) → sumBelow f n ≡ sumBelow g n
-unfolding sumBelow
-sum-ext f g zero h = refl
-sum-ext f g (suc n) h = ap₂ _+_ (sum-ext f g n (λ j l. h j (omega arith))) (h n (omega arith))
-
-pub sum-most : (f : ℕ → ℕ) (n m : ℕ) → ((j : ℕ) → j < n → f j ≤ m) → sumBelow f n ≤ n * m
-unfolding sumBelow
-sum-most f zero m h = omega arith
-sum-most f (suc n) m h =
-    omega (arith, sum-most f n m (λ j l. h j (omega arith)), h n (omega arith), suc-mul n m)
-
--- one more at i
-pub sum-more : (f g : ℕ → ℕ) (n i : ℕ) → i < n → g i ≡ f i + 1 → ((j : ℕ) → j ≢ i → g j ≡ f j) → sumBelow g n ≡ sumBelow f n + 1
-unfolding sumBelow
-sum-more f g zero i l e h = absurd (omega arith)
-sum-more f g (suc n) i l e h = go (eq? i n) (sum-more f g n i)
-  where
-    go : (i ≡ n) ⊎ (i ≢ n) → (i < n → g i ≡ f i + 1 → ((j : ℕ) → j ≢ i → g j ≡ f j) → sumBelow g n ≡ sumBelow f n + 1)
-        → sumBelow g n + g n ≡ sumBelow f n + f n + 1
-    go (inl q) r =
-        let a : sumBelow g n ≡ sumBelow f n = sum-ext g f n (λ j k. h j (λ z. absurd (omega arith))) in
-        let b : g n ≡ f n + 1 = ap g (sym q) ∙ e ∙ ap (λ (k : ℕ). f k + 1) q in omega arith
-    go (inr q) r = let a = r (omega arith) e h in let b : g n ≡ f n = h n (λ z. q (sym z)) in omega arith
 
 pub sum-le : (f g : ℕ → ℕ) (n : ℕ) → ((i : ℕ) → f i ≤ g i) → sumBelow f n ≤ sumBelow g n
 unfolding sumBelow
@@ -63,16 +33,6 @@ pub sum-none : (n : ℕ) → sumBelow (λ i. 0) n ≡ 0
 unfolding sumBelow
 sum-none zero = refl
 sum-none (suc n) = omega (arith, sum-none n)
-
--- one of the things summed is at most the sum
-pub sum-at : (f : ℕ → ℕ) (n i : ℕ) → i < n → f i ≤ sumBelow f n
-unfolding sumBelow
-sum-at f zero i l = absurd (omega arith)
-sum-at f (suc n) i l = go (told (eqb i n)) (sum-at f n i)
-  where
-    go : Told (eqb i n) → (i < n → f i ≤ sumBelow f n) → f i ≤ sumBelow f n + f n
-    go (yea e) r = rw (eqb-true i n e) (omega arith)
-    go (nay e) r = omega (arith, r (omega (arith, eqb-false i n e)))
 
 pub sum-swap : (f : ℕ → ℕ → ℕ) (m n : ℕ) → sumBelow (λ p. sumBelow (f p) m) n ≡ sumBelow (λ q. sumBelow (λ p. f p q) n) m
 unfolding sumBelow

@@ -7,17 +7,18 @@ use Prim.Native.Nat.{ℕ}
 use Prim.Native.String.{String}
 use lib.Dec.{eqb}
 use Rattle.sets.specs.Word.{has, wordOf, countOf, lowestOf}
-use Rattle.table.specs.Base.{upd, tab, foldUp, allBelow, anyBelow, countBelow, iter}
+use Rattle.table.specs.Base.{upd, tab, foldUp, allBelow, anyBelow, countBelow, sumBelow, iter}
 use Rattle.table.specs.Cell.{cellOf, tableOf, bareTable, linked, linkedTo, travels, nextAction}
 use Rattle.table.specs.Idle.{idle}
 use Rattle.table.specs.Sound.{actionsFit, ready, holdsBoth, stageFits, firstHeld, secondHeld, lockIs, claims, agentFits, goingFrom, goes, placeFits}
-use Rattle.table.specs.Sound.{coreSound, sound}
-use Rattle.meaning.specs.File.{placeRecord, agentRecord, actionRecord, recordAt, addPlace, addAgent, withAction, addAction, loadRecord}
-use Rattle.meaning.specs.File.{loadFrom, load, loaded, loadOf}
+use Rattle.table.specs.Sound.{coreSound, touchSum, sound}
+use Rattle.meaning.specs.File.{placeRecord, agentRecord, actionRecord, touchRecord, recordAt, addPlace, addAgent, withAction, addAction, giveTouches}
+use Rattle.meaning.specs.File.{loadRecord, loadFrom, load, loaded, loadOf}
 use Rattle.meaning.specs.Step.{onWayTo, awaited, entersAt, exitsFrom, opensAt, qualifies, chosenOf, choose, fires, stays, still, turn, take, release}
 use Rattle.meaning.specs.Step.{asleepOn, wake, look, lockFirst, lockSecond, hold, leave, dissolveAgent, wokenBy, dissolveLock, dissolve, act}
 use Rattle.meaning.specs.Step.{arrive, travel, stepAt, step}
-use Rattle.meaning.specs.Run.{made, turnedAway, stepOf, settled, rests}
+use Rattle.meaning.specs.Touch.{counted, untouched, touchOf, touchesOf}
+use Rattle.meaning.specs.Run.{made, turnedAway, stepOf, callOf, run, settled, rests}
 use Rattle.meaning.specs.Text.{ascii, digits, gap, overlay}
 use Rattle.meaning.specs.Listing.{kindText, actionText, agentText, listsIn, agentsText, standsUnder, bracketed, contentsText, listing}
 use Rattle.meaning.specs.Listing.{listAnswer, listBuffer}
@@ -32,6 +33,7 @@ use Rattle.meaning.specs.BenchTables.{Computed, sample, topmost}
 use Rattle.meaning.specs.BenchSound.{soundRows}
 use Rattle.meaning.specs.BenchCalls.{callRows}
 use Rattle.meaning.specs.BenchAfter.{afterRows}
+use Rattle.meaning.specs.BenchTouch.{crib, touchRows}
 
 pub rows : List Row
 rows = paperRows ++ (slipRows ++ (fileRows ++ (stepRows ++ listingRows)))
@@ -58,8 +60,8 @@ allSame (r ∷ rest) = same (report (r .cell) (r .order)) (textOf (r .lines)) &&
 pub bench : allSame rows ≡ true
 unfolding allSame rows paperRows slipRows fileRows stepRows listingRows textOf file manyOpens calls same has wordOf countOf lowestOf
     chosenOf upd tab foldUp allBelow anyBelow countBelow iter cellOf tableOf bareTable linked linkedTo travels nextAction actionsFit ready
-    holdsBoth stageFits firstHeld secondHeld lockIs claims agentFits goingFrom goes placeFits coreSound sound placeRecord agentRecord actionRecord
-    recordAt addPlace addAgent withAction addAction loadRecord loadFrom load onWayTo awaited entersAt exitsFrom opensAt qualifies choose
+    holdsBoth stageFits firstHeld secondHeld lockIs claims agentFits goingFrom goes placeFits coreSound sumBelow touchSum sound placeRecord agentRecord actionRecord touchRecord
+    recordAt addPlace addAgent withAction addAction giveTouches loadRecord loadFrom load onWayTo awaited entersAt exitsFrom opensAt qualifies choose
     fires stays still turn take release asleepOn wake look lockFirst lockSecond hold leave dissolveAgent wokenBy dissolveLock dissolve act
     arrive travel stepAt step made turnedAway stepOf digits gap kindText actionText agentText listsIn agentsText standsUnder bracketed
     contentsText listing wordText stepLine refusedLine listingLine callsIn reportRun reportOf report
@@ -71,12 +73,12 @@ unfolding same
 allMeant [] = true
 allMeant (r ∷ rest) = same (r .value) (r .meant) && allMeant rest
 
--- what walk cannot show: soundness clause by clause, the calls and answers of a host, and the table after each kind of step
-pub numbers : allMeant (soundRows ++ (callRows ++ afterRows)) ≡ true
-unfolding allMeant soundRows callRows afterRows sample topmost checkOf idleOf idle loadOf loaded listAnswer listBuffer overlay settled rests file manyOpens
+-- what walk cannot show: soundness clause by clause, the calls and answers of a host, the table after each kind of step, and touches
+pub numbers : allMeant (soundRows ++ (callRows ++ (afterRows ++ touchRows))) ≡ true
+unfolding allMeant soundRows callRows afterRows touchRows crib counted untouched touchOf touchesOf callOf run sample topmost checkOf idleOf idle loadOf loaded listAnswer listBuffer overlay settled rests file manyOpens
     calls same has wordOf countOf lowestOf chosenOf upd tab foldUp allBelow anyBelow countBelow iter cellOf tableOf bareTable linked
     linkedTo travels nextAction actionsFit ready holdsBoth stageFits firstHeld secondHeld lockIs claims agentFits goingFrom goes placeFits
-    coreSound sound placeRecord agentRecord actionRecord recordAt addPlace addAgent withAction addAction loadRecord loadFrom load onWayTo awaited
+    coreSound sumBelow touchSum sound placeRecord agentRecord actionRecord touchRecord recordAt addPlace addAgent withAction addAction giveTouches loadRecord loadFrom load onWayTo awaited
     entersAt exitsFrom opensAt qualifies choose fires stays still turn take release asleepOn wake look lockFirst lockSecond hold leave
     dissolveAgent wokenBy dissolveLock dissolve act arrive travel stepAt step made turnedAway stepOf digits gap kindText actionText
     agentText listsIn agentsText standsUnder bracketed contentsText listing wordText stepLine refusedLine listingLine callsIn reportRun

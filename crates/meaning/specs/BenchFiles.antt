@@ -7,7 +7,7 @@ fileRows =
     -- "2 unknown kind, not 1 to 4"
     row (hex "00 04") [] ("refused 2 0" ∷ [])
     -- also where it is the last byte: 2 before 1
-    ∷ row (hex "05") [] ("refused 2 0" ∷ [])
+    ∷ row (hex "06") [] ("refused 2 0" ∷ [])
     -- "1 cut short: a body incomplete", at the record, whatever its bytes say: 1 before 3
     ∷ row (hex "01 40") [] ("refused 1 0" ∷ [])
     -- "the byte offset of the record": an agent cut after a place
@@ -55,6 +55,17 @@ fileRows =
     ∷ row (hex "02 00 00 03 00 00 09 00 04") [] ("refused 7 3" ∷ [])
     -- "6 name 0 in a place or action"
     ∷ row (hex "02 00 00 03 00 01 00 00 04") [] ("refused 6 3" ∷ [])
+    -- touches (W3), which no listing shows: of the floor, wherever the record stands, and of a place
+    ∷ row (hex "05 00 05 00 00 00 01 01 00 07 00 05 01 ff ff ff ff 04") [] ("start 7[]" ∷ "end 7[]" ∷ [])
+    -- "a body incomplete", whatever its bytes say, and no end record after it
+    ∷ row (hex "05 40 05 00 00") [] ("refused 1 0" ∷ [])
+    ∷ row (hex "05 00 05 00 00 00") [] ("refused 1 6" ∷ [])
+    -- "in it a place above 63 is 3", not given either: 3 before 5
+    ∷ row (hex "05 40 05 00 00 00 04") [] ("refused 3 0" ∷ [])
+    -- "a second record for a place is 4", also after one that gave none
+    ∷ row (hex "05 00 00 00 00 00 05 00 05 00 00 00 04") [] ("refused 4 6" ∷ [])
+    -- "a place not given is 5"; it stands "after that place"
+    ∷ row (hex "05 01 05 00 00 00 01 01 00 07 00 04") [] ("refused 5 0" ∷ [])
     -- "Sixteen actions load"
     ∷ row (agent 0 0 ++ manyOpens 16 (hex "04")) []
     ("start open 16.open 15.open 14.open 13.open 12.open 11.open 10.open 9.open 8.open 7.open 6.open 5.open 4.open 3.open 2.open 1" ∷

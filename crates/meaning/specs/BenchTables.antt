@@ -7,7 +7,7 @@ use Rattle.sets.specs.Word.{bit}
 use Rattle.table.specs.Base.{upd}
 use Rattle.table.specs.Cell.{State, bareTable, cellOf, tableOf}
 use Rattle.table.specs.declared.Cell.{Cell}
-use Rattle.meaning.specs.Update.{atStage, withNext, withCount, withHome, withActions, withPlaces, withUsed, withLand, withLocks, withAgent}
+use Rattle.meaning.specs.Update.{atStage, withNext, withCount, withHome, withActions, withPlaces, withUsed, withLand, withLocks, withAgent, withTouches}
 use Rattle.meaning.specs.File.{loadOf}
 use Rattle.meaning.specs.Codes.{checkOf, checkNumber}
 use Rattle.meaning.specs.BenchRow.{file, place, agent, enters, exits, opens}
@@ -60,6 +60,10 @@ counted x next count c = withAgent c x (withCount (withNext (c .agent x) next) c
 -- its action at j has this kind and name
 abbrev pub acting : ℕ → ℕ → ℕ → ℕ → State → State
 acting x j kind name c = withAgent c x (withActions (c .agent x) (set (c .agent x .actions) j (record { kind = kind; name = name })))
+
+-- place q has so many touches
+abbrev pub touched : ℕ → ℕ → State → State
+touched q n c = withTouches c (upd (c .touches) q n)
 
 -- ---- the cells
 

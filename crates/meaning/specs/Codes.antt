@@ -11,6 +11,8 @@ use Rattle.meaning.specs.declared.Answer.{Answer}
 use Rattle.meaning.specs.declared.Answer.the-variants.{Did, Refused}
 use Rattle.meaning.specs.declared.Verdict.{Verdict}
 use Rattle.meaning.specs.declared.Verdict.the-variants.{Accepted, Rejected}
+use Rattle.meaning.specs.declared.Touching.{Touching}
+use Rattle.meaning.specs.declared.Touching.the-variants.{Count, Untouched}
 use Rattle.meaning.specs.declared.Listed.{Listed}
 use Rattle.meaning.specs.declared.Listed.the-variants.{Length, Unlisted}
 use Rattle.meaning.specs.declared.Checked.{Checked}
@@ -57,6 +59,11 @@ stepNumber (Refused number) = number
 abbrev pub loadNumber : Verdict → ℕ
 loadNumber Accepted = 0
 loadNumber (Rejected number offset) = above offset number
+
+-- a touch call's answer: the place's count above 0, or the refusal's number
+abbrev pub touchNumber : Touching → ℕ
+touchNumber (Count n) = above n 0
+touchNumber (Untouched number) = number
 
 -- a listing's answer: the length above 0, or the refusal's number
 abbrev pub listNumber : Listed → ℕ

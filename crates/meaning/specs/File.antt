@@ -1,6 +1,6 @@
 -- The cell file (document 01, "The cell file" and "Turned-away calls"): records, the order of checks, and the load of a whole file.
-use Prim.Native.Nat.{ℕ, zero, suc, _+_, _*_, _-_}
-use mathlib.Core.Bool.{Bool, _||_, cond}
+use Prim.Native.Nat.{ℕ, zero, suc, _+_, _*_, _-_, _%_, _^_}
+use mathlib.Core.Bool.{Bool, false, _||_, cond}
 use mathlib.Core.List.{List, [], _∷_}
 use lib.Dec.{ltb, leb, eqb}
 use lib.ListN.{length, getD, set}
@@ -9,16 +9,20 @@ use Rattle.table.specs.Cell.{State, cellOf, tableOf, bareTable, looking, lastKi
 use Rattle.table.specs.declared.Agent.{Agent}
 use Rattle.table.specs.declared.Cell.{Cell}
 use Rattle.meaning.specs.declared.Record.{Record}
-use Rattle.meaning.specs.declared.Record.the-variants.{PlaceRecord, AgentRecord, ActionRecord, EndRecord, Faulty}
+use Rattle.meaning.specs.declared.Record.the-variants.{PlaceRecord, AgentRecord, ActionRecord, EndRecord, TouchRecord, Faulty}
 use Rattle.meaning.specs.declared.Verdict.the-variants.{Accepted, Rejected}
 use Rattle.meaning.specs.declared.Loaded.{Loaded}
 use Rattle.meaning.specs.Refusals.{cutShort, unknownKind, placeTooLarge, parentTooLarge, agentTooLarge, givenTwice, notYetGiven}
 use Rattle.meaning.specs.Refusals.{nameZero, wrongKind, seventeenth, afterEnd}
-use Rattle.meaning.specs.Update.{linkedPlace, withHome, withStage, withCount, withActions, withPlaces, withUsed, withLand, withGiven, withAgent}
+use Rattle.meaning.specs.Update.{linkedPlace, withHome, withStage, withCount, withActions, withPlaces, withUsed, withLand, withGiven, withAgent, withTouches}
 
 -- "Two-byte numbers have the low byte first"
 abbrev pub twoBytes : ℕ → ℕ → ℕ
 twoBytes low high = low + 256 * high
+
+-- "four bytes, low byte first": a number of 32 bits, whatever the four are; of bytes the modulo changes nothing (`four-bytes`)
+abbrev pub fourBytes : ℕ → ℕ → ℕ → ℕ → ℕ
+fourBytes lowest low high highest = (twoBytes lowest low + 65536 * twoBytes high highest) % 2 ^ 32
 
 abbrev pub byteAt : List ℕ → ℕ → ℕ
 byteAt s i = getD s i 0
@@ -57,6 +61,14 @@ givenAction full agent kind name =
 unfoldable pub actionRecord : Bool → Bool → ℕ → ℕ → ℕ → Record
 actionRecord known full agent kind name = cond (leb 64 agent) (Faulty agentTooLarge) (cond known (givenAction full agent kind name) (Faulty notYetGiven))
 
+-- touches (document 02, W3): "place number 0 to 63, then four bytes, low byte first; it may stand once for each place, after that place":
+-- "in it a place above 63 is 3, a second record for a place is 4, a place not given is 5"
+unfoldable pub touchRecord : Bool → Bool → ℕ → ℕ → Record
+touchRecord taken known place touches =
+    cond (leb 64 place) (Faulty placeTooLarge)
+    (cond taken (Faulty givenTwice)
+    (cond known (TouchRecord place touches) (Faulty notYetGiven)))
+
 -- a record of n bytes with its kind: 1 where its body is incomplete
 abbrev pub complete : List ℕ → ℕ → ℕ → Record → Record
 complete s at n r = cond (ltb (length s - at) n) (Faulty cutShort) r
@@ -65,13 +77,18 @@ complete s at n r = cond (ltb (length s - at) n) (Faulty cutShort) r
 abbrev pub nameAt : List ℕ → ℕ → ℕ
 nameAt s at = twoBytes (byteAt s (at + 3)) (byteAt s (at + 4))
 
--- what was given so far: the places, the agents, and the agents with sixteen actions
+-- the touches in a record of six bytes
+abbrev pub countAt : List ℕ → ℕ → ℕ
+countAt s at = fourBytes (byteAt s (at + 2)) (byteAt s (at + 3)) (byteAt s (at + 4)) (byteAt s (at + 5))
+
+-- what was given so far: the places, the agents, the agents with sixteen actions, and the places whose touches were given
 pub record Known : Type 0 where
   pub places : ℕ → Bool
   pub agents : ℕ → Bool
   pub full : ℕ → Bool
+  pub counted : ℕ → Bool
 
--- the three bodies
+-- the four bodies
 abbrev pub placeAt : Known → List ℕ → ℕ → Record
 placeAt k s at = placeRecord (k .places (byteAt s (at + 1))) (k .places (byteAt s (at + 2))) (byteAt s (at + 1)) (byteAt s (at + 2)) (nameAt s at)
 
@@ -81,13 +98,17 @@ agentAt k s at = agentRecord (k .agents (byteAt s (at + 1))) (k .places (byteAt 
 abbrev pub actionAt : Known → List ℕ → ℕ → Record
 actionAt k s at = actionRecord (k .agents (byteAt s (at + 1))) (k .full (byteAt s (at + 1))) (byteAt s (at + 1)) (byteAt s (at + 2)) (nameAt s at)
 
+abbrev pub touchAt : Known → List ℕ → ℕ → Record
+touchAt k s at = touchRecord (k .counted (byteAt s (at + 1))) (k .places (byteAt s (at + 1))) (byteAt s (at + 1)) (countAt s at)
+
 -- "One byte of kind, then a body whose length the kind fixes": 2 unknown kind
 unfoldable pub recordAt : Known → List ℕ → ℕ → Record
 recordAt k s at =
     cond (eqb (byteAt s at) 1) (complete s at 5 (placeAt k s at))
     (cond (eqb (byteAt s at) 2) (complete s at 3 (agentAt k s at))
     (cond (eqb (byteAt s at) 3) (complete s at 5 (actionAt k s at))
-    (cond (eqb (byteAt s at) 4) EndRecord (Faulty unknownKind))))
+    (cond (eqb (byteAt s at) 4) EndRecord
+    (cond (eqb (byteAt s at) 5) (complete s at 6 (touchAt k s at)) (Faulty unknownKind)))))
 
 -- ---- what a record adds
 
@@ -110,13 +131,29 @@ unfoldable pub addAction : State → ℕ → ℕ → ℕ → State
 unfolding withAction
 addAction c agent kind name = withAgent c agent (withAction (c .agent agent) kind name)
 
+-- "Record kind 5 gives one": the touches of a place
+unfoldable pub giveTouches : State → ℕ → ℕ → State
+giveTouches c place touches = withTouches c (upd (c .touches) place touches)
+
 -- "a row of sixteen actions at most": the row of agent x is full
 abbrev pub isFull : State → ℕ → Bool
 isFull c x = leb 16 (c .agent x .count)
 
--- what the records that made a cell gave
-abbrev pub knownIn : State → Known
-knownIn c = record { places = c .land .used; agents = c .given; full = isFull c }
+-- what the records so far made: a cell, and the places whose touches a record gave
+pub record Progress : Type 0 where
+  pub cell : State
+  pub counted : ℕ → Bool
+
+abbrev pub withCell : Progress → State → Progress
+withCell p c = record { cell = c; counted = p .counted }
+
+-- the touches of a place, given
+abbrev pub withCounted : Progress → ℕ → ℕ → Progress
+withCounted p place touches = record { cell = giveTouches (p .cell) place touches; counted = λ j. eqb j place || p .counted j }
+
+-- what they gave
+abbrev pub knownIn : Progress → Known
+knownIn p = record { places = p .cell .land .used; agents = p .cell .given; full = isFull (p .cell); counted = p .counted }
 
 -- ---- the whole file
 
@@ -126,30 +163,35 @@ pub data Load : Type 0 where
   refused : ℕ → ℕ → Load
 
 -- one record and then the rest of the file: a refusal has "the byte offset of the record", 9 that of "the first byte after the end"
-unfoldable pub loadRecord : (State → ℕ → Load) → State → List ℕ → ℕ → Record → Load
-unfolding addPlace addAgent addAction
-loadRecord rest c s at (PlaceRecord number parent name) = rest (addPlace c number parent name) (at + 5)
-loadRecord rest c s at (AgentRecord number home) = rest (addAgent c number home) (at + 3)
-loadRecord rest c s at (ActionRecord agent kind name) = rest (addAction c agent kind name) (at + 5)
-loadRecord rest c s at EndRecord = cond (ltb (at + 1) (length s)) (refused afterEnd (at + 1)) (accepted c)
-loadRecord rest c s at (Faulty n) = refused n at
+unfoldable pub loadRecord : (Progress → ℕ → Load) → Progress → List ℕ → ℕ → Record → Load
+unfolding addPlace addAgent addAction giveTouches
+loadRecord rest p s at (PlaceRecord number parent name) = rest (withCell p (addPlace (p .cell) number parent name)) (at + 5)
+loadRecord rest p s at (AgentRecord number home) = rest (withCell p (addAgent (p .cell) number home)) (at + 3)
+loadRecord rest p s at (ActionRecord agent kind name) = rest (withCell p (addAction (p .cell) agent kind name)) (at + 5)
+loadRecord rest p s at (TouchRecord place touches) = rest (withCounted p place touches) (at + 6)
+loadRecord rest p s at EndRecord = cond (ltb (at + 1) (length s)) (refused afterEnd (at + 1)) (accepted (p .cell))
+loadRecord rest p s at (Faulty n) = refused n at
 
--- from an offset on, with the cell so far: "for a missing end, the file's length".
+-- from an offset on, with what the records so far made: "for a missing end, the file's length".
 -- A record has a byte at least, so as many turns as the file has bytes, and one, are enough
-unfoldable pub loadFrom : ℕ → State → List ℕ → ℕ → Load
+unfoldable pub loadFrom : ℕ → Progress → List ℕ → ℕ → Load
 unfolding loadRecord recordAt
-loadFrom zero c s at = refused cutShort (length s)
-loadFrom (suc turns) c s at =
+loadFrom zero p s at = refused cutShort (length s)
+loadFrom (suc turns) p s at =
     cond (ltb at (length s))
-    (loadRecord (λ d next. loadFrom turns d s next) c s at (recordAt (knownIn c) s at))
+    (loadRecord (λ q next. loadFrom turns q s next) p s at (recordAt (knownIn p) s at))
     (refused cutShort (length s))
 
--- "A load starts from a bare floor". A file of length 0 "loads as a bare floor with no agents, as `04` does. .. A file that begins and
--- lacks its end is still cut short" (document 02, W1)
+-- "A load starts from a bare floor"
+abbrev pub bareProgress : Progress
+bareProgress = record { cell = cellOf bareTable; counted = λ j. false }
+
+-- A file of length 0 "loads as a bare floor with no agents, as `04` does. .. A file that begins and lacks its end is still cut short"
+-- (document 02, W1)
 unfoldable pub load : List ℕ → Load
 unfolding loadFrom bareTable cellOf
 load [] = accepted (cellOf bareTable)
-load (byte ∷ rest) = loadFrom (suc (length (byte ∷ rest))) (cellOf bareTable) (byte ∷ rest) 0
+load (byte ∷ rest) = loadFrom (suc (length (byte ∷ rest))) bareProgress (byte ∷ rest) 0
 
 -- ---- the call
 

@@ -4,7 +4,7 @@ use mathlib.Core.Path.{_≡_, refl, ap}
 use mathlib.Core.Logic.{_≢_}
 use mathlib.Core.Bool.{Bool, true, false, cond}
 use mathlib.Core.List.{List, [], _∷_}
-use Prim.Native.Nat.{ℕ, zero, suc, _+_, _-_, _<_, _≤_}
+use Prim.Native.Nat.{ℕ, zero, suc, _+_, _*_, _-_, _^_, _<_, _≤_}
 use native.Mathlib.Nat.{not-suc-le-zero}
 use native.Mathlib.Omega.{arith}
 use lib.Dec.{ltb, leb, eqb}
@@ -17,8 +17,18 @@ use Rattle.table.specs.Bounds.{Bounded}
 use Rattle.table.specs.CellLaws.{bounded, sized-bare}
 use Rattle.table.specs.declared.Cell.{Cell}
 use Rattle.meaning.specs.declared.Record.{Record}
-use Rattle.meaning.specs.declared.Record.the-variants.{PlaceRecord, AgentRecord, ActionRecord, EndRecord, Faulty}
-use Rattle.meaning.specs.File.{byteAt, placeRecord, agentRecord, actionRecord, Known, recordAt, Load, accepted, refused, loadFrom, load, loaded, loadOf}
+use Rattle.meaning.specs.declared.Record.the-variants.{PlaceRecord, AgentRecord, ActionRecord, EndRecord, TouchRecord, Faulty}
+use Rattle.meaning.specs.File.{twoBytes, fourBytes, byteAt, placeRecord, agentRecord, actionRecord, touchRecord, Known, recordAt, bareProgress, Load, accepted, refused, loadFrom, load, loaded, loadOf}
+
+-- ---- a four-byte number
+
+-- it has 32 bits
+four-few : (a b c d : ℕ) → fourBytes a b c d < 2 ^ 32
+four-few a b c d = omega arith
+
+-- of four bytes it is the number that they write
+pub four-bytes : (a b c d : ℕ) → a < 256 → b < 256 → c < 256 → d < 256 → fourBytes a b c d ≡ twoBytes a b + 65536 * twoBytes c d
+four-bytes a b c d la lb lc ld = omega arith
 
 -- ---- what a record that is not refused tells of its numbers
 
@@ -31,6 +41,7 @@ module _ (k : Known) where
     action : {number kind name : ℕ} → number < 64 → k .agents number ≡ true → k .full number ≡ false → 1 ≤ kind → kind ≤ lastKind → 1 ≤ name
         → Fits (ActionRecord number kind name)
     end : Fits EndRecord
+    touch : {place touches : ℕ} → place < 64 → k .counted place ≡ false → k .places place ≡ true → touches < 2 ^ 32 → Fits (TouchRecord place touches)
     faulty : {number : ℕ} → Fits (Faulty number)
 
   -- a test with a refusal in one arm
@@ -70,6 +81,13 @@ module _ (k : Known) where
       (λ room. action (leb-false 64 n low) known room (ltb-false kind 1 one) (ltb-false lastKind kind three) (ltb-false m 1 named))))))
       (λ e. faulty))
 
+  touch-fits : (place touches : ℕ) → touches < 2 ^ 32 → Fits (touchRecord (k .counted place) (k .places place) place touches)
+  unfolding touchRecord
+  touch-fits q n few =
+      cond-fits (leb 64 q) _ _ (λ e. faulty) (λ low.
+      cond-fits (k .counted q) _ _ (λ e. faulty) (λ new.
+      cond-fits (k .places q) _ _ (λ known. touch (leb-false 64 q low) new known few) (λ e. faulty)))
+
   -- the record at an offset fits the cell so far, or is refused, or ends the file
   pub record-fits : (s : List ℕ) (at : ℕ) → Fits (recordAt k s at)
   unfolding recordAt
@@ -80,7 +98,9 @@ module _ (k : Known) where
       (λ e. agent-fits (byteAt s (at + 1)) (byteAt s (at + 2)))) (λ e.
       cond-fits (eqb (byteAt s at) 3) _ _ (λ e. cond-fits (ltb (length s - at) 5) _ _ (λ e. faulty)
       (λ e. action-fits (byteAt s (at + 1)) (byteAt s (at + 2)) _)) (λ e.
-      cond-fits (eqb (byteAt s at) 4) _ _ (λ e. end) (λ e. faulty))))
+      cond-fits (eqb (byteAt s at) 4) _ _ (λ e. end) (λ e.
+      cond-fits (eqb (byteAt s at) 5) _ _ (λ e. cond-fits (ltb (length s - at) 6) _ _ (λ e. faulty)
+      (λ e. touch-fits (byteAt s (at + 1)) _ (four-few _ _ _ _))) (λ e. faulty)))))
 
 -- ---- a record looks at numbers below 64 only
 
@@ -90,7 +110,8 @@ past-refusal true x y z h = refl
 past-refusal false x y z h = h refl
 
 module _ (k k′ : Known) (same-places : (j : ℕ) → j < 64 → k .places j ≡ k′ .places j)
-    (same-agents : (j : ℕ) → j < 64 → k .agents j ≡ k′ .agents j) (same-full : (j : ℕ) → j < 64 → k .full j ≡ k′ .full j) where
+    (same-agents : (j : ℕ) → j < 64 → k .agents j ≡ k′ .agents j) (same-full : (j : ℕ) → j < 64 → k .full j ≡ k′ .full j)
+    (same-counted : (j : ℕ) → j < 64 → k .counted j ≡ k′ .counted j) where
   place-same : (number parent name : ℕ)
       → placeRecord (k .places number) (k .places parent) number parent name ≡ placeRecord (k′ .places number) (k′ .places parent) number parent name
   unfolding placeRecord
@@ -109,6 +130,10 @@ module _ (k k′ : Known) (same-places : (j : ℕ) → j < 64 → k .places j �
   action-same number kind name = past-refusal (leb 64 number) _ _ _ (λ low.
       rw (same-agents number (leb-false 64 number low), same-full number (leb-false 64 number low)))
 
+  touch-same : (q touches : ℕ) → touchRecord (k .counted q) (k .places q) q touches ≡ touchRecord (k′ .counted q) (k′ .places q) q touches
+  unfolding touchRecord
+  touch-same q touches = past-refusal (leb 64 q) _ _ _ (λ low. rw (same-counted q (leb-false 64 q low), same-places q (leb-false 64 q low)))
+
   -- so sets that agree below 64 give the same record
   pub record-same : (s : List ℕ) (at : ℕ) → recordAt k s at ≡ recordAt k′ s at
   unfolding recordAt
@@ -116,6 +141,7 @@ module _ (k k′ : Known) (same-places : (j : ℕ) → j < 64 → k .places j �
     place-same (byteAt s (at + 1)) (byteAt s (at + 2)),
     agent-same (byteAt s (at + 1)) (byteAt s (at + 2)),
     action-same (byteAt s (at + 1)) (byteAt s (at + 2)),
+    touch-same (byteAt s (at + 1)),
   )
 
 -- ---- the bare floor that a load starts from
@@ -149,17 +175,25 @@ bare-place (suc q) n = go (told (ltb q 63))
     go (yea e) = getD-replicate 63 q noPlace noPlace (ltb-true q 63 e)
     go (nay e) = List·getD-eq-default (replicate 63 noPlace) noPlace (ltb-false q 63 e)
 
+pub bare-touches : (q : ℕ) → cellOf bareTable .touches q ≡ 0
+unfolding cellOf bareTable
+bare-touches q = go (told (ltb q 64))
+  where
+    go : Told (ltb q 64) → _≡_ {A = ℕ} (getD (replicate 64 0) q 0) 0
+    go (yea e) = getD-replicate 64 q 0 0 (ltb-true q 64 e)
+    go (nay e) = List·getD-eq-default (replicate 64 0) 0 (ltb-false q 64 e)
+
 -- ---- the whole file
 
 -- what holds of the bare floor and of what the records come to holds of every load
 pub load-either : (s : List ℕ) (P : Load → Type 0) → (length s ≡ 0 → P (accepted (cellOf bareTable)))
-    → P (loadFrom (suc (length s)) (cellOf bareTable) s 0) → P (load s)
+    → P (loadFrom (suc (length s)) bareProgress s 0) → P (load s)
 unfolding load
 load-either [] P bare begun = bare refl
 load-either (byte ∷ rest) P bare begun = begun
 
 -- a file that has a byte is read record by record
-pub load-begun : (s : List ℕ) → 0 < length s → load s ≡ loadFrom (suc (length s)) (cellOf bareTable) s 0
+pub load-begun : (s : List ℕ) → 0 < length s → load s ≡ loadFrom (suc (length s)) bareProgress s 0
 unfolding load
 load-begun [] l = absurd (not-suc-le-zero l)
 load-begun (byte ∷ rest) l = refl

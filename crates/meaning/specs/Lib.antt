@@ -2,6 +2,7 @@ pub mod Refusals
 pub mod Update
 pub mod File
 pub mod Step
+pub mod Touch
 pub mod Run
 pub mod Calculus
 pub mod Plain
@@ -19,6 +20,7 @@ pub mod BenchTables
 pub mod BenchSound
 pub mod BenchCalls
 pub mod BenchAfter
+pub mod BenchTouch
 pub mod Bench
 pub mod FileLaws
 pub mod OrderLaws

@@ -13,7 +13,7 @@ use Rattle.meaning.specs.declared.Word.the-variants.{Looked, Took, Held,
 use Rattle.meaning.specs.declared.Answer.the-variants.{Did, Refused}
 use Rattle.meaning.specs.Step.{choose}
 use Rattle.meaning.specs.Calculus.{Tree, nextOf, move, Move}
-use Rattle.meaning.specs.Run.{Call, agentOf, wishOf, Reply, stepReply}
+use Rattle.meaning.specs.Run.{Call, agentOf, wishOf, Reply, stepReply, touchReply}
 
 -- "It knows each place's name and where it stands, each agent's home and unused actions, which places travel, and a pick for each agent";
 -- 64 is no pick
@@ -93,11 +93,12 @@ plainWord t a wish Slept = t
 plainWord t a wish Asleep = t
 plainWord t a wish Done = t
 
--- "Any other word, or a refusal: nothing."
+-- "Any other word, or a refusal: nothing."; "touch calls .., which the plain tree passes over" (document 02, W3)
 unfoldable pub plainStep : Plain → Call → Reply → Plain
 unfolding plainWord
 plainStep t k (stepReply (Did word woken)) = plainWord t (agentOf k) (wishOf k) word
 plainStep t k (stepReply (Refused number)) = t
+plainStep t k (touchReply answer) = t
 
 -- the plain tree after a list of calls and their answers
 unfoldable pub plainRun : Plain → List Call → List Reply → Plain
@@ -124,6 +125,7 @@ isMove Done = false
 abbrev pub saysMove : Reply → Bool
 saysMove (stepReply (Did word woken)) = isMove word
 saysMove (stepReply (Refused number)) = false
+saysMove (touchReply answer) = false
 
 -- "the loaded tree after one calculus move for each call answered left or opened, in the order of the calls, each a move that the calculus
 -- permits in the tree before it", and no change of the tree for any other answer

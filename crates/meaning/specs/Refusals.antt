@@ -7,11 +7,12 @@ use Prim.Native.Nat.{ℕ}
 abbrev pub cutShort : ℕ
 cutShort = 1
 
--- "unknown kind, not 1 to 4"
+-- "unknown kind, not 1 to 4"; "Kind 5 leaves the unknown kinds"
 abbrev pub unknownKind : ℕ
 unknownKind = 2
 
--- "number too large, or place number 0": "for a place record's own number" (document 02, W2)
+-- "number too large, or place number 0": "for a place record's own number" (document 02, W2), and for
+-- the place of a touch record or call (W3)
 abbrev pub placeTooLarge : ℕ
 placeTooLarge = 3
 
@@ -60,3 +61,7 @@ noSuchAgent = 11
 -- "listing longer than the buffer"
 abbrev pub tooLong : ℕ
 tooLong = 12
+
+-- "15, last in a touch call, if that call would make it so": a table whose sum of touches passes 1,000,000,000,000
+abbrev pub tooManyTouches : ℕ
+tooManyTouches = 15

@@ -1,4 +1,5 @@
--- Step calls (document 01, "Turned-away calls" and "One step"): a call on a table with its refusals, and a run of calls one after the other.
+-- Step calls (document 01, "Turned-away calls" and "One step"): a call on a table with its refusals, and a run of calls of any kind one after
+-- the other.
 use Prim.Native.Nat.{ℕ}
 use mathlib.Core.Bool.{Bool, true, false, not, _&&_, cond}
 use mathlib.Core.List.{List, [], _∷_}
@@ -12,8 +13,11 @@ use Rattle.meaning.specs.declared.Word.the-variants.{Looked, Took, Held,
 use Rattle.meaning.specs.declared.Answer.{Answer}
 use Rattle.meaning.specs.declared.Answer.the-variants.{Did, Refused}
 use Rattle.meaning.specs.declared.Stepped.{Stepped}
+use Rattle.meaning.specs.declared.Touching.{Touching}
+use Rattle.meaning.specs.declared.Touched.{Touched}
 use Rattle.meaning.specs.Refusals.{unsoundTable, noSuchAgent}
 use Rattle.meaning.specs.Step.{Outcome, step}
+use Rattle.meaning.specs.Touch.{touchOf}
 
 -- ---- the step call
 
@@ -34,33 +38,41 @@ stepOf t agent wish =
 
 -- ---- any call that may change a cell
 
--- a step call: "A call names an agent and a wish, a byte"
+-- a step call: "A call names an agent and a wish, a byte"; a touch call "adds a four-byte number to a place" (document 02, W3)
 pub data Call : Type 0 where
   stepCall : ℕ → ℕ → Call
+  touchCall : ℕ → ℕ → Call
 
--- the agent that a call names, and the wish
+-- the agent that a call names, none where it names none, and the wish
 abbrev pub agentOf : Call → ℕ
 agentOf (stepCall agent wish) = agent
+agentOf (touchCall place number) = none
 
 abbrev pub wishOf : Call → ℕ
 wishOf (stepCall agent wish) = wish
+wishOf (touchCall place number) = none
 
 -- what a call answers
 pub data Reply : Type 0 where
   stepReply : Answer → Reply
+  touchReply : Touching → Reply
 
 -- the table after a call, and its reply
 pub record Called : Type 0 where
   pub cell : Cell
   pub reply : Reply
 
--- a step call's result as that of any call
+-- a step call's or a touch call's result as that of any call
 abbrev pub byStep : Stepped → Called
 byStep s = record { cell = s .cell; reply = stepReply (s .answer) }
+
+abbrev pub byTouch : Touched → Called
+byTouch s = record { cell = s .cell; reply = touchReply (s .answer) }
 
 -- a call on a table
 unfoldable pub callOf : Cell → Call → Called
 callOf t (stepCall agent wish) = byStep (stepOf t agent wish)
+callOf t (touchCall place number) = byTouch (touchOf t place number)
 
 -- ---- a run
 

@@ -1,5 +1,5 @@
 -- One lock step (document 01, "One step"), over total functions: the agent's stage decides the step.
-use Prim.Native.Nat.{ℕ}
+use Prim.Native.Nat.{ℕ, _+_, _%_, _^_}
 use mathlib.Core.Bool.{Bool, not, _&&_, _||_, cond}
 use lib.Dec.{ltb, leb, eqb}
 use Rattle.sets.specs.Word.{countOf, lowestOf, upto}
@@ -11,7 +11,7 @@ use Rattle.table.specs.declared.Place.{Place}
 use Rattle.table.specs.declared.Agent.{Agent}
 use Rattle.meaning.specs.declared.Word.{Word}
 use Rattle.meaning.specs.declared.Word.the-variants.{Looked, Took, Held, Back, Slept, Left, Came, Opened, Asleep, Done}
-use Rattle.meaning.specs.Update.{withParent, withWay, withHome, atStage, useUp, withPlaces, withUsed, withLand, withLocks, withAgents, withAgent, released}
+use Rattle.meaning.specs.Update.{withParent, withWay, withHome, atStage, useUp, withPlaces, withUsed, withLand, withLocks, withAgents, withAgent, withTouches, released}
 
 -- "The answer is a word and how many agents the step woke", with the cell after the step
 pub record Outcome : Type 0 where
@@ -199,12 +199,17 @@ letsGo c t y = c .given y && (eqb (c .agent y .home) t && eqb (c .agent y .stage
 unfoldable pub dissolveLock : State → ℕ → ℕ → ℕ
 dissolveLock c t q = cond (c .land .used q && letsGo c t (c .lock q)) none (c .lock q)
 
+-- "When a place is opened, its count is pooled into the place of the agent that opened it" (document 02, W3): t's touches go to p, and the
+-- number that becomes unused has none. A count has 64 bits; in a sound table the sum of two needs 40
+abbrev pub pooled : (ℕ → ℕ) → ℕ → ℕ → ℕ → ℕ
+pooled touches p t = upd (upd touches p ((touches p + touches t) % 2 ^ 64)) t 0
+
 -- "Open: children and agents of the chosen place go to p, .. the action is used up; release both; opened."
 unfoldable pub dissolve : State → ℕ → Agent → ℕ → ℕ → Outcome
 dissolve c x a p t = record {
-  cell = withLand (withLocks (withAgents c
+  cell = withTouches (withLand (withLocks (withAgents c
       (upd (λ y. cond (c .given y) (dissolveAgent p t (c .agent y)) (c .agent y)) x (atStage (useUp a) (restStage (useUp a)) 0 0)))
-      (released (dissolveLock c t) p t)) (dissolveLand (c .land) p t);
+      (released (dissolveLock c t) p t)) (dissolveLand (c .land) p t)) (pooled (c .touches) p t);
   word = Opened;
   woken = countOf 64 (λ y. c .given y && wokenBy p t (c .agent y));
 }

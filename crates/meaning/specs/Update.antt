@@ -61,16 +61,19 @@ abbrev pub withUsed : Land → (ℕ → Bool) → Land
 withUsed l f = record { place = l .place; used = f }
 
 abbrev pub withLand : State → Land → State
-withLand c l = record { land = l; lock = c .lock; agent = c .agent; given = c .given }
+withLand c l = record { land = l; lock = c .lock; agent = c .agent; given = c .given; touches = c .touches }
 
 abbrev pub withLocks : State → (ℕ → ℕ) → State
-withLocks c f = record { land = c .land; lock = f; agent = c .agent; given = c .given }
+withLocks c f = record { land = c .land; lock = f; agent = c .agent; given = c .given; touches = c .touches }
 
 abbrev pub withAgents : State → (ℕ → Agent) → State
-withAgents c f = record { land = c .land; lock = c .lock; agent = f; given = c .given }
+withAgents c f = record { land = c .land; lock = c .lock; agent = f; given = c .given; touches = c .touches }
 
 abbrev pub withGiven : State → (ℕ → Bool) → State
-withGiven c f = record { land = c .land; lock = c .lock; agent = c .agent; given = f }
+withGiven c f = record { land = c .land; lock = c .lock; agent = c .agent; given = f; touches = c .touches }
+
+abbrev pub withTouches : State → (ℕ → ℕ) → State
+withTouches c f = record { land = c .land; lock = c .lock; agent = c .agent; given = c .given; touches = f }
 
 -- agent x becomes a
 abbrev pub withAgent : State → ℕ → Agent → State

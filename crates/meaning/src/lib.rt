@@ -10,6 +10,8 @@ pub enum Record {
     // Agent, kind, name.
     ActionRecord(u8, u8, u16),
     EndRecord,
+    // Place, touches.
+    TouchRecord(u8, u32),
     Faulty(u8),
 }
 
@@ -49,6 +51,18 @@ pub enum Answer {
 pub struct Stepped {
     pub cell: Cell,
     pub answer: Answer,
+}
+
+// What a touch call answers, and what one for a place's touches does: the place's count, or a refusal's number.
+pub enum Touching {
+    Count(u64),
+    Untouched(u8),
+}
+
+// A touch call's answer, and the cell after it.
+pub struct Touched {
+    pub cell: Cell,
+    pub answer: Touching,
 }
 
 // What a listing call answers: the length, or a refusal's number.

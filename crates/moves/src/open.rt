@@ -17,9 +17,9 @@ ghost use mathlib.Core.Bool.{_&&_, cond};
 ghost use lib.Dec.{eqb};
 ghost use lib.ListN.{getD};
 ghost use Rattle.sets.specs.Set.{member};
-ghost use Rattle.table.specs.Base.{tab};
+ghost use Rattle.table.specs.Base.{tab, upd};
 ghost use Rattle.table.specs.Cell.{none, noPlace, cellOf};
-ghost use Rattle.meaning.specs.Step.{dissolvePlace, dissolveAgent, wokenBy};
+ghost use Rattle.meaning.specs.Step.{dissolvePlace, dissolveAgent, wokenBy, pooled};
 ghost use Rattle.meaning.specs.Run.{made};
 
 // Place q, in use, once t is dissolved into p: cleared where it is t, and a child of t goes to p.
@@ -75,6 +75,41 @@ fn free_held(ls: [u8; 64], used: Set, s: Set) -> [u8; 64]
         ms[k] = n;
     }
     ms
+}
+
+// The touches of q, or 0 where there is no such place.
+fn touches_of(ts: [u64; 64], q: u8) -> u64
+    ensures { λ r. ⌜ r ≡ getD ts q 0 ⌝ }
+{
+    if q < 64 {
+        let k = q as usize;
+        ts[k]
+    } else {
+        0
+    }
+}
+
+// The touches once those of q are n.
+fn with_touches(ts: [u64; 64], q: u8, n: u64) -> [u64; 64]
+    ensures { λ r. ⌜ r ≡ tab (upd (λ j. getD ts j 0) q n) 64 0 ⌝ }
+{
+    let mut us = ts;
+    if q < 64 {
+        let k = q as usize;
+        us[k] = n;
+    }
+    us
+}
+
+// The touches once t is dissolved into p: p has those of both, and t none.
+fn pool(ts: [u64; 64], p: u8, t: u8) -> [u64; 64]
+    ensures { λ r. ⌜ r ≡ tab (pooled (λ q. getD ts q 0) p t) 64 0 ⌝ }
+{
+    let a = touches_of(ts, p);
+    let b = touches_of(ts, t);
+    let sum = std::num::wrapping_add_u64(a, b);
+    let us = with_touches(ts, p, sum);
+    with_touches(us, t, 0)
 }
 
 // The stage of an agent that moves: 8 if it is done, else 0.
@@ -143,6 +178,7 @@ pub(super) fn dissolve(c: Cell, x: u8, a: Agent, p: u8, t: u8) -> Stepped
     let used = c.used;
     let ps = c.places;
     let ls = c.locks;
+    let ts = c.touches;
     let mut d = c;
     let mut holders = Set::EMPTY;
     let mut sleepers = Set::EMPTY;
@@ -166,6 +202,8 @@ pub(super) fn dissolve(c: Cell, x: u8, a: Agent, p: u8, t: u8) -> Stepped
     d.locks = ns;
     let us = used.remove(t);
     d.used = us;
+    let both = pool(ts, p, t);
+    d.touches = both;
     let u = use_up(a);
     let s = rest_stage(u.next, u.count);
     let b = at_stage(u, s, 0, 0);

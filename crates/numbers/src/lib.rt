@@ -3,6 +3,7 @@ use meaning::Answer;
 use meaning::Checked;
 use meaning::Idled;
 use meaning::Listed;
+use meaning::Touching;
 use meaning::Verdict;
 use meaning::Word;
 ghost use mathlib.Core.Path.{_≡_};
@@ -53,6 +54,16 @@ pub fn load_number(verdict: Verdict) -> u64
     match verdict {
         Verdict::Accepted => 0,
         Verdict::Rejected(number, offset) => above(offset as u64, number),
+    }
+}
+
+// A touch call's answer: the place's count above 0.
+pub fn touch_number(answer: Touching) -> u64
+    ensures { λ r. ⌜ r ≡ codes.touchNumber answer ⌝ }
+{
+    match answer {
+        Touching::Count(count) => above(count, 0),
+        Touching::Untouched(number) => number as u64,
     }
 }
 

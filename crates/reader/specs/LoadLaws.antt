@@ -1,5 +1,6 @@
 -- One turn of the load loop, on the table of the cell so far: what is left of the file loads to what the whole file loads to.
--- The loop keeps a table and the set of agents whose rows are full; each record changes one element and one set, as the definition does.
+-- The loop keeps a table, the set of agents whose rows are full and the set of places whose touches were given; each record changes one
+-- element and one set, as the definition does.
 use mathlib.Core.Path.{_≡_, refl, sym, ap, ap₂, _∙_, subst}
 use mathlib.Core.Bool.{Bool, true, false, _||_}
 use mathlib.Core.List.{List}
@@ -15,50 +16,56 @@ use Rattle.sets.specs.SetLaws.{set-eq, member-set, set-ext}
 use Rattle.sets.specs.declared.Set.{Set}
 use Rattle.table.specs.Base.{upd, tab}
 use Rattle.table.specs.BaseLaws.{eq?, upd-at, upd-other, getD-tab, set-tab}
-use Rattle.table.specs.Cell.{State, noPlace, noAgent, bareTable, cellOf, tableOf, putPlaces, putAgents, putUsed, putGiven}
+use Rattle.table.specs.Cell.{State, noPlace, noAgent, bareTable, cellOf, tableOf, putPlaces, putAgents, putUsed, putGiven, putTouches}
 use Rattle.table.specs.CellLaws.{back, sized-bare}
 use Rattle.table.specs.declared.Place.{Place}
 use Rattle.table.specs.declared.Agent.{Agent}
 use Rattle.table.specs.declared.Cell.{Cell}
 use Rattle.meaning.specs.Refusals.{cutShort, afterEnd}
 use Rattle.meaning.specs.declared.Record.{Record}
-use Rattle.meaning.specs.declared.Record.the-variants.{PlaceRecord, AgentRecord, ActionRecord, EndRecord, Faulty}
+use Rattle.meaning.specs.declared.Record.the-variants.{PlaceRecord, AgentRecord, ActionRecord, EndRecord, TouchRecord, Faulty}
 use Rattle.meaning.specs.declared.Verdict.the-variants.{Accepted, Rejected}
 use Rattle.meaning.specs.Update.{linkedPlace, withHome}
-use Rattle.meaning.specs.File.{recordAt, addPlace, withAction, addAgent, addAction, isFull, knownIn, accepted, refused, loadRecord, loadFrom, load, loaded, loadOf}
+use Rattle.meaning.specs.File.{recordAt, addPlace, withAction, addAgent, addAction, giveTouches, isFull, Known, Progress, withCell, withCounted, knownIn, bareProgress, accepted, refused, loadRecord, loadFrom, load, loaded, loadOf}
 use Rattle.reader.specs.KnownSets.{knownBy}
-use Rattle.meaning.specs.FileLaws.{Fits, place, agent, action, record-fits, record-same, load-begun, load-empty}
+use Rattle.meaning.specs.FileLaws.{Fits, place, agent, action, touch, record-fits, record-same, load-begun, load-empty}
 
 -- ---- the load from an offset on
 
--- the load from an offset on, with the table d and the full agents so far, comes to the load of the whole file
-pub record Rest (s : List ℕ) (at : ℕ) (d : Cell) (full : Set) : Type 0 where
-  pub cell : State
+-- the load from an offset on, with the table d, the full agents and the counted places so far, comes to the load of the whole file
+pub record Rest (s : List ℕ) (at : ℕ) (d : Cell) (full counted : Set) : Type 0 where
+  pub made : Progress
   pub turns : ℕ
-  pub is : d ≡ tableOf cell
-  pub filled : full ≡ setOf (isFull cell)
+  pub is : d ≡ tableOf (made .cell)
+  pub filled : full ≡ setOf (isFull (made .cell))
+  pub numbered : counted ≡ setOf (made .counted)
   pub enough : length s < turns + at
-  pub rest : loadFrom turns cell s at ≡ load s
+  pub rest : loadFrom turns made s at ≡ load s
 
--- no row of the bare floor is full
+-- no row of the bare floor is full, and no touches are given
 none-full : 0 ≡ setOf (isFull (cellOf bareTable)) .bits
 unfolding cellOf bareTable wordOf
 none-full = refl
 
+none-counted : 0 ≡ setOf (bareProgress .counted) .bits
+unfolding wordOf
+none-counted = refl
+
 -- the loop starts with the bare floor and the whole file, which has a byte
-pub rest-all : (s : List ℕ) (d : Cell) (full : Set) → 0 < length s → d ≡ bareTable → full .bits ≡ 0 → Rest s 0 d full
-rest-all s d full l e f = record {
-  cell = cellOf bareTable;
+pub rest-all : (s : List ℕ) (d : Cell) (full counted : Set) → 0 < length s → d ≡ bareTable → full .bits ≡ 0 → counted .bits ≡ 0 → Rest s 0 d full counted
+rest-all s d full counted l e f g = record {
+  made = bareProgress;
   turns = suc (length s);
   is = e ∙ sym (back bareTable sized-bare);
   filled = set-eq (f ∙ none-full);
+  numbered = set-eq (g ∙ none-counted);
   enough = omega arith;
   rest = sym (load-begun s l);
 }
 
-module _ (s : List ℕ) (at : ℕ) (d : Cell) (full : Set) (r : Rest s at d full) where
+module _ (s : List ℕ) (at : ℕ) (d : Cell) (full counted : Set) (r : Rest s at d full counted) where
   abbrev c : State
-  c = r .cell
+  c = r .made .cell
 
   used-at : (j : ℕ) → j < 64 → member (d .used) j ≡ c .land .used j
   unfolding tableOf
@@ -71,16 +78,23 @@ module _ (s : List ℕ) (at : ℕ) (d : Cell) (full : Set) (r : Rest s at d full
   full-at : (j : ℕ) → j < 64 → member full j ≡ isFull c j
   full-at j l = ap (λ (f : Set). member f j) (r .filled) ∙ member-set (isFull c) j l
 
+  counted-at : (j : ℕ) → j < 64 → member counted j ≡ r .made .counted j
+  counted-at j l = ap (λ (f : Set). member f j) (r .numbered) ∙ member-set (r .made .counted) j l
+
+  -- what was given so far
+  abbrev known : Known
+  known = knownBy (d .used) (d .given) full counted
+
   -- x is the record that the program reads
   abbrev Reads : Record → Type 0
-  Reads x = x ≡ recordAt (knownBy (d .used) (d .given) full) s at
+  Reads x = x ≡ recordAt known s at
 
   -- it is the definition's
-  read : recordAt (knownBy (d .used) (d .given) full) s at ≡ recordAt (knownIn c) s at
-  read = record-same (knownBy (d .used) (d .given) full) (knownIn c) used-at given-at full-at s at
+  read : recordAt known s at ≡ recordAt (knownIn (r .made)) s at
+  read = record-same known (knownIn (r .made)) used-at given-at full-at counted-at s at
 
-  fits : {x : Record} → Reads x → Fits (knownBy (d .used) (d .given) full) x
-  fits q = subst (Fits (knownBy (d .used) (d .given) full)) (sym q) (record-fits (knownBy (d .used) (d .given) full) s at)
+  fits : {x : Record} → Reads x → Fits known x
+  fits q = subst (Fits known) (sym q) (record-fits known s at)
 
   -- ---- the end of the file
 
@@ -89,8 +103,8 @@ module _ (s : List ℕ) (at : ℕ) (d : Cell) (full : Set) (r : Rest s at d full
   short l = go (r .turns) refl
     where
       go : (k : ℕ) → r .turns ≡ k → refused cutShort (length s) ≡ load s
-      go zero e = sym (ap (λ (n : ℕ). loadFrom n c s at) e) ∙ r .rest
-      go (suc k) e = sym (ap (λ (n : ℕ). loadFrom n c s at) e ∙ rw (le-ltb at (length s) l)) ∙ r .rest
+      go zero e = sym (ap (λ (n : ℕ). loadFrom n (r .made) s at) e) ∙ r .rest
+      go (suc k) e = sym (ap (λ (n : ℕ). loadFrom n (r .made) s at) e ∙ rw (le-ltb at (length s) l)) ∙ r .rest
 
   module _ (low : at < length s) where
     more : (k : ℕ) × (r .turns ≡ suc k)
@@ -101,9 +115,9 @@ module _ (s : List ℕ) (at : ℕ) (d : Cell) (full : Set) (r : Rest s at d full
         go (suc k) e = (k, e)
 
     -- what the load comes to where the record is x
-    turn-is : (x : Record) → Reads x → loadRecord (λ v i. loadFrom (more .0) v s i) c s at x ≡ load s
+    turn-is : (x : Record) → Reads x → loadRecord (λ v i. loadFrom (more .0) v s i) (r .made) s at x ≡ load s
     unfolding loadFrom
-    turn-is x q = sym (rw (lt-ltb at (length s) low, ← read, ← q)) ∙ ap (λ (n : ℕ). loadFrom n c s at) (sym (more .1)) ∙ r .rest
+    turn-is x q = sym (rw (lt-ltb at (length s) low, ← read, ← q)) ∙ ap (λ (n : ℕ). loadFrom n (r .made) s at) (sym (more .1)) ∙ r .rest
 
     pub stopped : (n : ℕ) → Reads (Faulty n) → refused n at ≡ load s
     unfolding loadRecord
@@ -135,6 +149,10 @@ module _ (s : List ℕ) (at : ℕ) (d : Cell) (full : Set) (r : Rest s at d full
       unfolding tableOf
       place-put x = ap₂ (λ (t : Cell) (j : ℕ). set (t .places) j x) (r .is) same ∙ set-tab noPlace (c .land .place) 64 n x l
 
+      touches-put : (m : ℕ) → set (d .touches) i m ≡ tab (upd (c .touches) n m) 64 0
+      unfolding tableOf
+      touches-put m = ap₂ (λ (t : Cell) (j : ℕ). set (t .touches) j m) (r .is) same ∙ set-tab 0 (c .touches) 64 n m l
+
     -- one number more in a set
     one-more : (f : ℕ → Bool) (t u : Set) (n : ℕ) → ((j : ℕ) → j < 64 → member t j ≡ f j) → u ≡ inserted t n → u .bits ≡ setOf (λ j. eqb j n || f j) .bits
     one-more f t u n g e = ap (λ (v : Set). v .bits) (e ∙ set-ext _ _ (λ j k. ap (_||_ (eqb j n)) (g j k)))
@@ -145,18 +163,37 @@ module _ (s : List ℕ) (at : ℕ) (d : Cell) (full : Set) (r : Rest s at d full
     abbrev newPlace : ℕ → ℕ → ℕ → Set → Cell
     newPlace p m i u = putUsed (putPlaces d (set (d .places) i (linkedPlace m p))) u
 
-    pub rest-place : (n p m i : ℕ) (u : Set) → Reads (PlaceRecord n p m) → i ≡ n % 64 → u ≡ inserted (d .used) n → Rest s (at + 5) (newPlace p m i u) full
+    pub rest-place : (n p m i : ℕ) (u : Set) → Reads (PlaceRecord n p m) → i ≡ n % 64 → u ≡ inserted (d .used) n → Rest s (at + 5) (newPlace p m i u) full counted
     unfolding tableOf addPlace loadRecord
     rest-place n p m i u q e f = go (fits q)
       where
-        go : Fits (knownBy (d .used) (d .given) full) (PlaceRecord n p m) → Rest s (at + 5) (newPlace p m i u) full
+        go : Fits known (PlaceRecord n p m) → Rest s (at + 5) (newPlace p m i u) full counted
         go (place one l under new known named) = record {
-          cell = addPlace c n p m;
+          made = withCell (r .made) (addPlace c n p m);
           turns = more .0;
           is = λ j. putUsed (putPlaces (r .is j) (place-put n i l e (linkedPlace m p) j)) (record { bits = one-more (c .land .used) (d .used) u n used-at f j });
           filled = r .filled;
+          numbered = r .numbered;
           enough = omega (arith, r .enough, more .1);
           rest = turn-is (PlaceRecord n p m) q;
+        }
+
+    -- ---- a touch record
+
+    pub rest-touches : (n m i : ℕ) (u : Set) → Reads (TouchRecord n m) → i ≡ n % 64 → u ≡ inserted counted n
+        → Rest s (at + 6) (putTouches d (set (d .touches) i m)) full u
+    unfolding tableOf giveTouches loadRecord
+    rest-touches n m i u q e f = go (fits q)
+      where
+        go : Fits known (TouchRecord n m) → Rest s (at + 6) (putTouches d (set (d .touches) i m)) full u
+        go (touch l new given _) = record {
+          made = withCounted (r .made) n m;
+          turns = more .0;
+          is = λ j. putTouches (r .is j) (touches-put n i l e m j);
+          filled = r .filled;
+          numbered = set-eq (one-more (r .made .counted) counted u n counted-at f);
+          enough = omega (arith, r .enough, more .1);
+          rest = turn-is (TouchRecord n m) q;
         }
 
     -- ---- an agent record
@@ -174,18 +211,19 @@ module _ (s : List ℕ) (at : ℕ) (d : Cell) (full : Set) (r : Rest s at d full
     newAgent i a u = putGiven (putAgents d (set (d .agents) i a)) u
 
     pub rest-agent : (n h i : ℕ) (a : Agent) (u : Set) → Reads (AgentRecord n h) → i ≡ n % 64 → a ≡ withHome (getD (d .agents) i noAgent) h
-        → u ≡ inserted (d .given) n → Rest s (at + 3) (newAgent i a u) full
+        → u ≡ inserted (d .given) n → Rest s (at + 3) (newAgent i a u) full counted
     unfolding tableOf addAgent loadRecord
     rest-agent n h i a u q e b f = go (fits q)
       where
-        go : Fits (knownBy (d .used) (d .given) full) (AgentRecord n h) → Rest s (at + 3) (newAgent i a u) full
+        go : Fits known (AgentRecord n h) → Rest s (at + 3) (newAgent i a u) full counted
         go (agent l under new known) = record {
-          cell = addAgent c n h;
+          made = withCell (r .made) (addAgent c n h);
           turns = more .0;
           is = λ j. putGiven (putAgents (r .is j)
               ((ap (set (d .agents) i) (b ∙ ap (λ (x : Agent). withHome x h) (agent-at n i l e)) ∙ agent-put n i l e (withHome (c .agent n) h)) j))
               (record { bits = one-more (c .given) (d .given) u n given-at f j });
           filled = r .filled ∙ set-ext _ _ (λ j k. home-full n h j);
+          numbered = r .numbered;
           enough = omega (arith, r .enough, more .1);
           rest = turn-is (AgentRecord n h) q;
         }
@@ -196,7 +234,7 @@ module _ (s : List ℕ) (at : ℕ) (d : Cell) (full : Set) (r : Rest s at d full
       low-room : (n < 64) × (isFull c n ≡ false)
       low-room = go (fits q)
         where
-          go : Fits (knownBy (d .used) (d .given) full) (ActionRecord n k m) → (n < 64) × (isFull c n ≡ false)
+          go : Fits known (ActionRecord n k m) → (n < 64) × (isFull c n ≡ false)
           go (action l known room one three named) = (l, sym (full-at n l) ∙ room)
 
       abbrev l : n < 64
@@ -226,13 +264,14 @@ module _ (s : List ℕ) (at : ℕ) (d : Cell) (full : Set) (r : Rest s at d full
           go j (inr t) = sym (full-else j t)
 
       pub rest-action : (a : Agent) (f : Set) → a ≡ withAction (getD (d .agents) i noAgent) k m → f ≡ insertedIf full n (ltb 15 (a .count))
-          → Rest s (at + 5) (newAgent i a (d .given)) f
+          → Rest s (at + 5) (newAgent i a (d .given)) f counted
       unfolding tableOf addAction loadRecord withAction
       rest-action a f b h = record {
-        cell = addAction c n k m;
+        made = withCell (r .made) (addAction c n k m);
         turns = more .0;
         is = λ j. putAgents (r .is j) ((ap (set (d .agents) i) new ∙ agent-put n i l e (withAction (c .agent n) k m)) j);
         filled = h ∙ filled-now (ltb 15 (a .count)) (ap (λ (x : Agent). ltb 15 (x .count)) new);
+        numbered = r .numbered;
         enough = omega (arith, r .enough, more .1);
         rest = turn-is (ActionRecord n k m) q;
       }

@@ -6,3 +6,5 @@ pub mod LeadLaws
 pub mod LandLaws
 pub mod SoundLaws
 pub mod Seen
+pub mod Left
+pub mod LeftLaws

@@ -34,6 +34,7 @@ sized t g = record {
   agents = sym (length-map (t .agents) _) ∙ g .1 .1 .1 .1 .0 .1 .0 .1;
   used = g .1 .1 .1 .1 .1 .0 .1 .1 .0 .1;
   given = g .1 .1 .1 .1 .1 .1 .0 .1 .1 .0 .1;
+  touches = sym (length-map (t .touches) _) ∙ g .1 .1 .1 .1 .1 .1 .1 .0 .1 .0 .1;
 }
 
 -- ---- names

@@ -1,4 +1,4 @@
--- Functions on numbers: one value changed, tests and counts below a bound, tables.
+-- Functions on numbers: one value changed, tests, counts and sums below a bound, tables.
 use Prim.Native.Nat.{ℕ, zero, suc, _+_}
 use mathlib.Core.Bool.{Bool, true, false, _&&_, _||_, cond}
 use mathlib.Core.List.{List, [], _∷_}
@@ -33,6 +33,11 @@ anyBelow P (suc n) = P n || anyBelow P n
 unfoldable pub countBelow : (ℕ → Bool) → ℕ → ℕ
 countBelow P zero = 0
 countBelow P (suc n) = countBelow P n + bit (P n)
+
+-- f 0 + f 1 + .. below n
+unfoldable pub sumBelow : (ℕ → ℕ) → ℕ → ℕ
+sumBelow f zero = 0
+sumBelow f (suc n) = sumBelow f n + f n
 
 -- f applied n times
 unfoldable pub iter : (ℕ → ℕ) → ℕ → ℕ → ℕ

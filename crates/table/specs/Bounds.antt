@@ -13,6 +13,7 @@ pub record Sized (t : Cell) : Type 0 where
   pub agents : length (t .agents) ≡ 64
   pub used : t .used .bits < 2 ^ 64
   pub given : t .given .bits < 2 ^ 64
+  pub touches : length (t .touches) ≡ 64
 
 -- its names have 16 bits: so it is of every value of the struct too
 pub record Names16 (t : Cell) : Type 0 where
@@ -26,3 +27,4 @@ pub record Bounded (c : State) : Type 0 where
   pub lock : (q : ℕ) → 64 ≤ q → c .lock q ≡ 0
   pub agent : (x : ℕ) → 64 ≤ x → c .agent x ≡ noAgent
   pub given : (x : ℕ) → 64 ≤ x → c .given x ≡ false
+  pub touches : (q : ℕ) → 64 ≤ q → c .touches q ≡ 0

@@ -83,12 +83,13 @@ pub record Land : Type 0 where
   pub place : ℕ → Place
   pub used : ℕ → Bool
 
--- places, "a lock, free or held by one agent" for each, and the agents given
+-- places, "a lock, free or held by one agent" for each, the agents given, and for each place "a touch count" (document 02, W3)
 pub record State : Type 0 where
   pub land : Land
   pub lock : ℕ → ℕ
   pub agent : ℕ → Agent
   pub given : ℕ → Bool
+  pub touches : ℕ → ℕ
 
 -- the land of a table's places and the set of those in use
 abbrev pub landOf : List Place → Set → Land
@@ -101,6 +102,7 @@ cellOf t = record {
   lock = λ q. getD (t .locks) q 0;
   agent = λ x. getD (t .agents) x noAgent;
   given = has (t .given .bits);
+  touches = λ q. getD (t .touches) q 0;
 }
 
 -- the table that holds a cell
@@ -111,9 +113,10 @@ tableOf c = record {
   agents = tab (c .agent) 64 0;
   used = record { bits = wordOf 64 (c .land .used) };
   given = record { bits = wordOf 64 (c .given) };
+  touches = tab (c .touches) 64 0;
 }
 
--- "A load starts from a bare floor": one place, no lock held, no agents
+-- "A load starts from a bare floor": one place, no lock held, no agents; a touch count, "starting at 0"
 unfoldable pub bareTable : Cell
 bareTable = record {
   places = floorPlace ∷ replicate 63 noPlace;
@@ -121,24 +124,28 @@ bareTable = record {
   agents = replicate 64 freshAgent;
   used = record { bits = 1 };
   given = record { bits = 0 };
+  touches = replicate 64 0;
 }
 
 -- ---- one array or set of a table written anew: besides tableOf and bareTable the only definitions that write a table out
 
 abbrev pub putPlaces : Cell → List Place → Cell
-putPlaces t ps = record { places = ps; locks = t .locks; agents = t .agents; used = t .used; given = t .given }
+putPlaces t ps = record { places = ps; locks = t .locks; agents = t .agents; used = t .used; given = t .given; touches = t .touches }
 
 abbrev pub putLocks : Cell → List ℕ → Cell
-putLocks t ls = record { places = t .places; locks = ls; agents = t .agents; used = t .used; given = t .given }
+putLocks t ls = record { places = t .places; locks = ls; agents = t .agents; used = t .used; given = t .given; touches = t .touches }
 
 abbrev pub putAgents : Cell → List Agent → Cell
-putAgents t s = record { places = t .places; locks = t .locks; agents = s; used = t .used; given = t .given }
+putAgents t s = record { places = t .places; locks = t .locks; agents = s; used = t .used; given = t .given; touches = t .touches }
 
 abbrev pub putUsed : Cell → Set → Cell
-putUsed t s = record { places = t .places; locks = t .locks; agents = t .agents; used = s; given = t .given }
+putUsed t s = record { places = t .places; locks = t .locks; agents = t .agents; used = s; given = t .given; touches = t .touches }
 
 abbrev pub putGiven : Cell → Set → Cell
-putGiven t s = record { places = t .places; locks = t .locks; agents = t .agents; used = t .used; given = s }
+putGiven t s = record { places = t .places; locks = t .locks; agents = t .agents; used = t .used; given = s; touches = t .touches }
+
+abbrev pub putTouches : Cell → List ℕ → Cell
+putTouches t ns = record { places = t .places; locks = t .locks; agents = t .agents; used = t .used; given = t .given; touches = ns }
 
 -- ---- reading
 

@@ -19,17 +19,20 @@ use Rattle.table.specs.declared.Cell.{Cell}
 
 -- ---- equality, field by field
 
-pub table-eq : {x y : Cell} → x .places ≡ y .places → x .locks ≡ y .locks → x .agents ≡ y .agents → x .used .bits ≡ y .used .bits → x .given .bits ≡ y .given .bits → x ≡ y
-table-eq p l a u g = λ i. record { places = p i; locks = l i; agents = a i; used = record { bits = u i }; given = record { bits = g i } }
+pub table-eq : {x y : Cell} → x .places ≡ y .places → x .locks ≡ y .locks → x .agents ≡ y .agents → x .used .bits ≡ y .used .bits → x .given .bits ≡ y .given .bits
+    → x .touches ≡ y .touches → x ≡ y
+table-eq p l a u g n = λ i. record { places = p i; locks = l i; agents = a i; used = record { bits = u i }; given = record { bits = g i }; touches = n i }
 
-pub cell-eq : {x y : State} → x .land .place ≡ y .land .place → x .land .used ≡ y .land .used → x .lock ≡ y .lock → x .agent ≡ y .agent → x .given ≡ y .given → x ≡ y
-cell-eq p u l a g = λ i. record { land = record { place = p i; used = u i }; lock = l i; agent = a i; given = g i }
+pub cell-eq : {x y : State} → x .land .place ≡ y .land .place → x .land .used ≡ y .land .used → x .lock ≡ y .lock → x .agent ≡ y .agent → x .given ≡ y .given
+    → x .touches ≡ y .touches → x ≡ y
+cell-eq p u l a g n = λ i. record { land = record { place = p i; used = u i }; lock = l i; agent = a i; given = g i; touches = n i }
 
 -- a table is that of a cell, field by field
 pub made : (t : Cell) (c : State) → t .places ≡ tab (c .land .place) 64 0 → t .locks ≡ tab (c .lock) 64 0 → t .agents ≡ tab (c .agent) 64 0
-    → t .used .bits ≡ wordOf 64 (c .land .used) → t .given .bits ≡ wordOf 64 (c .given) → t ≡ tableOf c
+    → t .used .bits ≡ wordOf 64 (c .land .used) → t .given .bits ≡ wordOf 64 (c .given)
+    → t .touches ≡ tab (c .touches) 64 0 → t ≡ tableOf c
 unfolding tableOf
-made t c p l a u g = table-eq p l a u g
+made t c p l a u g n = table-eq p l a u g n
 
 -- ---- back: from a table to its cell and to the table again
 
@@ -54,9 +57,13 @@ module _ (t : Cell) (z : Sized t) where
   unfolding cellOf
   given-are = sym (word-has 64 (t .given .bits) (z .given))
 
+  pub touches-are : t .touches ≡ tab (cellOf t .touches) 64 0
+  unfolding cellOf
+  touches-are = sym (tab-getD 0 (t .touches) 64 (z .touches))
+
   -- a table is that of its cell
   pub back : tableOf (cellOf t) ≡ t
-  back = sym (made t (cellOf t) places-are locks-are agents-are used-are given-are)
+  back = sym (made t (cellOf t) places-are locks-are agents-are used-are given-are touches-are)
 
   -- ---- the cell of a table reads nothing at and past 64
   pub bounded : Bounded (cellOf t)
@@ -67,6 +74,7 @@ module _ (t : Cell) (z : Sized t) where
     lock = λ q l. past (t .locks) 0 (z .locks) q l;
     agent = λ x l. past (t .agents) noAgent (z .agents) x l;
     given = λ x l. has-past 64 (t .given .bits) x (z .given) l;
+    touches = λ q l. past (t .touches) 0 (z .touches) q l;
   }
     where
       past : {A : Type 0} (l : List A) (d : A) → length l ≡ 64 → (q : ℕ) → 64 ≤ q → getD l q d ≡ d
@@ -122,6 +130,7 @@ forth c b = cell-eq
     (tab-forth 0 (c .lock) (b .lock))
     (tab-forth noAgent (c .agent) (b .agent))
     (word-forth (c .given) (b .given))
+    (tab-forth 0 (c .touches) (b .touches))
 
 -- the table of a cell has the sizes of the struct
 pub sized-table : (c : State) → Sized (tableOf c)
@@ -132,9 +141,10 @@ sized-table c = record {
   agents = length-tab (c .agent) 64 0;
   used = word-lt 64 (c .land .used);
   given = word-lt 64 (c .given);
+  touches = length-tab (c .touches) 64 0;
 }
 
 -- and so has the bare floor
 pub sized-bare : Sized bareTable
 unfolding bareTable
-sized-bare = record { places = refl; locks = refl; agents = refl; used = lit< tt; given = lit< tt }
+sized-bare = record { places = refl; locks = refl; agents = refl; used = lit< tt; given = lit< tt; touches = refl }

@@ -1,5 +1,6 @@
 pub mod Base
 pub mod BaseLaws
+pub mod SumLaws
 pub mod SweepLaws
 pub mod Cell
 pub mod Bounds

@@ -9,7 +9,7 @@ use Prim.Native.Nat.{ℕ}
 use mathlib.Core.Bool.{Bool, true, false, not, _&&_, _||_, cond}
 use lib.Dec.{ltb, leb, eqb}
 use lib.ListN.{getD}
-use Rattle.table.specs.Base.{allBelow, anyBelow, countBelow, iter}
+use Rattle.table.specs.Base.{allBelow, anyBelow, countBelow, sumBelow, iter}
 use Rattle.table.specs.Cell.{looking, holding, holdingBoth, onWay, onWayOwn, onWayBoth, asleep, done}
 use Rattle.table.specs.Cell.{noAction, none, Land, State, hasAction, kindOf, linkedTo, enterKind, exitKind, openKind, lastKind, looksHome}
 use Rattle.table.specs.declared.Action.{Action}
@@ -135,6 +135,20 @@ placeSound c q = cond (c .land .used q) (placeFits c q) true
 abbrev pub leads : State → ℕ → Bool
 leads c q = cond (c .land .used q) (eqb (iter (λ r. c .land .place r .parent) 64 q) 0) true
 
+-- ---- touches (document 02, W3)
+
+-- the touches of place q, if it is in use
+abbrev pub touchesAt : State → ℕ → ℕ
+touchesAt c q = cond (c .land .used q) (c .touches q) 0
+
+-- "The sum over places in use"
+unfoldable pub touchSum : State → ℕ
+touchSum c = sumBelow (touchesAt c) 64
+
+-- "A table whose sum passes 1,000,000,000,000 is unsound"
+abbrev pub mostTouches : ℕ
+mostTouches = 1000000000000
+
 -- ---- the table
 
 -- the floor, the agents given and the places in use are as they should be
@@ -143,5 +157,5 @@ coreSound c = c .land .used 0 && (allBelow (agentSound c) 64 && (allBelow (place
 
 -- "A table is sound when": the whole test
 unfoldable pub sound : State → Bool
-unfolding coreSound
-sound c = coreSound c
+unfolding coreSound touchSum
+sound c = coreSound c && leb (touchSum c) mostTouches

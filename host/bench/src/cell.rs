@@ -33,7 +33,10 @@ pub struct Agent {
     pub actions: [Action; 16],
 }
 
-/// The cell: places and agents by number, the lock of each place, and the numbers in use.
+/// The most touches that the places in use may have together.
+pub const MOST_TOUCHES: u64 = 1_000_000_000_000;
+
+/// The cell: places and agents by number, the lock of each place, the numbers in use, and the touches of each place.
 #[repr(C)]
 #[derive(Clone, Copy, PartialEq, Eq, Debug)]
 pub struct Cell {
@@ -42,9 +45,10 @@ pub struct Cell {
     pub agents: [Agent; 64],
     pub used: u64,
     pub given: u64,
+    pub touches: [u64; 64],
 }
 
-const _: () = assert!(size_of::<Place>() == 4 && size_of::<Agent>() == 70 && size_of::<Cell>() == 4816);
+const _: () = assert!(size_of::<Place>() == 4 && size_of::<Agent>() == 70 && size_of::<Cell>() == 5328);
 
 impl Cell {
     /// A bare floor: one place, no lock held, no agents.
@@ -53,7 +57,7 @@ impl Cell {
         places[0].way = 1;
         let actions = [Action { kind: 0, name: 0 }; 16];
         let agent = Agent { home: 0, stage: 8, remembered: 0, chosen: 0, next: 0, count: 0, actions };
-        Cell { places, locks: [NONE; 64], agents: [agent; 64], used: 1, given: 0 }
+        Cell { places, locks: [NONE; 64], agents: [agent; 64], used: 1, given: 0, touches: [0; 64] }
     };
 }
 

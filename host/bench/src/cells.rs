@@ -20,11 +20,12 @@ impl Random {
     }
 }
 
-/// A cell as a file will give it: places 1, 2, .. with parent and name, agents 0, 1, .. with home and actions.
+/// A cell as a file will give it: places 1, 2, .. with parent and name, agents 0, 1, .. with home and actions, and some places' touches.
 #[derive(Default)]
 pub struct Sketch {
     pub places: Vec<(u8, u16)>,
     pub agents: Vec<(u8, Vec<Action>)>,
+    pub touches: Vec<(u8, u32)>,
 }
 
 pub fn enter(name: u16) -> Action {
@@ -54,6 +55,10 @@ impl Sketch {
                 file.extend([3, x as u8, action.kind, low, high]);
             }
         }
+        for &(place, count) in &self.touches {
+            file.extend([5, place]);
+            file.extend(count.to_le_bytes());
+        }
         file.push(4);
         file
     }
@@ -74,12 +79,12 @@ impl Sketch {
 
 /// A bare floor with so many agents without actions on it.
 pub fn empty(agents: usize) -> Sketch {
-    Sketch { places: vec![], agents: vec![(0, vec![]); agents] }
+    Sketch { agents: vec![(0, vec![]); agents], ..Sketch::default() }
 }
 
 /// The worked example of document 01: two places, two agents, 27 bytes.
 pub fn worked() -> Sketch {
-    Sketch { places: vec![(0, 7), (0, 9)], agents: vec![(1, vec![enter(9)]), (2, vec![exit(7)])] }
+    Sketch { places: vec![(0, 7), (0, 9)], agents: vec![(1, vec![enter(9)]), (2, vec![exit(7)])], touches: vec![] }
 }
 
 /// Two bonders (20, 21) with a holder each (30, 31), two magazines (40, 41) with trays (50, 51) and a box (70), two capillaries
@@ -96,7 +101,7 @@ pub fn typical() -> Sketch {
         (4, vec![open(70)]),
         (0, vec![open(61), open(99)]),
     ];
-    Sketch { places, agents }
+    Sketch { places, agents, touches: vec![] }
 }
 
 /// Places and agents at random: one action in `rare` opens, the others enter or exit.
@@ -126,7 +131,7 @@ pub fn full() -> Sketch {
 /// A chain 63 deep. Every fourth place has an agent that takes it out of the one around it and back, eight times; as many agents look for
 /// something to enter and find nothing; one opens the last place.
 pub fn chain() -> Sketch {
-    let mut sketch = Sketch { places: (0..63).map(|q| (q, 100 + q as u16)).collect(), agents: vec![] };
+    let mut sketch = Sketch { places: (0..63).map(|q| (q, 100 + q as u16)).collect(), ..Sketch::default() };
     for q in (4..62).step_by(4) {
         let around = sketch.places[q as usize - 2].1;
         sketch.agents.push((q, (0..16).map(|i| if i % 2 == 0 { exit(around) } else { enter(around) }).collect()));
@@ -136,9 +141,11 @@ pub fn chain() -> Sketch {
     sketch
 }
 
-/// The cell of the longest file and of the longest listing: 63 places and 64 agents with sixteen actions, all on the floor.
+/// The cell of the longest file and of the longest listing: 63 places and 64 agents with sixteen actions, all on the floor, and the touches
+/// of every place.
 pub fn longest() -> Sketch {
-    Sketch { places: vec![(0, 65_535); 63], agents: vec![(0, vec![enter(65_535); 16]); 64] }
+    let touches = (0..64).map(|place| (place, u32::MAX)).collect();
+    Sketch { places: vec![(0, 65_535); 63], agents: vec![(0, vec![enter(65_535); 16]); 64], touches }
 }
 
 /// A busy order: until all agents are at rest, or so many calls. Nine of ten calls go to an agent that is not at rest.
@@ -183,4 +190,11 @@ pub fn at_rest(start: &Cell, calls: usize) -> (Cell, Vec<(u8, u8)>) {
     }
     let mut random = Random(5);
     (cell, (0..calls).map(|_| (random.one_of(&others), random.below(80) as u8)).collect())
+}
+
+/// Touch calls, each for a place in use, with numbers as a bonder counts them between two reports.
+pub fn touching(cell: &Cell, calls: usize) -> Vec<(u8, u32)> {
+    let mut random = Random(17);
+    let places: Vec<u8> = members(cell.used).collect();
+    (0..calls).map(|_| (random.one_of(&places), random.below(10_000) as u32)).collect()
 }

@@ -1,6 +1,6 @@
 //! The three keepers side by side: the same answers, cells and buffers, or the benchmark stops.
 
-use crate::cell::Cell;
+use crate::cell::{members, Cell, MOST_TOUCHES};
 use crate::cells::{random, Random};
 use crate::jobs::{Job, Room, Workload};
 use crate::keeper::{Keeper, Proved};
@@ -37,6 +37,11 @@ fn job(job: &Job) -> Result<usize, String> {
             order.iter().try_for_each(|&(agent, wish)| step(&mut cells, agent, wish))?;
             Ok(order.len())
         }
+        Job::Touch { start, order } => {
+            let mut cells = [**start; 3];
+            order.iter().try_for_each(|&(place, number)| touch(&mut cells, place, number))?;
+            Ok(order.len())
+        }
         Job::Load { file } => {
             (0..=file.len()).try_for_each(|length| load(&file[..length]).map(|_| ()))?;
             Ok(file.len() + 1)
@@ -65,6 +70,15 @@ fn step(cells: &mut [Cell; 3], agent: u8, wish: u8) -> Result<(), String> {
     same(&format!("cells after agent {agent} with wish {wish}, answered {:x}", answers[0]), *cells)
 }
 
+fn touch(cells: &mut [Cell; 3], place: u8, number: u32) -> Result<(), String> {
+    let [one, two, three] = cells;
+    let answers = [Plain::touch(one, place, number), Tuned::touch(two, place, number), Proved::touch(three, place, number)];
+    same(&format!("answers {answers:x?} of {number} touches of place {place}"), answers)?;
+    same(&format!("cells after {number} touches of place {place}, answered {:x}", answers[0]), *cells)?;
+    let [one, two, three] = cells;
+    same("answers of a place's touches", [Plain::touches(one, place), Tuned::touches(two, place), Proved::touches(three, place)])
+}
+
 /// A load of a file into a bare floor by each; answers the cells.
 fn load(file: &[u8]) -> Result<[Cell; 3], String> {
     let mut cells = [Cell::BARE; 3];
@@ -90,9 +104,16 @@ fn asks(cell: &Cell) -> Result<(), String> {
 fn one_random(numbers: &mut Random, damaged: bool) -> Result<usize, String> {
     let (places, agents, actions) = (numbers.below(64), numbers.below(65), numbers.below(17));
     let names = 1 + numbers.below(6);
-    let mut file = random(numbers, places, agents, actions, names, 6).file();
+    let mut sketch = random(numbers, places, agents, actions, names, 6);
+    sketch.touches = (0..=places).filter(|_| numbers.below(3) == 0).map(|place| (place as u8, place as u32 * 67_000_000)).collect();
+    let mut file = sketch.file();
     let mut cells = load(&file)?;
+    let mut touched = 0;
     for i in 0..300 {
+        if numbers.below(10) == 0 {
+            touched += 1;
+            touch(&mut cells, numbers.below(66) as u8, numbers.below(1 << 32) as u32)?;
+        }
         if damaged && numbers.below(60) == 0 {
             damage(numbers, &mut cells);
         }
@@ -106,14 +127,26 @@ fn one_random(numbers: &mut Random, damaged: bool) -> Result<usize, String> {
     let at = numbers.below(file.len());
     file[at] = numbers.below(256) as u8;
     load(&file)?;
-    Ok(300 + 6 * 3 + 2)
+    Ok(300 + 2 * touched + 6 * 3 + 2)
 }
 
-/// One byte of all cells becomes another, mostly one that a test looks at.
+/// The touches of a place that a test looks at: at the most that is sound, past it, and so many that a sum of two wraps.
+fn many_touches(numbers: &mut Random, cell: &Cell) -> u64 {
+    let others: u128 = members(cell.used).map(|q| cell.touches[q as usize] as u128).sum();
+    let left = MOST_TOUCHES.saturating_sub(others.min(MOST_TOUCHES as u128) as u64);
+    numbers.one_of(&[0, left, left + 1, MOST_TOUCHES, MOST_TOUCHES + 1, 1 << 63, u64::MAX])
+}
+
+/// One byte or one count of all cells becomes another, mostly one that a test looks at.
 fn damage(numbers: &mut Random, cells: &mut [Cell; 3]) {
     let (i, value) = (numbers.below(64), [numbers.below(10), numbers.below(66), numbers.below(256)][numbers.below(3)]);
-    let field = numbers.below(10);
+    let field = numbers.below(11);
+    let touches = many_touches(numbers, &cells[0]);
     for cell in cells {
+        if field == 10 {
+            cell.touches[i] = touches;
+            continue;
+        }
         let (place, agent) = (&mut cell.places[i], &mut cell.agents[i]);
         let byte = match field {
             0 => &mut place.parent,

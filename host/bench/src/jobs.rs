@@ -11,6 +11,8 @@ use std::hint::black_box;
 pub enum Job {
     /// The calls of an order on a cell, which is set back before each lap.
     Step { start: Box<Cell>, order: Vec<(u8, u8)> },
+    /// Touch calls on a cell, which is set back before each lap.
+    Touch { start: Box<Cell>, order: Vec<(u8, u32)> },
     /// The load of a file.
     Load { file: Vec<u8> },
     /// The listing of a cell into a buffer of this size.
@@ -56,13 +58,14 @@ impl Job {
     pub fn calls(&self) -> usize {
         match self {
             Job::Step { order, .. } => order.len(),
+            Job::Touch { order, .. } => order.len(),
             _ => 1,
         }
     }
 
     /// Whether the plain peer has its own call for it; its other calls are the tuned peer's.
     pub fn is_own_of_plain(&self) -> bool {
-        matches!(self, Job::Step { .. } | Job::Check { .. } | Job::Idle { .. } | Job::Walk { .. })
+        matches!(self, Job::Step { .. } | Job::Touch { .. } | Job::Check { .. } | Job::Idle { .. } | Job::Walk { .. })
     }
 
     /// One lap; the answer keeps the calls from being left out.
@@ -71,6 +74,10 @@ impl Job {
             Job::Step { start, order } => {
                 room.cell = **start;
                 order.iter().fold(0, |sum, &(agent, wish)| sum + K::step(&mut room.cell, agent, wish))
+            }
+            Job::Touch { start, order } => {
+                room.cell = **start;
+                order.iter().fold(0, |sum, &(place, number)| sum + K::touch(&mut room.cell, place, number))
             }
             Job::Load { file } => K::load(&mut room.cell, file),
             Job::List { cell, room: size } => K::list(cell, &mut room.text[..*size]),
@@ -117,6 +124,7 @@ pub fn workloads() -> Vec<Workload> {
     let list = |sketch: Sketch| Job::List { cell: boxed(&sketch), room: 13_043 };
     let check = |sketch: Sketch| Job::Check { cell: boxed(&sketch) };
     let idle = |sketch: Sketch| Job::Idle { cell: boxed(&sketch) };
+    let touch = |sketch: Sketch| Job::Touch { order: cells::touching(&sketch.cell(), 400), start: boxed(&sketch) };
     let whole = |sketch: Sketch| {
         let mut random = Random(31);
         let agents = sketch.agents.len();
@@ -133,6 +141,8 @@ pub fn workloads() -> Vec<Workload> {
         of("step, full, busy", STEP, busy(cells::full(), 300)),
         of("step, chain, at rest", CHAIN, quiet(cells::chain())),
         of("step, chain, busy", CHAIN, busy(cells::chain(), 0)),
+        of("touch, typical", None, touch(cells::typical())),
+        of("touch, full", None, touch(cells::full())),
         of("check, typical", None, check(cells::typical())),
         of("check, full", None, check(cells::full())),
         of("idle, typical", None, idle(cells::typical())),

@@ -10,6 +10,8 @@ pub trait Keeper {
     fn list(cell: &Cell, text: &mut [u8]) -> u64;
     fn check(cell: &Cell) -> u64;
     fn idle(cell: &Cell) -> u64;
+    fn touch(cell: &mut Cell, place: u8, number: u32) -> u64;
+    fn touches(cell: &Cell, place: u8) -> u64;
 }
 
 extern "C" {
@@ -19,6 +21,8 @@ extern "C" {
     fn keeper_list(cell: *const Cell, text: *mut u8, room: usize) -> u64;
     fn keeper_check(cell: *const Cell) -> u64;
     fn keeper_idle(cell: *const Cell) -> u64;
+    fn keeper_touch(cell: *mut Cell, place: u8, number: u32) -> u64;
+    fn keeper_touches(cell: *const Cell, place: u8) -> u64;
 }
 
 /// The proved keeper, as libkeeper.a exports it.
@@ -42,5 +46,11 @@ impl Keeper for Proved {
     }
     fn idle(cell: &Cell) -> u64 {
         unsafe { keeper_idle(cell) }
+    }
+    fn touch(cell: &mut Cell, place: u8, number: u32) -> u64 {
+        unsafe { keeper_touch(cell, place, number) }
+    }
+    fn touches(cell: &Cell, place: u8) -> u64 {
+        unsafe { keeper_touches(cell, place) }
     }
 }

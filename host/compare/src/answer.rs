@@ -34,9 +34,14 @@ pub fn of_step(stepped: Result<Stepped, u8>) -> u64 {
 
 /// The answer of a listing, an idle call or a check: the refusal's number, or a value above it.
 pub fn of_value(value: Result<usize, u8>) -> u64 {
-    match value {
+    of_count(value.map(|value| value as u64))
+}
+
+/// The answer of a touch call, or of one for a place's count: the refusal's number, or the count above it.
+pub fn of_count(count: Result<u64, u8>) -> u64 {
+    match count {
         Err(number) => number as u64,
-        Ok(value) => (value as u64) << 8,
+        Ok(count) => count << 8,
     }
 }
 

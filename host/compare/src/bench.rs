@@ -70,6 +70,17 @@ pub fn cases() -> Vec<Case> {
         refused(&[2, 0x40, 0, 4], 14, 0),
         refused(&[2, 0x40, 0x40, 4], 14, 0),
         refused(&[3, 0x40, 9, 0, 0, 4], 14, 0),
+        refused(&[5], 1, 0),
+        refused(&[5, 0x40, 1, 0, 0], 1, 0),
+        refused(&[6], 2, 0),
+        refused(&[5, 0x40, 1, 0, 0, 0, 4], 3, 0),
+        refused(&[5, 0, 1, 0, 0, 0, 5, 0, 1, 0, 0, 0, 4], 4, 6),
+        refused(&[5, 1, 1, 0, 0, 0, 1, 1, 0, 7, 0, 4], 5, 0),
+        Case {
+            file: vec![5, 0, 255, 255, 255, 255, 1, 1, 0, 7, 0, 5, 1, 0, 0, 0, 0, 4],
+            agents: vec![],
+            written: "start 7[]\nend 7[]\n".to_string(),
+        },
         Case { file: vec![1, 0x3F, 0, 7, 0, 4], agents: vec![], written: "start 7[]\nend 7[]\n".to_string() },
         alone("7[enter 7]", "looked took slept asleep", "7[enter 7]"),
         alone("7[enter 7] | 7[]", "looked took took left took took came done", "7[7[]]"),
@@ -96,13 +107,14 @@ pub fn small_files() -> Vec<Vec<u8>> {
     ];
     let mut files: Vec<Vec<u8>> = terms.iter().map(|term| file_of(term)).collect();
     files.push([&[1, 63, 0, 7, 0, 2, 63, 63][..], &[3, 63, 1, 7, 0].repeat(16), &[4]].concat());
+    files.push(vec![5, 0, 1, 2, 3, 4, 1, 1, 0, 7, 0, 5, 1, 255, 0, 0, 255, 1, 63, 1, 8, 0, 2, 0, 1, 5, 63, 0, 0, 0, 0, 3, 0, 3, 8, 0, 4]);
     files
 }
 
 /// Files whose last record has any mixture of faults, for the order of the tests within a record: before it stand place 1, agent 0 with
-/// sixteen actions and agent 1 with none; after it the end record, or nothing, or a byte too many.
+/// sixteen actions, agent 1 with none, and place 1's touches; after it the end record, or nothing, or a byte too many.
 pub fn faulty_records() -> Vec<Vec<u8>> {
-    let before = [&[1, 1, 0, 7, 0, 2, 0, 1][..], &[3, 0, 1, 7, 0].repeat(16), &[2, 1, 0]].concat();
+    let before = [&[1, 1, 0, 7, 0, 2, 0, 1][..], &[3, 0, 1, 7, 0].repeat(16), &[2, 1, 0], &[5, 1, 9, 0, 0, 0]].concat();
     let names = [[0, 0], [7, 0], [0, 7]];
     let mut rows: Vec<Vec<u8>> = Vec::new();
     for name in names {
@@ -116,7 +128,10 @@ pub fn faulty_records() -> Vec<Vec<u8>> {
     for agent in [0, 1, 2, 63, 64, 255] {
         rows.extend([0, 1, 2, 63, 64, 255].map(|home| vec![2, agent, home]));
     }
-    rows.extend([[0], [4], [5], [255]].map(Vec::from));
+    for place in [0, 1, 2, 63, 64, 255] {
+        rows.extend([0, 1, 255].map(|byte| vec![5, place, byte, 0, 0, byte]));
+    }
+    rows.extend([[0], [4], [6], [255]].map(Vec::from));
     let after: [&[u8]; 4] = [&[4], &[], &[4, 4], &[9]];
     let mut files: Vec<Vec<u8>> = rows.iter().flat_map(|row| after.map(|after| [&before, &row[..], after].concat())).collect();
     files.extend(rows.iter().flat_map(|row| (1..row.len()).map(|cut| [&before, &row[..cut]].concat())));
@@ -132,6 +147,7 @@ pub fn longest_file() -> Vec<u8> {
     for agent in 0..64 {
         file.extend([2, agent, agent]);
         file.extend([3, agent, 1 + agent % 3, 255, 255].repeat(16));
+        file.extend([5, agent, 255, 255, 255, 255]);
     }
     file.push(4);
     file

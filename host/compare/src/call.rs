@@ -7,6 +7,7 @@ use std::fmt;
 pub enum Call {
     Load(Vec<u8>),
     Step { agent: u8, wish: u8 },
+    Touch { place: u8, number: u32 },
     List { room: usize },
     Write { at: usize, byte: u8 },
 }
@@ -23,6 +24,7 @@ impl fmt::Display for Call {
                 }
             }
             Call::Step { agent, wish } => write!(out, "step of agent {agent}, wish {wish}"),
+            Call::Touch { place, number } => write!(out, "touch of place {place}, {number}"),
             Call::List { room } => write!(out, "list with room for {room} bytes"),
             Call::Write { at, byte } => write!(out, "the host writes {byte:02X} at byte {at} of the cell ({})", field(*at)),
         }
@@ -43,6 +45,7 @@ fn field(at: usize) -> String {
             }
         }
         4800..=4807 => "used".to_string(),
-        _ => "given".to_string(),
+        4808..=4815 => "given".to_string(),
+        _ => format!("touches {}", (at - 4816) / 8),
     }
 }

@@ -5,17 +5,17 @@ use crate::orders::Order;
 use crate::pair::Pair;
 use crate::random::Random;
 
-/// An example of one file and steps, with fewer steps than this one, if some tries find one.
+/// An example of one file, steps and touch calls, with fewer of them than this one, if some tries find one.
 pub fn shorter(calls: &[Call], thorough: bool) -> Option<Vec<Call>> {
     let (load, steps) = calls.split_first()?;
-    if !matches!(load, Call::Load(_)) || !steps.iter().all(|call| matches!(call, Call::Step { .. })) {
+    if !matches!(load, Call::Load(_)) || !steps.iter().all(|call| matches!(call, Call::Step { .. } | Call::Touch { .. })) {
         return None;
     }
     let mut random = Random::new(calls.len() as u64);
     (0..3_000).find_map(|_| one_try(&mut random, load, steps.len() - 1, thorough))
 }
 
-/// A random order of so many steps at most, if library and model differ in it.
+/// A random order of so many calls at most, if library and model differ in it.
 fn one_try(random: &mut Random, load: &Call, most: usize, thorough: bool) -> Option<Vec<Call>> {
     let mut pair = Pair::new(thorough).ok()?;
     let mut order = Order::new(random);

@@ -9,6 +9,10 @@ pub struct Counts {
     pub steps: u64,
     pub steps_refused: u64,
     pub words: BTreeMap<&'static str, u64>,
+    pub pooled: u64,
+    pub touches: u64,
+    pub touches_refused: BTreeMap<u8, u64>,
+    pub sums: u64,
     pub accepted: u64,
     pub refused: BTreeMap<u8, u64>,
     pub listings: u64,
@@ -26,6 +30,11 @@ impl fmt::Display for Counts {
         write!(out, "step calls      {:>9}   ({} refused", self.steps, self.steps_refused)?;
         self.words.iter().try_for_each(|(word, count)| write!(out, ", {count} {word}"))?;
         writeln!(out, ")")?;
+        let refused: u64 = self.touches_refused.values().sum();
+        write!(out, "touch calls     {:>9}   ({} refused:", self.touches, refused)?;
+        self.touches_refused.iter().try_for_each(|(number, count)| write!(out, " {count} with {number}"))?;
+        writeln!(out, ")")?;
+        writeln!(out, "sums of touches {:>9}   ({} openings pooled some)", self.sums, self.pooled)?;
         let refused: u64 = self.refused.values().sum();
         write!(out, "files           {:>9}   ({} accepted, {} refused:", self.accepted + refused, self.accepted, refused)?;
         self.refused.iter().try_for_each(|(number, count)| write!(out, " {count} with {number}"))?;

@@ -1,7 +1,8 @@
-//! What somebody else may write into a lent cell: any byte, a field of something in use, or whole agents set to other stages.
+//! What somebody else may write into a lent cell: any byte, a field of something in use, touch counts, or whole agents set to other stages.
 
 use crate::call::Call;
 use crate::random::Random;
+use crate::touches;
 use model::{holds, Kind, Table, SIZE};
 
 /// Where the locks, the agents and the sets start, and the size of an agent.
@@ -13,7 +14,8 @@ const SETS: usize = 4800;
 /// Writes that change a few bytes of these.
 pub fn writes(random: &mut Random, bytes: &[u8; SIZE]) -> Vec<Call> {
     let mut after = *bytes;
-    match random.below(10) {
+    match random.below(12) {
+        10..=11 => counts(random, &mut after),
         0..=2 => after[random.below(SIZE)] = random.byte(),
         3..=6 => {
             for _ in 0..1 + random.below(3) {
@@ -129,5 +131,35 @@ fn settle_locks(bytes: &mut [u8; SIZE]) {
                 bytes[LOCKS + place as usize] = number;
             }
         }
+    }
+}
+
+/// The most touches that a sound table has.
+const MOST: u64 = 1_000_000_000_000;
+
+/// Sets touch counts: sums at the most that is sound, next to it, and such as would wrap in 64 bits; now and then of numbers not in use.
+fn counts(random: &mut Random, bytes: &mut [u8; SIZE]) {
+    let places = members(bytes, SETS);
+    let (one, other) = (one_of(random, &places), one_of(random, &places));
+    let left = touches::left(&Table::read(bytes)) as u64;
+    let (unused, any) = (random.below(64), random.next());
+    let large = random.pick(&[MOST, MOST + 1, 1 << 40, 1 << 62, 1 << 63, u64::MAX - 1, u64::MAX]);
+    match random.below(6) {
+        0 => touches::set(bytes, one, random.pick(&[large, any])),
+        1..=2 => {
+            let before = Table::read(bytes).touches[one];
+            touches::set(
+                bytes,
+                one,
+                before.saturating_add(left).saturating_add(random.pick(&[0, 0, 1, 2])) - random.pick(&[0, 0, 1]).min(left),
+            );
+        }
+        3 => {
+            let wrapped = random.below(3) as u64;
+            touches::set(bytes, one, large);
+            touches::set(bytes, other, wrapped.wrapping_sub(large));
+        }
+        4 => places.iter().for_each(|&place| touches::set(bytes, place, random.pick(&[1 << 58, 1 << 62, MOST / 64, 1]))),
+        _ => touches::set(bytes, unused, random.pick(&[large, any])),
     }
 }

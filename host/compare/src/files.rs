@@ -1,5 +1,6 @@
 //! Cell files: good ones of every size, nearly good ones, and wild ones.
 
+use crate::orders::count;
 use crate::random::Random;
 
 /// A count up to the most: small ones often, large ones now and then.
@@ -31,7 +32,8 @@ struct Maker {
     named: [u16; 64],
 }
 
-/// A file that is accepted: few names, so that actions fire; any mixture of kinds; numbers in any order.
+/// A file that is accepted: few names, so that actions fire; any mixture of kinds; numbers in any order; touch records of no, some or all
+/// places, anywhere after them.
 pub fn good(random: &mut Random) -> Vec<u8> {
     let nesting = random.pick(&[Nesting::Flat, Nesting::Deep, Nesting::Any, Nesting::Any]);
     let (names, kinds) = (names(random), kinds(random));
@@ -41,12 +43,21 @@ pub fn good(random: &mut Random) -> Vec<u8> {
     let mut places = numbers(random, 1, 63);
     let mut agents = numbers(random, 0, 64);
     let mut unfinished: Vec<(u8, u8, usize)> = Vec::new();
+    let touched = random.pick(&[0, 20, 60, 100]);
+    let mut untouched: Vec<u8> = if random.percent(touched) { vec![0] } else { vec![] };
     let mut file = Vec::new();
-    while !(places.is_empty() && agents.is_empty() && unfinished.is_empty()) {
-        let turn = if places_first && !places.is_empty() { 0 } else { random.below(3) };
+    while !(places.is_empty() && agents.is_empty() && unfinished.is_empty() && untouched.is_empty()) {
+        let turn = if places_first && !places.is_empty() { 3 * random.below(2) } else { random.below(4) };
         if turn == 0 && !places.is_empty() {
             let number = places.pop().expect("not empty");
             file.extend(maker.place(random, number));
+            if random.percent(touched) {
+                untouched.push(number);
+            }
+        } else if turn == 3 && !untouched.is_empty() {
+            let place = untouched.swap_remove(random.below(untouched.len()));
+            file.extend([5, place]);
+            file.extend(count(random).to_le_bytes());
         } else if turn == 1 && !agents.is_empty() {
             let number = agents.pop().expect("not empty");
             let home = if random.percent(70) { maker.given[maker.given.len() - 1] } else { random.pick(&maker.given) };
@@ -152,9 +163,9 @@ pub fn nearly_good(random: &mut Random) -> Vec<u8> {
         let at = random.below(file.len().max(1));
         match random.below(8) {
             0 if !file.is_empty() => file[at] = random.byte(),
-            1 if !file.is_empty() => file[at] = random.pick(&[0, 1, 2, 3, 4, 5, 63, 64, 65, 255]),
+            1 if !file.is_empty() => file[at] = random.pick(&[0, 1, 2, 3, 4, 5, 6, 63, 64, 65, 255]),
             2 if !file.is_empty() => drop(file.remove(at)),
-            3 => file.insert(at.min(file.len()), random.pick(&[0, 1, 2, 3, 4, 7])),
+            3 => file.insert(at.min(file.len()), random.pick(&[0, 1, 2, 3, 4, 5, 7])),
             4 => file.truncate(at),
             5 => file.push(random.byte()),
             6 => out_of_range(random, &mut file),
@@ -198,7 +209,7 @@ fn swap_records(random: &mut Random, file: &mut Vec<u8>) {
 pub fn wild(random: &mut Random) -> Vec<u8> {
     let length = random.below(60);
     let small = random.percent(80);
-    (0..length).map(|_| if small { random.below(6) as u8 } else { random.byte() }).collect()
+    (0..length).map(|_| if small { random.below(7) as u8 } else { random.byte() }).collect()
 }
 
 /// The records of a file, each as its bytes; what cannot be taken apart is one record more.
@@ -210,6 +221,7 @@ pub fn records(file: &[u8]) -> Vec<Vec<u8>> {
             1 | 3 => 5,
             2 => 3,
             4 => 1,
+            5 => 6,
             _ => file.len() - at,
         };
         let end = (at + length).min(file.len());

@@ -2,8 +2,8 @@
 //!
 //!     compare [--quick] [--seconds N] [--seed S] [--walk PROGRAM]
 //!
-//! First document 01's cases and every single-byte change and truncation of good files; then rounds of random files, random orders on
-//! random cells, and cells with bytes changed: a fixed number of rounds, or as many as fit in N seconds. The same seed gives the same
+//! First document 01's cases, touches up to the most there may be, and every single-byte change and truncation of good files; then rounds of
+//! random files, random orders of steps and touch calls on random cells, and cells with bytes changed: a fixed number of rounds, or as many as fit in N seconds. The same seed gives the same
 //! rounds. With a program `walk`, what it writes is compared too. At a difference the smallest example found is printed and the exit
 //! status is 1.
 
@@ -20,6 +20,7 @@ mod pair;
 mod random;
 mod rounds;
 mod shrink;
+mod touches;
 mod walks;
 
 use call::Call;
@@ -58,6 +59,7 @@ fn options() -> Result<Options, String> {
 fn run(session: &mut Session, options: &Options) -> Result<(), Vec<Call>> {
     let start = Instant::now();
     session.cases()?;
+    session.most_touches()?;
     session.changed_files(if options.quick { 64 } else { 4 })?;
     let rounds = if options.quick { 20 } else { 500 };
     let mut round = 0;

@@ -1,4 +1,4 @@
-//! Orders: which agent steps next and what it wishes.
+//! Orders: which agent steps next and what it wishes, with touch calls among the steps.
 
 use crate::call::Call;
 use crate::random::Random;
@@ -19,9 +19,10 @@ enum Manner {
     WholeMoves,
 }
 
-/// The manner of an order, the agent of the call before, and the stage it was at before that call.
+/// The manner of an order, how many of a hundred calls touch, the agent of the step before, and the stage it was at before that.
 pub struct Order {
     manner: Manner,
+    touching: usize,
     agent: u8,
     stage: u8,
 }
@@ -31,11 +32,14 @@ impl Order {
     pub fn new(random: &mut Random) -> Order {
         use Manner::*;
         let manner = random.pick(&[Any, Same, Same, InTurn, Awake, Awake, WholeMoves, WholeMoves]);
-        Order { manner, agent: random.below(64) as u8, stage: 0 }
+        Order { manner, touching: random.pick(&[0, 3, 10, 40]), agent: random.below(64) as u8, stage: 0 }
     }
 
-    /// The next step call, which sometimes names no agent of the cell.
+    /// The next call: a touch call now and then, else a step call, which sometimes names no agent of the cell.
     pub fn next(&mut self, random: &mut Random, cell: &Cell) -> Call {
+        if random.percent(self.touching) {
+            return touch(random, cell);
+        }
         if cell.agents.is_empty() || random.percent(1) {
             return Call::Step { agent: random.byte(), wish: wish(random, cell) };
         }
@@ -86,5 +90,28 @@ fn wish(random: &mut Random, cell: &Cell) -> u8 {
             random.pick(&numbers)
         }
         _ => random.byte(),
+    }
+}
+
+/// A touch call: mostly of a place in use, with a number that is small, at a limit of its bytes, or any.
+pub fn touch(random: &mut Random, cell: &Cell) -> Call {
+    let place = match random.below(20) {
+        0 => random.byte(),
+        1 => random.below(66) as u8,
+        _ => {
+            let numbers: Vec<u8> = cell.places.keys().copied().collect();
+            random.pick(&numbers)
+        }
+    };
+    Call::Touch { place, number: count(random) }
+}
+
+/// A four-byte count.
+pub fn count(random: &mut Random) -> u32 {
+    match random.below(8) {
+        0..=3 => random.below(20) as u32,
+        4 => random.pick(&[255, 256, 65_535, 65_536, 16_777_216, u32::MAX - 1]),
+        5 => u32::MAX,
+        _ => random.next() as u32,
     }
 }

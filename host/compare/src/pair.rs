@@ -4,8 +4,9 @@ use crate::answer;
 use crate::call::Call;
 use crate::counts::Counts;
 use crate::demands;
+use crate::touches;
 use keeper::lent::Lent;
-use model::{listing, load, permitted, step, Cell, Plain, Stepped, Table, Tree, LISTING_TOO_LONG, UNSOUND};
+use model::{listing, load, permitted, step, touch, Cell, Plain, Stepped, Table, Tree, LISTING_TOO_LONG, UNSOUND};
 
 /// A byte that no listing has, with which buffers are filled before they are lent.
 const FILL: u8 = 0xAA;
@@ -14,12 +15,13 @@ const ROOM: usize = 13_043 + 21;
 /// A buffer before it is lent.
 static FILLED: [u8; ROOM] = [FILL; ROOM];
 
-/// The lent cell; the model's cell, none where the table is unsound; and the plain tree, kept from an accepted load on for as long as
-/// nobody else writes the cell.
+/// The lent cell; the model's cell, none where the table is unsound; and the plain tree and all touches loaded and added, both kept from an
+/// accepted load on for as long as nobody else writes the cell.
 pub struct Pair {
     lent: Lent,
     pub cell: Option<Cell>,
     plain: Option<Plain>,
+    total: u128,
     text: Vec<u8>,
     thorough: bool,
     pub counts: Counts,
@@ -30,6 +32,7 @@ pub struct Kept {
     lent: Lent,
     cell: Option<Cell>,
     plain: Option<Plain>,
+    total: u128,
 }
 
 impl Pair {
@@ -39,7 +42,7 @@ impl Pair {
         lent.bytes_mut().fill(FILL);
         let answer = lent.bare();
         let cell = Some(Cell::bare());
-        let mut pair = Pair { lent, cell, plain: None, text: vec![FILL; ROOM], thorough, counts: Counts::default() };
+        let mut pair = Pair { lent, cell, plain: None, total: 0, text: vec![FILL; ROOM], thorough, counts: Counts::default() };
         same("bare", answer, 0, answer::value_text)?;
         pair.agree()?;
         Ok(pair)
@@ -47,7 +50,7 @@ impl Pair {
 
     /// The cell as it is.
     pub fn keep(&self) -> Kept {
-        Kept { lent: self.lent.clone(), cell: self.cell.clone(), plain: self.plain.clone() }
+        Kept { lent: self.lent.clone(), cell: self.cell.clone(), plain: self.plain.clone(), total: self.total }
     }
 
     /// Back to the cell as it was.
@@ -55,6 +58,7 @@ impl Pair {
         self.lent = kept.lent.clone();
         self.cell = kept.cell.clone();
         self.plain = kept.plain.clone();
+        self.total = kept.total;
     }
 
     /// The bytes of the lent cell.
@@ -67,6 +71,7 @@ impl Pair {
         match *call {
             Call::Load(ref file) => self.load(file),
             Call::Step { agent, wish } => self.step(agent, wish),
+            Call::Touch { place, number } => self.touch(place, number),
             Call::List { room } => self.list(room),
             Call::Write { at, byte } => self.write(at, byte),
         }
@@ -81,11 +86,12 @@ impl Pair {
         match loaded {
             Err(refused) => {
                 *self.counts.refused.entry(refused.number).or_default() += 1;
-                self.unchanged("a refused load", &before)
+                self.unchanged("a refused load", before.bytes())
             }
             Ok(cell) => {
                 self.counts.accepted += 1;
                 self.plain = Some(Plain::of_load(&cell));
+                self.total = touches::loaded(file);
                 self.cell = Some(cell);
                 self.agree()
             }
@@ -105,16 +111,49 @@ impl Pair {
         match stepped {
             Err(_) => {
                 self.counts.steps_refused += 1;
-                self.unchanged("a refused step", &before)
+                self.unchanged("a refused step", before.bytes())
             }
             Ok(Stepped { word, .. }) => {
                 *self.counts.words.entry(word.text()).or_default() += 1;
+                self.counts.pooled += touches::pooled(before.bytes(), self.lent.bytes())? as u64;
                 if let Some(plain) = &mut self.plain {
                     demands::follow(plain, agent, wish, word)?;
                 }
                 self.agree()
             }
         }
+    }
+
+    /// A touch call: refused with 10 on an unsound table, else as the model says; it changes the count of its place alone, and the plain
+    /// tree passes over it.
+    fn touch(&mut self, place: u8, number: u32) -> Result<(), String> {
+        let before = self.lent.clone();
+        let touched = match &mut self.cell {
+            None => Err(UNSOUND),
+            Some(cell) => touch(cell, place, number),
+        };
+        self.counts.touches += 1;
+        let answer = self.lent.touch(place, number);
+        same("touch", answer, answer::of_count(touched), answer::value_text)?;
+        match touched {
+            Err(refused) => {
+                *self.counts.touches_refused.entry(refused).or_default() += 1;
+                self.unchanged("a refused touch call", before.bytes())?;
+                self.count(place)
+            }
+            Ok(_) => {
+                self.total += number as u128;
+                self.unchanged("a touch call", &touches::added(before.bytes(), place, number))?;
+                self.count(place)?;
+                self.agree()
+            }
+        }
+    }
+
+    /// The library says the count of a place as the model does.
+    fn count(&self, place: u8) -> Result<(), String> {
+        let count = self.cell.as_ref().ok_or(UNSOUND).and_then(|cell| model::touches(cell, place));
+        same(&format!("touches of place {place}"), self.lent.touches(place), answer::of_count(count), answer::value_text)
     }
 
     /// A byte that somebody else writes: the table may be unsound afterwards, and no plain tree stands beside it.
@@ -151,7 +190,8 @@ impl Pair {
         Ok(())
     }
 
-    /// What can be seen between two calls: check, idle, the listing, and the fields of the table.
+    /// What can be seen between two calls: check, idle, the listing, the count of one place or, in a thorough pair, of all, and the fields of
+    /// the table.
     fn agree(&mut self) -> Result<(), String> {
         let before = self.lent.clone();
         let table = Table::read(self.lent.bytes());
@@ -164,13 +204,18 @@ impl Pair {
         }
         if self.plain.is_some() {
             forgotten(&table)?;
+            self.counts.sums += 1;
+            touches::all_there(&table, self.total)?;
         }
         let sound = self.cell.as_ref().map(|_| 0).ok_or(UNSOUND);
         let idle = self.cell.as_ref().map(|cell| cell.idle() as usize).ok_or(UNSOUND);
         same("check", self.lent.check(), answer::of_value(sound), answer::value_text)?;
         same("idle", self.lent.idle(), answer::of_value(idle), answer::value_text)?;
         self.list(ROOM)?;
-        self.unchanged("check, idle or list", &before)?;
+        let one = (self.counts.steps % 67) as u8;
+        let (first, last) = if self.thorough { (0, 255) } else { (one, one) };
+        (first..=last).try_for_each(|place| self.count(place))?;
+        self.unchanged("check, idle, list or touches", before.bytes())?;
         self.demands()
     }
 
@@ -197,13 +242,11 @@ impl Pair {
         Ok(())
     }
 
-    /// The lent cell has the same bytes as before.
-    fn unchanged(&self, what: &str, before: &Lent) -> Result<(), String> {
-        match self.lent.bytes().iter().zip(before.bytes()).position(|(now, then)| now != then) {
+    /// The lent cell has these bytes.
+    fn unchanged(&self, what: &str, bytes: &[u8; model::SIZE]) -> Result<(), String> {
+        match self.lent.bytes().iter().zip(bytes).position(|(now, then)| now != then) {
             None => Ok(()),
-            Some(at) => {
-                Err(format!("{what} changes byte {at} of the cell from {:02X} to {:02X}", before.bytes()[at], self.lent.bytes()[at]))
-            }
+            Some(at) => Err(format!("{what} makes byte {at} of the cell {:02X} and not {:02X}", self.lent.bytes()[at], bytes[at])),
         }
     }
 }

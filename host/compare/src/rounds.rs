@@ -5,9 +5,11 @@ use crate::call::Call;
 use crate::counts::Counts;
 use crate::damage;
 use crate::files;
-use crate::orders::Order;
+use crate::orders::{touch, Order};
 use crate::pair::Pair;
 use crate::random::Random;
+use crate::touches;
+use model::Table;
 
 /// A pair, and the calls since its last load.
 pub struct Session {
@@ -63,6 +65,45 @@ impl Session {
         Ok(())
     }
 
+    /// Touches up to the most there may be, from a full file and from an empty one: there the call that would pass it is refused, and the one
+    /// that just reaches it is not; then steps that pool some, with touch calls among them.
+    pub fn most_touches(&mut self) -> Outcome {
+        let mut random = Random::new(15);
+        let cells = ["0", "open 7.open 8 | 7[8[] | enter 8.exit 7]", "open 1.open 2 | 1[2[open 3 | 3[]]]"];
+        for file in cells.map(model::file_of).into_iter().chain([bench::longest_file()]) {
+            self.start(file)?;
+            self.up_to_the_most(&mut random)?;
+        }
+        Ok(())
+    }
+
+    /// Touches of places in use until none may be added; then some calls.
+    fn up_to_the_most(&mut self, random: &mut Random) -> Outcome {
+        loop {
+            let table = Table::read(self.pair.bytes());
+            let left = touches::left(&table);
+            let used: Vec<u8> = table.places_in_use().map(|(place, _)| place).collect();
+            let place = random.pick(&used);
+            let number = left.min(u32::MAX as u128) as u32;
+            if left < u32::MAX as u128 {
+                self.call(Call::Touch { place, number: number + 1 })?;
+                self.call(Call::Touch { place: 64, number: number + 1 })?;
+                self.call(Call::Touch { place: random.below(64) as u8, number: u32::MAX })?;
+            }
+            if left == 0 {
+                break;
+            }
+            self.call(Call::Touch { place, number: if random.percent(2) { number / 2 } else { number } })?;
+        }
+        let mut order = Order::new(random);
+        for _ in 0..40 {
+            let Some(cell) = &self.pair.cell else { break };
+            let call = if random.percent(20) { touch(random, cell) } else { order.next(random, cell) };
+            self.call(call)?;
+        }
+        Ok(())
+    }
+
     /// Every mixture of faults in a record; every single-byte change and every truncation of the small files, down to length 0; of the
     /// longest file truncations and some changes at every `thinned`th byte, and after it a file of length 0, which takes its place.
     pub fn changed_files(&mut self, thinned: usize) -> Outcome {
@@ -86,7 +127,7 @@ impl Session {
         self.start(file.clone())?;
         self.start(Vec::new())?;
         self.start(file.clone())?;
-        for after in [&[0][..], &[4], &[1, 1, 0, 7, 0], &[3, 0, 1, 7, 0, 4]] {
+        for after in [&[0][..], &[4], &[1, 1, 0, 7, 0], &[3, 0, 1, 7, 0, 4], &[5, 9, 0, 0, 0, 0], &[5, 64, 0, 0, 0, 0, 4]] {
             self.start([&file[..], after].concat())?;
             self.start([&file[..file.len() - 1], after].concat())?;
         }
@@ -118,10 +159,14 @@ impl Session {
         for _ in 0..10 {
             self.changed_cell(&mut random)?;
         }
+        if random.percent(10) {
+            self.start(files::good(&mut random))?;
+            self.up_to_the_most(&mut random)?;
+        }
         Ok(())
     }
 
-    /// A random order on a random cell, with listings into small buffers among the steps.
+    /// A random order on a random cell, with touch calls and listings into small buffers among the steps.
     fn order(&mut self, random: &mut Random) -> Outcome {
         self.start(files::good(random))?;
         let mut order = Order::new(random);
@@ -173,7 +218,12 @@ impl Session {
                 None => Call::Step { agent: random.byte() % 80, wish: random.byte() },
             };
             self.call(call)?;
+            if let (Some(cell), true) = (&self.pair.cell, random.percent(20)) {
+                let call = touch(random, cell);
+                self.call(call)?;
+            }
             if self.pair.cell.is_none() {
+                self.call(Call::Touch { place: random.byte() % 80, number: random.below(3) as u32 })?;
                 self.call(Call::List { room: random.below(100) })?;
                 if random.percent(10) {
                     let file = if random.percent(20) { Vec::new() } else { files::nearly_good(random) };

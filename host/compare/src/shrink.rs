@@ -37,7 +37,7 @@ enum Edit {
     Name([u8; 2], [u8; 2]),
     /// A byte of a file replaced.
     Byte(usize, usize, u8),
-    /// A step without a wish, a listing into less room, a lower byte written.
+    /// A step without a wish, fewer touches, a listing into less room, a lower byte written.
     Plainer(usize),
 }
 
@@ -107,6 +107,7 @@ fn weight(calls: &[Call]) -> (usize, usize, usize) {
     let numbers = |call: &Call| match call {
         Call::Load(file) => file.iter().map(|&byte| byte as usize).sum(),
         Call::Step { agent, wish } => *agent as usize + if *wish == 255 { 0 } else { 256 + *wish as usize },
+        Call::Touch { place, number } => *place as usize + *number as usize,
         Call::List { room } => *room,
         Call::Write { byte, .. } => *byte as usize,
     };
@@ -200,13 +201,21 @@ fn edited(calls: &[Call], edit: Edit) -> Option<Vec<Call>> {
                 }
             }
         }
-        Edit::PlaceNumber(from, to) => each_file(&mut other, |rows| {
-            rows.iter_mut().for_each(|row| match row[0] {
-                1 => replace(row, &[1, 2], from, to),
-                2 => replace(row, &[2], from, to),
-                _ => {}
-            })
-        }),
+        Edit::PlaceNumber(from, to) => {
+            each_file(&mut other, |rows| {
+                rows.iter_mut().for_each(|row| match row[0] {
+                    1 => replace(row, &[1, 2], from, to),
+                    2 => replace(row, &[2], from, to),
+                    5 => replace(row, &[1], from, to),
+                    _ => {}
+                })
+            });
+            for call in &mut other {
+                if let Call::Touch { place, .. } = call {
+                    *place = if *place == from { to } else { *place };
+                }
+            }
+        }
         Edit::Name(from, to) => each_file(&mut other, |rows| {
             rows.iter_mut().filter(|row| row.len() == 5 && row[3..] == from).for_each(|row| row[3..].copy_from_slice(&to))
         }),
@@ -216,6 +225,7 @@ fn edited(calls: &[Call], edit: Edit) -> Option<Vec<Call>> {
         },
         Edit::Plainer(at) => match other.get_mut(at)? {
             Call::Step { wish, .. } => *wish = 255,
+            Call::Touch { number, .. } => *number /= 2,
             Call::List { room } => *room /= 2,
             Call::Write { byte, .. } => *byte /= 2,
             Call::Load(file) => drop(file.pop()),
@@ -235,13 +245,14 @@ fn each_file(calls: &mut [Call], change: impl Fn(&mut Vec<Vec<u8>>)) {
     }
 }
 
-/// Takes a record out; if it is a place that is opened, what stood in it stands around it.
+/// Takes a record out; if it is a place that is opened, what stood in it stands around it, and its touches are left out.
 fn take_out(rows: &mut Vec<Vec<u8>>, row: usize, opened: bool) {
     if row >= rows.len() {
         return;
     }
     let gone = rows.remove(row);
     if let (true, [1, number, parent, ..]) = (opened, &gone[..]) {
+        rows.retain(|row| !(row[0] == 5 && row.get(1) == Some(number)));
         for row in rows.iter_mut().filter(|row| matches!(row[0], 1 | 2)) {
             replace(row, &[2], *number, *parent);
         }

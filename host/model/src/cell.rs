@@ -25,11 +25,12 @@ pub enum Stands {
     OnItsWay(u8),
 }
 
-/// A place without its lock: its name and where it stands.
+/// A place without its lock: its name, where it stands, and, document 02, W3: "A place carries a touch count, starting at 0."
 #[derive(Clone, Copy, PartialEq, Eq, Debug)]
 pub struct Place {
     pub name: u16,
     pub stands: Stands,
+    pub touches: u64,
 }
 
 /// The places in use, by number.
@@ -101,7 +102,7 @@ impl Place {
 impl Cell {
     /// "A load starts from a bare floor": "Place 0 is the floor: name 0, no parent".
     pub fn bare() -> Cell {
-        let floor = Place { name: 0, stands: Stands::TheFloor };
+        let floor = Place { name: 0, stands: Stands::TheFloor, touches: 0 };
         Cell { places: BTreeMap::from([(0, floor)]), locks: BTreeMap::new(), agents: BTreeMap::new() }
     }
 

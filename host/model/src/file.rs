@@ -3,6 +3,7 @@
 use crate::cell::{Action, Agent, Cell, Kind, Place, Stands};
 use crate::{ACTION_KIND, AFTER_THE_END, AGENT_TOO_LARGE, CUT_SHORT, GIVEN_TWICE, NAME_ZERO, NOT_YET_GIVEN};
 use crate::{PARENT_TOO_LARGE, SEVENTEENTH_ACTION, TOO_LARGE, UNKNOWN_KIND};
+use std::collections::BTreeSet;
 
 /// A refused load "answers the number and the byte offset of the record".
 #[derive(Clone, Copy, PartialEq, Eq, Debug)]
@@ -19,6 +20,7 @@ pub fn load(file: &[u8]) -> Result<Cell, Refused> {
     if file.is_empty() {
         return Ok(cell);
     }
+    let mut touched = BTreeSet::new();
     let mut offset = 0;
     loop {
         let refused = |number| Refused { number, offset };
@@ -30,6 +32,7 @@ pub fn load(file: &[u8]) -> Result<Cell, Refused> {
             1 => place(&mut cell, body).map_err(refused)?,
             2 => agent(&mut cell, body).map_err(refused)?,
             3 => action(&mut cell, body).map_err(refused)?,
+            5 => touches(&mut cell, &mut touched, body).map_err(refused)?,
             _ if next < file.len() => return Err(Refused { number: AFTER_THE_END, offset: next }),
             _ => return Ok(cell),
         }
@@ -37,13 +40,14 @@ pub fn load(file: &[u8]) -> Result<Cell, Refused> {
     }
 }
 
-/// The length of a body, from the table of kinds; "unknown kind, not 1 to 4" has none.
+/// The length of a body, from the table of kinds; document 02, W3: "Kind 5 leaves the unknown kinds"; an unknown kind has none.
 fn body_length(kind: u8) -> Option<usize> {
     match kind {
         1 => Some(4),
         2 => Some(2),
         3 => Some(4),
         4 => Some(0),
+        5 => Some(5),
         _ => None,
     }
 }
@@ -68,7 +72,7 @@ fn is_place(number: u8) -> bool {
     (1..=63).contains(&number)
 }
 
-/// "parents and homes 0 to 63", and an agent "has a number 0 to 63".
+/// "parents and homes 0 to 63", an agent "has a number 0 to 63", and a touch record has "place number 0 to 63".
 fn to_63(number: u8) -> bool {
     number <= 63
 }
@@ -87,7 +91,7 @@ fn place(cell: &mut Cell, body: &[u8]) -> Result<(), u8> {
     if name == 0 {
         return Err(NAME_ZERO);
     }
-    cell.places.insert(number, Place { name, stands: Stands::Linked(parent) });
+    cell.places.insert(number, Place { name, stands: Stands::Linked(parent), touches: 0 });
     Ok(())
 }
 
@@ -119,5 +123,20 @@ fn action(cell: &mut Cell, body: &[u8]) -> Result<(), u8> {
     }
     agent.unused.push(Action { kind, name });
     agent.stage = 0;
+    Ok(())
+}
+
+/// Document 02, W3: "Record kind 5 gives one: place number 0 to 63, then four bytes, low byte first; it may stand once for each place, after
+/// that place." "in it a place above 63 is 3, a second record for a place is 4, a place not given is 5." `touched` are the places that
+/// had one so far.
+fn touches(cell: &mut Cell, touched: &mut BTreeSet<u8>, body: &[u8]) -> Result<(), u8> {
+    let number = body[0];
+    in_range(&[(number, to_63, TOO_LARGE)])?;
+    if touched.contains(&number) {
+        return Err(GIVEN_TWICE);
+    }
+    let place = cell.places.get_mut(&number).ok_or(NOT_YET_GIVEN)?;
+    place.touches = body[1..].iter().rev().fold(0, |count, &byte| 256 * count + byte as u64);
+    touched.insert(number);
     Ok(())
 }

@@ -14,6 +14,7 @@ mod sound;
 mod step;
 mod table;
 mod term;
+mod touch;
 mod walk;
 
 pub use calculus::{make, permitted, Move, Tree};
@@ -26,17 +27,19 @@ pub use sound::{holds, sound};
 pub use step::{step, Stepped, Word};
 pub use table::{ActionRecord, AgentRecord, PlaceRecord, Table, SIZE};
 pub use term::file_of;
+pub use touch::{touch, touch_sum, touches, MOST_TOUCHES};
 pub use walk::walk;
 
 /// "cut short: a body incomplete, or no end record"
 pub const CUT_SHORT: u8 = 1;
-/// "unknown kind, not 1 to 4"
+/// "unknown kind, not 1 to 4"; document 02, W3: "Kind 5 leaves the unknown kinds"
 pub const UNKNOWN_KIND: u8 = 2;
-/// "number too large, or place number 0"; document 02, W2: "for a place record's own number"
+/// "number too large, or place number 0"; document 02, W2: "for a place record's own number"; W3: for "a place above 63" in kind 5 and in a
+/// touch call
 pub const TOO_LARGE: u8 = 3;
-/// "number given twice"
+/// "number given twice"; document 02, W3: "a second record for a place"
 pub const GIVEN_TWICE: u8 = 4;
-/// "not yet given"
+/// "not yet given"; document 02, W3: "a place not given", and in a touch call "an unused one"
 pub const NOT_YET_GIVEN: u8 = 5;
 /// "name 0 in a place or action"
 pub const NAME_ZERO: u8 = 6;
@@ -56,3 +59,5 @@ pub const LISTING_TOO_LONG: u8 = 12;
 pub const PARENT_TOO_LARGE: u8 = 13;
 /// Document 02, W2: "an agent number above 63"
 pub const AGENT_TOO_LARGE: u8 = 14;
+/// Document 02, W3: "15, last in a touch call, if that call would make it so": a table whose touches pass [`MOST_TOUCHES`]
+pub const TOO_MANY_TOUCHES: u8 = 15;

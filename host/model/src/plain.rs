@@ -1,13 +1,14 @@
 //! The plain tree: "It is kept beside the cell from each step call's agent, wish and answered word, and from nothing else."
 
 use crate::calculus::Tree;
-use crate::cell::{Action, Cell, Kind, Places, Stands};
+use crate::cell::{Action, Cell, Kind, Place, Places, Stands};
 use crate::choice::choose;
 use crate::step::Word;
 use std::collections::BTreeMap;
 
 /// "It knows each place's name and where it stands, each agent's home and unused actions, which places travel, and a pick for each
-/// agent." A travelling place is kept as on its way to where it stands, any other as linked there.
+/// agent." A travelling place is kept as on its way to where it stands, any other as linked there. It knows of no touches (document 02, W3:
+/// "touch calls .., which the plain tree passes over"): each place's count is 0 here.
 #[derive(Clone, PartialEq, Eq, Debug)]
 pub struct Plain {
     pub places: Places,
@@ -19,7 +20,8 @@ impl Plain {
     /// "It starts as the file says, with nothing travelling and no picks": the cell is the one just loaded.
     pub fn of_load(cell: &Cell) -> Plain {
         let agents = cell.agents.iter().map(|(&number, agent)| (number, (agent.home, agent.unused.clone()))).collect();
-        Plain { places: cell.places.clone(), agents, picks: BTreeMap::new() }
+        let places = cell.places.iter().map(|(&number, &place)| (number, Place { touches: 0, ..place })).collect();
+        Plain { places, agents, picks: BTreeMap::new() }
     }
 
     /// One step call that was not refused; "Any other word, or a refusal: nothing."

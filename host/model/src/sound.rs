@@ -1,8 +1,9 @@
-//! When a table is sound: document 01's list, read on the places and agents in use. Nothing is asked of unused numbers, of used-up
-//! actions, or of a field that the agent's stage does not use.
+//! When a table is sound: document 01's list, with what the landed requests of document 02 add, read on the places and agents in use.
+//! Nothing is asked of unused numbers, of used-up actions, or of a field that the agent's stage does not use.
 
 use crate::cell::Kind;
 use crate::table::{AgentRecord, Table};
+use crate::touch::MOST_TOUCHES;
 
 /// "A table is sound when:" all of this holds.
 pub fn sound(table: &Table) -> bool {
@@ -15,6 +16,7 @@ pub fn sound(table: &Table) -> bool {
         && stage_three(table)
         && actions_left(table)
         && openers(table)
+        && few_touches(table)
 }
 
 /// "the floor is as above": "Place 0 is the floor: name 0, no parent, never moves." Its way is not 0, since it is linked to nothing.
@@ -122,4 +124,9 @@ fn openers(table: &Table) -> bool {
         .agents_in_use()
         .filter(|(_, agent)| (1..=3).contains(&agent.stage) && agent.next_kind() == Some(Kind::Open))
         .all(|(_, agent)| agent.remembered == agent.home)
+}
+
+/// Document 02, W3: "A table whose sum passes 1,000,000,000,000 is unsound": the sum over places in use, whatever the counts are.
+fn few_touches(table: &Table) -> bool {
+    table.places_in_use().map(|(number, _)| table.touches[number as usize] as u128).sum::<u128>() <= MOST_TOUCHES
 }

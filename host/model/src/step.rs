@@ -166,14 +166,17 @@ fn leave(cell: &mut Cell, agent: u8, p: u8, destination: u8) -> Stepped {
 
 /// "Open: children and agents of the chosen place go to p, its number becomes unused, the moved agents that aren't done go to stage 0,
 /// a lock that one of them held at stage 2 being released; wake all asleep on p or on it, and set to stage 0 all that remembered it at
-/// stage 1; the action is used up; release both; opened." "The count of woken agents is of those that were at stage 7."
+/// stage 1; the action is used up; release both; opened." "The count of woken agents is of those that were at stage 7." Document 02, W3:
+/// "When a place is opened, its count is pooled into the place of the agent that opened it."
 fn open(cell: &mut Cell, agent: u8, p: u8, chosen: u8) -> Stepped {
     for place in cell.places.values_mut() {
         if place.stands == Stands::Linked(chosen) {
             place.stands = Stands::Linked(p);
         }
     }
-    cell.places.remove(&chosen);
+    let pooled = cell.places.remove(&chosen).map_or(0, |opened| opened.touches);
+    let home = cell.agents[&agent].home;
+    cell.places.get_mut(&home).expect("a home is in use").touches += pooled;
     let mut woken = 0;
     let numbers: Vec<u8> = cell.agents.keys().copied().collect();
     for number in numbers {

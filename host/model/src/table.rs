@@ -4,8 +4,8 @@ use crate::cell::{Action, Agent, Cell, Kind, Place, Stands};
 use crate::sound::sound;
 use std::collections::BTreeMap;
 
-/// The size of the struct in bytes: places 4 bytes each, locks 1, agents 70, and two sets of 8 bytes.
-pub const SIZE: usize = 64 * 4 + 64 + 64 * AGENT + 8 + 8;
+/// The size of the struct in bytes: places 4 bytes each, locks 1, agents 70, two sets of 8 bytes, and a count of 8 bytes for each place.
+pub const SIZE: usize = TOUCHES + 64 * 8;
 /// Where the locks start.
 const LOCKS: usize = 64 * 4;
 /// Where the agents start.
@@ -14,6 +14,8 @@ const AGENTS: usize = LOCKS + 64;
 const AGENT: usize = 6 + 16 * 4;
 /// Where the sets start.
 const SETS: usize = AGENTS + 64 * AGENT;
+/// Where the touch counts start.
+const TOUCHES: usize = SETS + 8 + 8;
 
 /// A place's record: way 0 is linked to the parent, any other way is on its way to it; the floor has
 /// name 0, parent 0 and a way other than 0.
@@ -51,6 +53,7 @@ pub struct Table {
     pub agents: Vec<AgentRecord>,
     pub used: Vec<bool>,
     pub given: Vec<bool>,
+    pub touches: Vec<u64>,
 }
 
 impl AgentRecord {
@@ -96,16 +99,15 @@ impl Table {
                 actions: std::array::from_fn(action),
             }
         };
-        let set = |at: usize| {
-            let word = u64::from_ne_bytes(bytes[at..at + 8].try_into().expect("eight bytes"));
-            (0..64).map(|number| word >> number & 1 == 1).collect()
-        };
+        let eight = |at: usize| u64::from_ne_bytes(bytes[at..at + 8].try_into().expect("eight bytes"));
+        let set = |at: usize| (0..64).map(|number| eight(at) >> number & 1 == 1).collect();
         Table {
             places: (0..64).map(place).collect(),
             locks: bytes[LOCKS..AGENTS].to_vec(),
             agents: (0..64).map(agent).collect(),
             used: set(SETS),
             given: set(SETS + 8),
+            touches: (0..64).map(|number| eight(TOUCHES + 8 * number)).collect(),
         }
     }
 
@@ -136,7 +138,7 @@ impl Table {
                 (_, 0) => Stands::Linked(record.parent),
                 _ => Stands::OnItsWay(record.parent),
             };
-            cell.places.insert(number, Place { name: record.name, stands });
+            cell.places.insert(number, Place { name: record.name, stands, touches: self.touches[number as usize] });
             if self.locks[number as usize] != 64 {
                 cell.locks.insert(number, self.locks[number as usize]);
             }

@@ -144,9 +144,19 @@ fn the_longest_file_and_the_longest_listing() {
             file.extend([3, agent, 1, 0xFF, 0xFF]);
         }
     }
+    for place in 0..64 {
+        file.extend([5, place, 0xFF, 0xFF, 0xFF, 0xFF]);
+    }
     file.push(4);
-    assert_eq!(file.len(), 5_628);
+    assert_eq!(file.len(), 6_012);
     assert_eq!(listing(&load(&file).unwrap()).len(), 13_043);
+    // any record more is refused, and the last one that can decide has six bytes
+    file.pop();
+    for record in [[1, 63, 0, 7, 0, 4], [2, 63, 0, 4, 4, 4], [3, 63, 1, 7, 0, 4], [5, 63, 0, 0, 0, 0]] {
+        let refused = refusal(&[&file[..], &record].concat());
+        assert!(matches!(refused, (4 | 8, 6_011)));
+        assert_eq!(refusal(&[&file[..], &record, &[4; 99]].concat()), refused);
+    }
 }
 
 #[test]

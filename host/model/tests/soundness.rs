@@ -13,6 +13,7 @@ fn table(cell: &Cell) -> Table {
         };
         table.places[number as usize] = PlaceRecord { name: place.name, parent, way };
         table.locks[number as usize] = cell.locks.get(&number).copied().unwrap_or(64);
+        table.touches[number as usize] = place.touches;
         table.used[number as usize] = true;
     }
     for (&number, agent) in &cell.agents {
@@ -138,6 +139,21 @@ fn openers() {
 }
 
 #[test]
+fn touches() {
+    const MOST: u64 = 1_000_000_000_000;
+    assert!(stays(CELL, &[], |t| t.touches[2] = MOST), "exactly the most is sound");
+    assert!(!stays(CELL, &[], |t| t.touches[2] = MOST + 1));
+    assert!(!stays(CELL, &[], |t| t.touches[0] = u64::MAX));
+    assert!(stays(CELL, &[], |t| (t.touches[0], t.touches[3]) = (1, MOST - 1)), "the floor's touches count");
+    assert!(!stays(CELL, &[], |t| (t.touches[0], t.touches[3]) = (1, MOST)));
+    // sums that would wrap to a small number in 64 bits
+    assert!(!stays(CELL, &[], |t| (t.touches[0], t.touches[3]) = (1, u64::MAX)));
+    assert!(!stays(CELL, &[], |t| (t.touches[1], t.touches[2]) = (1 << 63, 1 << 63)));
+    assert!(!stays(CELL, &[], |t| t.touches[..4].fill(1 << 62)));
+    assert!(stays(CELL, &[], |t| t.touches[4..].fill(u64::MAX)), "nothing is asked of unused places");
+}
+
+#[test]
 fn what_is_not_asked() {
     assert!(stays(CELL, &[], |t| t.places[9] = PlaceRecord { name: 0, parent: 200, way: 3 }));
     assert!(stays(CELL, &[], |t| t.locks[9] = 200));
@@ -160,10 +176,12 @@ fn reading_bytes() {
     bytes[4800..4808].copy_from_slice(&(1u64 | 1 << 63).to_ne_bytes());
     bytes[4808..4816].copy_from_slice(&(1u64 << 63).to_ne_bytes());
     bytes[252..254].copy_from_slice(&513u16.to_ne_bytes());
+    bytes[5320..5328].copy_from_slice(&70_000u64.to_ne_bytes());
     let agent = 320 + 63 * 70;
     bytes[agent..agent + 6].copy_from_slice(&[63, 0, 0, 0, 15, 16]);
     bytes[agent + 66] = 2;
     bytes[agent + 68..agent + 70].copy_from_slice(&7u16.to_ne_bytes());
     let cell = Table::read(&bytes).cell().expect("sound");
     assert_eq!(model::listing(&cell), "513[exit 7]");
+    assert_eq!((cell.places[&0].touches, cell.places[&63].touches), (0, 70_000));
 }

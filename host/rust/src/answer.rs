@@ -21,7 +21,8 @@ pub enum Word {
     Left,
     /// Its place came to its destination.
     Came,
-    /// It opened a place: what was inside stands in the agent's own place now, and the opened place's number is unused; the action is used up.
+    /// It opened a place: what was inside stands in the agent's own place now, the opened place's touches are added to that place's, and its
+    /// number is unused; the action is used up.
     Opened,
     /// It sleeps; nothing changed.
     Asleep,
@@ -37,13 +38,13 @@ pub enum Word {
 pub enum Refusal {
     /// 1: the file is cut short: a body incomplete, or no end record. A file of length 0 is not: it is a bare floor.
     CutShort,
-    /// 2: a record of unknown kind, not 1 to 4.
+    /// 2: a record of unknown kind, not 1 to 5.
     UnknownKind,
-    /// 3: a place record's own number is above 63, or 0.
+    /// 3: a place record's own number is above 63, or 0; or the place of a touch record or of a touch call is above 63.
     TooLarge,
-    /// 4: a number given twice.
+    /// 4: a number, or a place's touches, given twice.
     GivenTwice,
-    /// 5: a parent, home or agent not yet given.
+    /// 5: a parent, home, agent or touched place not yet given; of a touch call, a place that is not in use.
     NotYetGiven,
     /// 6: name 0 in a place or action.
     NameZero,
@@ -63,6 +64,8 @@ pub enum Refusal {
     ParentTooLarge,
     /// 14: the number of an agent, in an agent or an action record, is above 63. A step for such an agent is [`Refusal::NoSuchAgent`].
     AgentTooLarge,
+    /// 15: the touch call would bring the places in use past [`TOUCHES_MOST`](crate::TOUCHES_MOST) touches.
+    TooManyTouches,
     /// 255, which no library answers: the linked library is not one that this crate was made for, and was not called.
     OtherLibrary,
     /// A refusal of a later library, by its number.
@@ -125,8 +128,8 @@ impl Word {
 }
 
 impl Refusal {
-    /// The library's refusals, 1 to 14, in the order of their numbers.
-    pub const ALL: [Refusal; 14] = [
+    /// The library's refusals, 1 to 15, in the order of their numbers.
+    pub const ALL: [Refusal; 15] = [
         Refusal::CutShort,
         Refusal::UnknownKind,
         Refusal::TooLarge,
@@ -141,6 +144,7 @@ impl Refusal {
         Refusal::ListingTooLong,
         Refusal::ParentTooLarge,
         Refusal::AgentTooLarge,
+        Refusal::TooManyTouches,
     ];
 
     /// The number of [`Refusal::OtherLibrary`].
@@ -163,6 +167,7 @@ impl Refusal {
             12 => Refusal::ListingTooLong,
             13 => Refusal::ParentTooLarge,
             14 => Refusal::AgentTooLarge,
+            15 => Refusal::TooManyTouches,
             Refusal::OTHER_LIBRARY => Refusal::OtherLibrary,
             _ => Refusal::Unknown(number),
         }
@@ -185,6 +190,7 @@ impl Refusal {
             Refusal::ListingTooLong => 12,
             Refusal::ParentTooLarge => 13,
             Refusal::AgentTooLarge => 14,
+            Refusal::TooManyTouches => 15,
             Refusal::OtherLibrary => Refusal::OTHER_LIBRARY,
             Refusal::Unknown(number) => number,
         }
@@ -194,10 +200,10 @@ impl Refusal {
     pub fn text(self) -> &'static str {
         match self {
             Refusal::CutShort => "cut short: a body incomplete, or no end record",
-            Refusal::UnknownKind => "unknown kind, not 1 to 4",
-            Refusal::TooLarge => "place number above 63, or 0",
-            Refusal::GivenTwice => "number given twice",
-            Refusal::NotYetGiven => "not yet given",
+            Refusal::UnknownKind => "unknown kind, not 1 to 5",
+            Refusal::TooLarge => "place number above 63, or 0 in a place record",
+            Refusal::GivenTwice => "number or touches given twice",
+            Refusal::NotYetGiven => "not yet given, or not in use",
             Refusal::NameZero => "name 0 in a place or action",
             Refusal::ActionKind => "action kind not 1 to 3",
             Refusal::SeventeenthAction => "seventeenth action",
@@ -207,6 +213,7 @@ impl Refusal {
             Refusal::ListingTooLong => "listing longer than the buffer",
             Refusal::ParentTooLarge => "parent or home above 63",
             Refusal::AgentTooLarge => "agent number above 63",
+            Refusal::TooManyTouches => "more than 1,000,000,000,000 touches in all",
             Refusal::OtherLibrary => "not the library that this crate was made for",
             Refusal::Unknown(_) => "unknown",
         }
@@ -253,8 +260,8 @@ mod tests {
 
     #[test]
     fn unknown_numbers_have_texts() {
-        assert!((1..=254).all(|number| (Refusal::of(number) == Refusal::Unknown(number)) == (number > 14)));
-        assert_eq!(Refusal::of(15).text(), "unknown");
+        assert!((1..=254).all(|number| (Refusal::of(number) == Refusal::Unknown(number)) == (number > 15)));
+        assert_eq!(Refusal::of(16).text(), "unknown");
         assert_eq!(Word::of(8).name(), "unknown");
     }
 }

@@ -8,7 +8,7 @@ use crate::VERSION;
 use core::mem::{offset_of, size_of};
 
 /// The size of a cell in bytes.
-pub const SIZE: usize = 4_816;
+pub const SIZE: usize = 5_328;
 
 /// The number of places that a cell has room for; place 0 is the floor.
 pub const PLACES: usize = 64;
@@ -80,6 +80,8 @@ pub struct Lent {
     pub used: u64,
     /// Bit i is set where agent i is in use.
     pub given: u64,
+    /// For each place its touch count.
+    pub touches: [u64; PLACES],
 }
 
 const _: () = assert!(size_of::<Place>() == 4 && offset_of!(Place, parent) == 2 && offset_of!(Place, way) == 3);
@@ -88,7 +90,7 @@ const _: () = assert!(size_of::<Agent>() == 70 && offset_of!(Agent, stage) == 1 
 const _: () = assert!(offset_of!(Agent, chosen) == 3 && offset_of!(Agent, next) == 4 && offset_of!(Agent, count) == 5);
 const _: () = assert!(offset_of!(Agent, actions) == 6 && size_of::<Lent>() == SIZE);
 const _: () = assert!(offset_of!(Lent, locks) == 256 && offset_of!(Lent, agents) == 320);
-const _: () = assert!(offset_of!(Lent, used) == 4800 && offset_of!(Lent, given) == 4808);
+const _: () = assert!(offset_of!(Lent, used) == 4800 && offset_of!(Lent, given) == 4808 && offset_of!(Lent, touches) == 4816);
 
 extern "C" {
     fn keeper_version() -> u64;
@@ -99,6 +101,8 @@ extern "C" {
     fn keeper_list(cell: *const Lent, text: *mut u8, room: usize) -> u64;
     fn keeper_check(cell: *const Lent) -> u64;
     fn keeper_idle(cell: *const Lent) -> u64;
+    fn keeper_touch(cell: *mut Lent, place: u8, number: u32) -> u64;
+    fn keeper_touches(cell: *const Lent, place: u8) -> u64;
 }
 
 /// The version of the linked library: the major number from bit 16 on, the minor one in bits 8 to 15, the patch in bits 0 to 7.
@@ -142,7 +146,8 @@ impl Lent {
     pub fn zeros() -> Lent {
         let action = Action { kind: 0, padding: 0, name: 0 };
         let agent = Agent { home: 0, stage: 0, remembered: 0, chosen: 0, next: 0, count: 0, actions: [action; ACTIONS] };
-        Lent { places: [Place { name: 0, parent: 0, way: 0 }; PLACES], locks: [0; PLACES], agents: [agent; AGENTS], used: 0, given: 0 }
+        let places = [Place { name: 0, parent: 0, way: 0 }; PLACES];
+        Lent { places, locks: [0; PLACES], agents: [agent; AGENTS], used: 0, given: 0, touches: [0; PLACES] }
     }
 
     /// Makes the cell a bare floor.
@@ -173,6 +178,16 @@ impl Lent {
     /// Whether all agents are asleep or done.
     pub fn idle(&self) -> u64 {
         asked(|| unsafe { keeper_idle(self) })
+    }
+
+    /// Adds a number to the touch count of a place.
+    pub fn touch(&mut self, place: u8, number: u32) -> u64 {
+        asked(|| unsafe { keeper_touch(self, place, number) })
+    }
+
+    /// The touch count of a place, if the table is sound and the place in use; the field `touches` holds the counts of all places.
+    pub fn touches(&self, place: u8) -> u64 {
+        asked(|| unsafe { keeper_touches(self, place) })
     }
 
     /// The bytes of the cell.

@@ -26,6 +26,11 @@
 //! assert_eq!(cell.step(0, 255)?.word, Word::Done);
 //! assert_eq!(cell.step(1, 255).unwrap_err().refusal, Refusal::NoSuchAgent);
 //!
+//! // Touches travel with the place: the capillary of place 1 touched down 1,200 times, wherever it stands.
+//! assert_eq!(cell.touch(1, 1_200)?, 1_200);
+//! assert_eq!(cell.touch(1, 300)?, 1_500);
+//! assert_eq!(cell.touches(1)?, 1_500);
+//!
 //! // A file of length 0 is a bare floor: a line with nothing on it yet.
 //! let cell = Cell::load(&[])?;
 //! let length = cell.list(&mut text)?;
@@ -56,16 +61,19 @@ use lent::Lent;
 
 /// The version of the library that this crate was made for: the major number from bit 16 on, the minor one in bits 8 to 15, the patch in
 /// bits 0 to 7.
-pub const VERSION: u64 = 65_792;
+pub const VERSION: u64 = 131_072;
 
 /// The longest cell file that can be accepted.
-pub const FILE_LONGEST: usize = 5_628;
+pub const FILE_LONGEST: usize = 6_012;
 
 /// How many bytes of a file, at its start, always decide the answer to it: of a longer file a host may read and load those.
-pub const FILE_DECIDING: usize = 5_633;
+pub const FILE_DECIDING: usize = 6_017;
 
 /// The longest listing: with a text of this size, [`Cell::list`] is never refused with 12.
 pub const LISTING_LONGEST: usize = 13_043;
+
+/// The touches that the places in use may have together, at most.
+pub const TOUCHES_MOST: u64 = 1_000_000_000_000;
 
 /// The stack that a call uses, in bytes, at most: measured by `host/c/stack.c`, not proved.
 pub const STACK: usize = 65_536;
@@ -169,6 +177,44 @@ impl Cell {
         let answer = self.lent.idle();
         accepted(answer)?;
         Ok(answer >> 8 & 1 == 1)
+    }
+
+    /// Adds a number to the touch count of a place and answers its new count. The count stays with the place wherever it goes, and is added
+    /// to the opener's place when the place is opened: the sum over all places in use is what the file gave and what was added since.
+    ///
+    /// ```
+    /// use keeper::{Cell, Refusal};
+    ///
+    /// // Place 1, named 30, with 40 touches; agent 0, on the floor, opens it.
+    /// let mut cell = Cell::load(&[1, 1, 0, 30, 0, 5, 1, 40, 0, 0, 0, 2, 0, 0, 3, 0, 3, 30, 0, 4])?;
+    /// assert_eq!(cell.touch(1, 2)?, 42);
+    /// while !cell.idle()? {
+    ///     cell.step(0, 255)?;
+    /// }
+    /// assert_eq!(cell.touches(0)?, 42);
+    /// assert_eq!(cell.touch(1, 1).unwrap_err().refusal, Refusal::NotYetGiven);
+    /// # Ok::<(), keeper::Refused>(())
+    /// ```
+    ///
+    /// # Errors
+    ///
+    /// Refused with 10 where the table is unsound, else with 3 for a place above 63, else with 5 for one that is not in use, else with 15
+    /// where the sum over all places in use would pass [`TOUCHES_MOST`]; the cell is then as it was.
+    pub fn touch(&mut self, place: u8, number: u32) -> Result<u64, Refused> {
+        let answer = self.lent.touch(place, number);
+        accepted(answer)?;
+        Ok(answer >> 8)
+    }
+
+    /// The touch count of a place.
+    ///
+    /// # Errors
+    ///
+    /// Refused with 10 where the table is unsound, else with 3 for a place above 63, else with 5 for one that is not in use.
+    pub fn touches(&self, place: u8) -> Result<u64, Refused> {
+        let answer = self.lent.touches(place);
+        accepted(answer)?;
+        Ok(answer >> 8)
     }
 
     /// The cell in memory that something else has written. It may be unsound: then each call but [`Cell::reload`] is refused with 10.

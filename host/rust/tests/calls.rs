@@ -1,7 +1,7 @@
 //! Each call of the crate: what it answers, and that a refusal changes nothing.
 
 use keeper::lent::{cell_bytes, fits, version, Lent, SIZE};
-use keeper::{check_library, Cell, Refusal, Refused, Stepped, Word, FILE_DECIDING, FILE_LONGEST, LISTING_LONGEST, VERSION};
+use keeper::{check_library, Cell, Refusal, Refused, Stepped, Word, FILE_DECIDING, FILE_LONGEST, LISTING_LONGEST, TOUCHES_MOST, VERSION};
 
 /// The worked example's cell: `7[enter 9] | 9[exit 7]`.
 const FILE: [u8; 27] = [1, 1, 0, 7, 0, 1, 2, 0, 9, 0, 2, 0, 1, 3, 0, 1, 9, 0, 2, 1, 2, 3, 1, 2, 7, 0, 4];
@@ -83,7 +83,7 @@ fn which_number_was_too_large() {
 
 #[test]
 fn a_file_of_length_0_is_a_bare_floor() {
-    let floor = |cell: &Cell| (cell.lent().places, cell.lent().locks, cell.lent().used, cell.lent().given);
+    let floor = |cell: &Cell| (cell.lent().places, cell.lent().locks, cell.lent().used, cell.lent().given, cell.lent().touches);
     let bare = floor(&Cell::bare());
     let mut cell = Cell::load(&[]).unwrap();
     assert_eq!([floor(&cell), floor(&Cell::load(&[4]).unwrap())], [bare, bare]);
@@ -121,9 +121,70 @@ fn an_unsound_table() {
     assert_eq!(cell.idle(), Err(unsound));
     assert_eq!(cell.step(64, 0), Err(unsound));
     assert_eq!(cell.list(&mut []), Err(unsound));
+    assert_eq!((cell.touch(64, 0), cell.touches(64)), (Err(unsound), Err(unsound)));
     assert!(*cell.lent() == Lent::zeros());
     assert_eq!(cell.reload(&FILE), Ok(()));
     assert_eq!(cell.listing().unwrap(), "7[enter 9] | 9[exit 7]");
+}
+
+#[test]
+fn refused_touch_records() {
+    let mut cell = Cell::load(&FILE).unwrap();
+    let before = cell.clone();
+    let rows: [(&[u8], Refusal); 6] = [
+        (&[5, 64, 1, 0, 0, 0, 4], Refusal::TooLarge),
+        (&[5, 255, 1, 0, 0, 0, 4], Refusal::TooLarge),
+        (&[5, 1, 0, 0, 0, 0, 4], Refusal::GivenTwice),
+        (&[5, 2, 1, 0, 0, 0, 4], Refusal::NotYetGiven),
+        (&[5, 64, 1, 0, 0], Refusal::CutShort),
+        (&[6, 0, 0, 0, 0, 0, 4], Refusal::UnknownKind),
+    ];
+    for (record, refusal) in rows {
+        let file = [&[1, 1, 0, 7, 0, 5, 1, 4, 3, 2, 1], record].concat();
+        assert_eq!(cell.reload(&file), Err(Refused { refusal, offset: Some(11) }), "{record:?}");
+    }
+    assert!(cell.lent() == before.lent());
+}
+
+#[test]
+fn touches_travel_and_are_pooled() {
+    // a bonder, place 1, with a tray, place 2, that agent 0 opens; a holder, place 3, that agent 1 takes into the bonder
+    let mut file = vec![1, 1, 0, 20, 0, 1, 2, 1, 50, 0, 1, 3, 0, 30, 0, 5, 3, 0xB0, 4, 0, 0, 5, 2, 40, 0, 0, 0];
+    file.extend([2, 0, 1, 3, 0, 3, 50, 0, 2, 1, 3, 3, 1, 1, 20, 0, 4]);
+    let mut cell = Cell::load(&file).unwrap();
+    assert_eq!([0, 1, 2, 3].map(|place| cell.touches(place)), [Ok(0), Ok(0), Ok(40), Ok(1_200)]);
+    for _ in 0..7 {
+        cell.step(1, 255).unwrap();
+    }
+    assert_eq!(cell.touch(3, 300), Ok(1_500));
+    for _ in 0..4 {
+        cell.step(0, 255).unwrap();
+    }
+    assert_eq!(cell.listing().unwrap(), "20[30[]]");
+    let refused = |refusal| Err(Refused { refusal, offset: None });
+    assert_eq!([0, 1, 2, 3].map(|place| cell.touches(place)), [Ok(0), Ok(40), refused(Refusal::NotYetGiven), Ok(1_500)]);
+    assert_eq!(cell.lent().touches[2], 0);
+}
+
+#[test]
+fn refused_touches() {
+    let refused = |refusal| Err(Refused { refusal, offset: None });
+    let mut lent = Cell::load(&FILE).unwrap().lent().clone();
+    lent.touches[1] = TOUCHES_MOST - 9;
+    lent.touches[3] = u64::MAX;
+    let mut cell = Cell::from_lent(lent);
+    let before = cell.clone();
+    assert_eq!([cell.touch(64, 10), cell.touch(255, 0), cell.touches(64)], [refused(Refusal::TooLarge); 3]);
+    assert_eq!([cell.touch(3, 10), cell.touch(63, 0), cell.touches(3)], [refused(Refusal::NotYetGiven); 3]);
+    assert_eq!([cell.touch(1, 10), cell.touch(0, u32::MAX)], [refused(Refusal::TooManyTouches); 2]);
+    assert!(cell.lent() == before.lent());
+    assert_eq!(cell.touch(0, 9), Ok(9));
+    assert_eq!([cell.touch(1, 0), cell.touch(1, 1)], [Ok(TOUCHES_MOST - 9), refused(Refusal::TooManyTouches)]);
+    let mut lent = cell.lent().clone();
+    for count in [TOUCHES_MOST - 8, u64::MAX - 8, u64::MAX] {
+        lent.touches[1] = count;
+        assert_eq!(Cell::from_lent(lent.clone()).check(), refused(Refusal::Unsound).map(|_: u64| ()));
+    }
 }
 
 #[test]
@@ -143,6 +204,7 @@ fn the_longest() {
     for agent in 0..64 {
         file.extend([2, agent, 0]);
         file.extend([3, agent, 1, 255, 255].repeat(16));
+        file.extend([5, agent, 255, 255, 255, 255]);
     }
     file.push(4);
     assert_eq!(file.len(), FILE_LONGEST);
@@ -158,8 +220,8 @@ fn texts() {
     let refused = Cell::load(&[4, 4]).unwrap_err();
     assert_eq!(refused.to_string(), "refused with 9: bytes after the end record, at byte 1");
     let numbers: Vec<u8> = Refusal::ALL.iter().map(|refusal| refusal.number()).collect();
-    assert_eq!(numbers, (1..=14).collect::<Vec<u8>>());
-    assert_eq!(Refusal::TooLarge.to_string(), "place number above 63, or 0");
+    assert_eq!(numbers, (1..=15).collect::<Vec<u8>>());
+    assert_eq!(Refusal::TooLarge.to_string(), "place number above 63, or 0 in a place record");
     assert_eq!(Cell::load(&[1, 1, 64, 7, 0, 4]).unwrap_err().to_string(), "refused with 13: parent or home above 63, at byte 0");
     assert_eq!(Cell::load(&[2, 64, 0, 4]).unwrap_err().to_string(), "refused with 14: agent number above 63, at byte 0");
     let error: Box<dyn std::error::Error> = Box::new(refused);

@@ -25,6 +25,11 @@ record-at-spec =
     (λ c. search needs) (λ c. search needs) (λ c. search needs) (λ c. search needs)
     (λ c. search needs) (λ c. search needs) (λ c. search needs) (λ c. search needs) (λ c κs. search needs)
     (λ c κs. search needs) (λ c κs. search needs) (λ c κs. search needs)
+    -- touches
+    (λ c. rw (c .before .match .keys5, lt-ltb _ _ (c .if4 .taken)))
+    (λ c. search needs) (λ c. search needs) (λ c. search needs) (λ c. search needs) (λ c. search needs)
+    (λ c. search needs) (λ c. search needs) (λ c. search needs) (λ c. search needs) (λ c. search needs) (λ c κs. search needs)
+    (λ c κs. search needs) (λ c κs. search needs) (λ c κs. search needs)
     -- what each record is
     (λ c.
     let t = c .before .before .before .before .before .before .before .before in
@@ -39,5 +44,10 @@ record-at-spec =
     (c .action-record .ensures))
     (λ c. rw (c .match .keys4))
     (λ c.
+    let t = c .before .before .before .before .before .before .before .before .before in
+    let w = c .before .before .before in
+    rw (t .before .match .keys5, le-ltb _ _ (t .if4 .left), ← w .four-bytes .ensures, ← c .before .before .has7 .ensures, ← c .before .has8 .ensures)
+    (c .touch-record .ensures))
+    (λ c.
     let r = c .match .rest in
-    rw (ne-eqb _ _ (r .0 .0 .0 .1), ne-eqb _ _ (r .0 .0 .1), ne-eqb _ _ (r .0 .1), ne-eqb _ _ (r .1))))
+    rw (ne-eqb _ _ (r .0 .0 .0 .0 .1), ne-eqb _ _ (r .0 .0 .0 .1), ne-eqb _ _ (r .0 .0 .1), ne-eqb _ _ (r .0 .1), ne-eqb _ _ (r .1))))

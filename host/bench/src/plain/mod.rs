@@ -8,8 +8,8 @@ mod step;
 
 use crate::cell::{has, Cell};
 use crate::keeper::Keeper;
-use crate::tuned::{Tuned, NO_SUCH_AGENT, UNSOUND};
-use sound::sound;
+use crate::tuned::{Tuned, NOT_GIVEN, NO_SUCH_AGENT, TOO_LARGE, TOO_MANY, UNSOUND};
+use sound::{few_touches, sound};
 
 /// The plain Rust keeper.
 pub struct Plain;
@@ -55,5 +55,39 @@ impl Keeper for Plain {
         }
         let at_rest = (0..64).all(|x| !has(cell.given, x) || cell.agents[x as usize].stage >= 7);
         (at_rest as u64) << 8
+    }
+
+    #[inline(never)]
+    fn touch(cell: &mut Cell, place: u8, number: u32) -> u64 {
+        let refused = refused_place(cell, place);
+        if refused != 0 {
+            return refused;
+        }
+        if !few_touches(cell, number as u64) {
+            return TOO_MANY;
+        }
+        cell.touches[place as usize] += number as u64;
+        cell.touches[place as usize] << 8
+    }
+
+    #[inline(never)]
+    fn touches(cell: &Cell, place: u8) -> u64 {
+        match refused_place(cell, place) {
+            0 => cell.touches[place as usize] << 8,
+            refused => refused,
+        }
+    }
+}
+
+/// The refusal of a call for a place, or 0.
+fn refused_place(cell: &Cell, place: u8) -> u64 {
+    if !sound(cell) {
+        UNSOUND
+    } else if place > 63 {
+        TOO_LARGE
+    } else if !has(cell.used, place) {
+        NOT_GIVEN
+    } else {
+        0
     }
 }

@@ -1,6 +1,6 @@
-//! Whether a table is sound: a pass over the agents, one over the places, and from each place the way to the floor.
+//! Whether a table is sound: a pass over the agents, one over the places, from each place the way to the floor, and the touches.
 
-use crate::cell::{has, Action, Agent, Cell, NONE};
+use crate::cell::{has, Action, Agent, Cell, MOST_TOUCHES, NONE};
 
 const EXIT: u8 = 2;
 const OPEN: u8 = 3;
@@ -50,6 +50,20 @@ pub fn sound(cell: &Cell) -> bool {
     for q in 0..64 {
         if has(cell.used, q) && !leads_to_the_floor(cell, q) {
             return false;
+        }
+    }
+    few_touches(cell, 0)
+}
+
+/// Whether the places in use have few enough touches, with so many more.
+pub fn few_touches(cell: &Cell, more: u64) -> bool {
+    let mut sum = more;
+    for q in 0..64 {
+        if has(cell.used, q) {
+            if cell.touches[q as usize] > MOST_TOUCHES - sum {
+                return false;
+            }
+            sum += cell.touches[q as usize];
         }
     }
     true

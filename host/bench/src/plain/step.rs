@@ -167,7 +167,7 @@ fn leave(cell: &mut Cell, x: u8, home: u8, p: u8, destination: u8) -> Answer {
     (LEFT, woken)
 }
 
-/// Dissolves place t into p.
+/// Dissolves place t into p, which is the agent's own; its touches are pooled there.
 fn open(cell: &mut Cell, x: u8, p: u8, t: u8) -> Answer {
     for q in 0..64 {
         let lock = cell.locks[q as usize];
@@ -200,6 +200,8 @@ fn open(cell: &mut Cell, x: u8, p: u8, t: u8) -> Answer {
         }
     }
     cell.places[t as usize] = Place { name: 0, parent: 0, way: 0 };
+    cell.touches[p as usize] += cell.touches[t as usize];
+    cell.touches[t as usize] = 0;
     cell.used &= !(1 << t);
     cell.locks[p as usize] = NONE;
     cell.locks[t as usize] = NONE;

@@ -13,6 +13,7 @@ enum Record {
     Place { number: u8, parent: u8, name: u16 },
     Agent { number: u8, home: u8 },
     Action { agent: u8, action: Action },
+    Touches { place: u8, count: u32 },
     End,
 }
 
@@ -22,9 +23,10 @@ pub fn load(file: &[u8]) -> Result<Cell, Refused> {
     if file.is_empty() {
         return Ok(cell);
     }
+    let mut touched = 0;
     let mut at = 0;
     while at < file.len() {
-        let record = record(&cell, &file[at..]).map_err(|number| Refused { number, offset: at })?;
+        let record = record(&cell, touched, &file[at..]).map_err(|number| Refused { number, offset: at })?;
         match record {
             Record::Place { number, parent, name } => {
                 cell.places[number as usize] = Place { name, parent, way: 0 };
@@ -43,6 +45,11 @@ pub fn load(file: &[u8]) -> Result<Cell, Refused> {
                 agent.stage = 0;
                 at += 5;
             }
+            Record::Touches { place, count } => {
+                cell.touches[place as usize] = count as u64;
+                touched |= 1 << place;
+                at += 6;
+            }
             Record::End if at + 1 < file.len() => return Err(Refused { number: 9, offset: at + 1 }),
             Record::End => return Ok(cell),
         }
@@ -50,14 +57,15 @@ pub fn load(file: &[u8]) -> Result<Cell, Refused> {
     Err(Refused { number: 1, offset: file.len() })
 }
 
-/// The record at the start of the bytes, or the number of its refusal.
-fn record(cell: &Cell, bytes: &[u8]) -> Result<Record, u8> {
+/// The record at the start of the bytes, or the number of its refusal; `touched` are the places that had a touch record.
+fn record(cell: &Cell, touched: u64, bytes: &[u8]) -> Result<Record, u8> {
     match *bytes {
         [1, number, parent, low, high, ..] => place(cell, number, parent, u16::from_le_bytes([low, high])),
         [2, number, home, ..] => agent(cell, number, home),
         [3, agent, kind, low, high, ..] => action(cell, agent, Action { kind, name: u16::from_le_bytes([low, high]) }),
         [4, ..] => Ok(Record::End),
-        [1..=3, ..] => Err(1),
+        [5, place, a, b, c, d, ..] => touches(cell, touched, place, u32::from_le_bytes([a, b, c, d])),
+        [1..=3 | 5, ..] => Err(1),
         _ => Err(2),
     }
 }
@@ -91,5 +99,14 @@ fn action(cell: &Cell, agent: u8, action: Action) -> Result<Record, u8> {
         _ if action.name == 0 => Err(6),
         _ if cell.agents[agent as usize].count >= 16 => Err(8),
         _ => Ok(Record::Action { agent, action }),
+    }
+}
+
+fn touches(cell: &Cell, touched: u64, place: u8, count: u32) -> Result<Record, u8> {
+    match () {
+        _ if place > 63 => Err(3),
+        _ if has(touched, place) => Err(4),
+        _ if !has(cell.used, place) => Err(5),
+        _ => Ok(Record::Touches { place, count }),
     }
 }

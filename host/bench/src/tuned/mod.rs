@@ -8,16 +8,22 @@ mod load;
 mod sound;
 mod step;
 
-use crate::cell::{has, members, Cell};
+use crate::cell::{has, members, Cell, MOST_TOUCHES};
 use crate::keeper::Keeper;
-use sound::sound;
+use sound::{sound, sound_touches};
 
+/// Refusal: a place above 63.
+pub const TOO_LARGE: u64 = 3;
+/// Refusal: a place that is not in use.
+pub const NOT_GIVEN: u64 = 5;
 /// Refusal: unsound table.
 pub const UNSOUND: u64 = 10;
 /// Refusal: no such agent.
 pub const NO_SUCH_AGENT: u64 = 11;
 /// Refusal: listing longer than the buffer.
 const TOO_LONG: u64 = 12;
+/// Refusal: too many touches.
+pub const TOO_MANY: u64 = 15;
 
 /// The tuned Rust keeper.
 pub struct Tuned;
@@ -79,5 +85,29 @@ impl Keeper for Tuned {
         }
         let at_rest = members(cell.given).all(|x| cell.agents[x as usize].stage >= 7);
         (at_rest as u64) << 8
+    }
+
+    #[inline(never)]
+    fn touch(cell: &mut Cell, place: u8, number: u32) -> u64 {
+        match sound_touches(cell) {
+            None => UNSOUND,
+            Some(_) if place > 63 => TOO_LARGE,
+            Some(_) if !has(cell.used, place) => NOT_GIVEN,
+            Some(sum) if number as u64 > MOST_TOUCHES - sum => TOO_MANY,
+            Some(_) => {
+                cell.touches[place as usize] += number as u64;
+                cell.touches[place as usize] << 8
+            }
+        }
+    }
+
+    #[inline(never)]
+    fn touches(cell: &Cell, place: u8) -> u64 {
+        match () {
+            _ if !sound(cell) => UNSOUND,
+            _ if place > 63 => TOO_LARGE,
+            _ if !has(cell.used, place) => NOT_GIVEN,
+            _ => cell.touches[place as usize] << 8,
+        }
     }
 }

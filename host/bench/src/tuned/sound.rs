@@ -1,20 +1,27 @@
 //! Whether a table is sound: one pass over the agents, one over the places, and the way to the floor.
 
-use crate::cell::{has, members, Agent, Cell, NONE};
+use crate::cell::{has, members, Agent, Cell, MOST_TOUCHES, NONE};
 
 /// Whether the table is sound.
 pub fn sound(cell: &Cell) -> bool {
-    let mut seen = Seen { held: 0, going: 0 };
-    has(cell.used, 0)
-        && members(cell.given).all(|x| seen.agent_fits(cell, x, &cell.agents[x as usize]))
-        && members(cell.used).all(|q| seen.place_fits(cell, q))
-        && all_lead_to_the_floor(cell)
+    sound_touches(cell).is_some()
 }
 
-/// What the agents say: the places whose locks they hold, and the places on their way.
+/// The touches of all places in use, if the table is sound.
+pub fn sound_touches(cell: &Cell) -> Option<u64> {
+    let mut seen = Seen { held: 0, going: 0, touches: 0 };
+    let sound = has(cell.used, 0)
+        && members(cell.given).all(|x| seen.agent_fits(cell, x, &cell.agents[x as usize]))
+        && members(cell.used).all(|q| seen.place_fits(cell, q))
+        && all_lead_to_the_floor(cell);
+    sound.then_some(seen.touches)
+}
+
+/// What the agents say: the places whose locks they hold, and the places on their way; and the touches of the places so far.
 struct Seen {
     held: u64,
     going: u64,
+    touches: u64,
 }
 
 impl Seen {
@@ -66,11 +73,16 @@ impl Seen {
         first
     }
 
-    /// Whether place q is as it should be: its lock is free or held by an agent whose stage says so, it stands in a place in use, and it
-    /// is on its way just if an agent moves it.
-    fn place_fits(&self, cell: &Cell, q: u8) -> bool {
+    /// Whether place q is as it should be: its lock is free or held by an agent whose stage says so, it stands in a place in use, it is on
+    /// its way just if an agent moves it, and its touches, which are noted, are not too many.
+    fn place_fits(&mut self, cell: &Cell, q: u8) -> bool {
         let place = &cell.places[q as usize];
         let going = has(self.going, q);
+        let touches = cell.touches[q as usize];
+        if touches > MOST_TOUCHES - self.touches {
+            return false;
+        }
+        self.touches += touches;
         (cell.locks[q as usize] == NONE || has(self.held, q))
             && if q == 0 {
                 place.name == 0 && place.parent == 0 && place.way != 0 && !going

@@ -192,7 +192,7 @@ fn leave(cell: &mut Cell, x: u8, p: u8, destination: u8) -> Answer {
     (Word::Left, woken)
 }
 
-/// Dissolves place t into p.
+/// Dissolves place t into p, which is the agent's own; its touches are pooled there.
 fn open(cell: &mut Cell, x: u8, p: u8, t: u8) -> Answer {
     for q in members(cell.used) {
         let lock = cell.locks[q as usize];
@@ -222,6 +222,7 @@ fn open(cell: &mut Cell, x: u8, p: u8, t: u8) -> Answer {
         }
     }
     cell.places[t as usize] = Place { name: 0, parent: 0, way: 0 };
+    cell.touches[p as usize] += std::mem::take(&mut cell.touches[t as usize]);
     cell.used &= !(1 << t);
     let agent = &mut cell.agents[x as usize];
     agent.next += 1;

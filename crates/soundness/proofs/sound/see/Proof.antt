@@ -1,21 +1,22 @@
 -- Each turn takes the lowest agent that is left; what holds before it is `Passed`. An agent that does not fit, or the second
--- that moves a place, makes the table unsound; once nobody is left, the places decide. The agent that is handed out was read
--- before the walk.
+-- that moves a place, makes the table unsound; once nobody is left, the places and then the touches decide. The agent that is
+-- handed out was read before the walk.
 use Prim.Native.Nat.{ℕ}
-use mathlib.Core.Path.{sym, ap, ap₂, _∙_, subst}
+use mathlib.Core.Path.{_≡_, sym, ap, ap₂, _∙_, subst}
 use mathlib.Core.Bool.{true}
 use native.Mathlib.Omega.{arith}
 use borrow.Author.Tests.{not-true}
 use Rattle.sets.specs.Set.{inserted}
 use Rattle.sets.specs.declared.Set.{Set}
-use Rattle.table.specs.BaseLaws.{same-test}
 use Rattle.table.specs.Cell.{cellOf}
-use Rattle.table.specs.SoundParts.{sound-core, core-sound}
-use Rattle.table.specs.Sound.{firstHeld, secondHeldIn, goingFrom, agentFits}
+use Rattle.table.specs.SoundParts.{core-fails, core-holds}
+use Rattle.table.specs.Sound.{firstHeld, secondHeldIn, goingFrom, agentFits, coreSound, touchSum}
 use Rattle.soundness.specs.Pass.{quiet}
 use Rattle.soundness.specs.AgentLaws.{home-out, row-out}
 use Rattle.soundness.specs.PassLaws.{Passed, passed-are, passed-start, passed-twice, passed-quiet, passed-busy}
 use Rattle.soundness.specs.SoundLaws.{lands-same}
+use Rattle.soundness.specs.Left.{leftOf}
+use Rattle.soundness.specs.declared.touches.Left.{Left}
 use Rattle.table.proofs.Facts.{sized}
 use Rattle.soundness.proofs.sound.see.Statement.{statement}
 use Rattle.soundness.proofs.sound.see.Tie as tie
@@ -77,15 +78,29 @@ loop-again-2 c =
     (passed-busy (table h) (sized (table h) (good h)) (l .claimed) (l .going) (l .rest) (l .inv) (some-left h)
     (moved-to h (agentFits (cellOf x)) true (fits-busy busy ∙ kept _ (c .before .before .before .if7 .left))) (moves move ∙ busy .before .if6 .left))
 
-returns-6 : tie.Need-returns-6 Inv-loop μ-loop
-returns-6 c =
+-- once nobody is left, the places decide
+placed : (c : tie.After-lands-fit Inv-loop μ-loop) → c .lands-fit .result ≡ coreSound (cellOf (c .before .before .before .before .before .before .before .before .before .before .args .t1))
+placed c =
     let l = c .before .before .before .before .before in
     let s = l .before .before .before .before in
     let x = s .before .args .t1 in
-    seen-as s _ (c .lands-fit .ensures
-    ∙ lands-same x (sized x (s .before .good .0)) (l .loop .claimed) (l .loop .going) (l .loop .rest) (l .loop .inv)
-    (c .before .before .before .if1 .left)
-    ∙ same-test _ _ (core-sound (cellOf x)) (sound-core (cellOf x)))
+    c .lands-fit .ensures
+    ∙ lands-same x (sized x (s .before .good .0)) (l .loop .claimed) (l .loop .going) (l .loop .rest) (l .loop .inv) (c .before .before .before .if1 .left)
+
+returns-6 : tie.Need-returns-6 Inv-loop μ-loop
+returns-6 c =
+    let s = c .before .before .before .before .before .before .before .before .before .before .before in
+    c .unsound6 .ensures
+    ∙ seen-as s _ (core-fails (cellOf (s .before .args .t1)) (sym (sym (placed (c .before .before)) ∙ not-true _ (c .before .if8 .taken))))
+
+-- and then the touches
+returns-7 : tie.Need-returns-7 Inv-loop μ-loop
+unfolding leftOf touchSum cellOf
+returns-7 c =
+    let p = c .before .before .before .before in
+    let s = p .before .before .before .before .before .before .before .before .before in
+    seen-as s _ (ap (λ (l : Left). l .fits) (c .touches-left .ensures)
+    ∙ core-holds (cellOf (s .before .args .t1)) (sym (placed p) ∙ kept _ (c .before .before .before .if8 .left)))
 
 pub see-spec : {M : Type 1} → statement M
 see-spec =
@@ -119,4 +134,4 @@ see-spec =
     let second = c .before .before .before .before .before .before .before .before .before .before .before .before in
     fewer (second .before .before .before .before .before .before .before .before .before .before .before .before .before)) loop-again-2
     -- nobody is left
-    (λ c κs. tt) returns-6)
+    (λ c κs. tt) (λ c κs. tt) returns-6 (λ c κs. tt) returns-7)
