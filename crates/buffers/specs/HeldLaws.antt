@@ -50,7 +50,7 @@ over-fits (x ∷ t) (y ∷ b) l = ap (λ (s : List ℕ). x ∷ s) (over-fits t b
 
 -- with room for 304,468 bytes the report of what was read is written whole
 pub read-whole : (cell order before after : List ℕ) (n m answer : ℕ) → Bytes order → 304468 ≤ length before
-    → Wrote (report (take n cell) (take m order)) before after answer → Whole (report (take n cell) (take m order)) before after answer
+    → Wrote (report (take n cell) (take m order)) 0 before after answer → Whole (report (take n cell) (take m order)) before after answer
 read-whole cell order before after n m answer bytes room w = record {
   count = count;
   bytes = w .text ∙ over-fits text before (omega (arith, short)) ∙ ap (λ (k : ℕ). text ++ drop k before) (sym count);

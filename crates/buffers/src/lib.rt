@@ -19,7 +19,7 @@ pub const TEXT_BYTES: usize = 524288;
 
 // The report of the first n bytes of a cell file's buffer and the first m of an order's, or of all where there are fewer.
 fn write_first(cell: &[u8], n: usize, order: &[u8], m: usize, text: &mut [u8]) -> usize
-    ensures { λ r. ⌜ Wrote (reportOf (take n (now (cell .entry))) (take m (now (order .entry)))) (now (text .entry)) (now (text .exit)) r ⌝ }
+    ensures { λ r. ⌜ Wrote (reportOf (take n (now (cell .entry))) (take m (now (order .entry)))) 0 (now (text .entry)) (now (text .exit)) r ⌝ }
     ensures { λ r. ⌜ Bytes (now (order .entry)) ⌝ }
 {
     let i = text::least(n, cell.len());

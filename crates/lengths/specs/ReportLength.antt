@@ -188,7 +188,7 @@ report-longest cell order bytes = go (load cell)
 
 -- what walk's buffer holds, up to the answered length, is the report: nothing is cut off
 pub report-whole : (cell order before after : List ℕ) (answer : ℕ) → ((j : ℕ) → getD order j 0 < 256) → 304468 ≤ length before
-    → Wrote (report cell order) before after answer → (answer ≡ length (report cell order)) × (take answer after ≡ report cell order)
+    → Wrote (report cell order) 0 before after answer → (answer ≡ length (report cell order)) × (take answer after ≡ report cell order)
 report-whole cell order before after answer bytes l w =
     (count, ap₂ take count (w .text) ∙ over-start (report cell order) before (omega (arith, short)))
   where
@@ -196,4 +196,4 @@ report-whole cell order before after answer bytes l w =
     short = report-longest cell order bytes
 
     count : answer ≡ length (report cell order)
-    count = w .count ∙ capped-low (length (report cell order)) (omega (arith, short))
+    count = w .count ∙ capped-low (0 + length (report cell order)) (omega (arith, short)) ∙ omega arith

@@ -13,11 +13,12 @@ use Rattle.sets.specs.WordLaws.{has-word}
 use Rattle.sets.specs.Set.{member}
 use Rattle.sets.specs.declared.Set.{Set}
 use Rattle.table.specs.BaseLaws.{clash, getD-tab}
-use Rattle.table.specs.Cell.{cellOf, noPlace, hasUnused}
+use Rattle.table.specs.Cell.{cellOf, noPlace, noAgent, hasUnused}
 use Rattle.table.specs.declared.Cell.{Cell}
 use Rattle.meaning.specs.Listing.{listsIn, standsUnder}
-use Rattle.lister.specs.Sheet.{namesOf, parentsOf, listedAt, groupedOf, Rows, sheetOf}
+use Rattle.lister.specs.Sheet.{namesOf, parentsOf, isListed, homesOf, groupedOf, Rows, sheetOf}
 use Rattle.lister.specs.SheetLaws.{Drawn}
+use Rattle.lister.specs.RowLaws.{rows-text}
 
 -- x is in the word of p
 in-word : (s : Set) (keys : List ℕ) (p x : ℕ) → p < 64 → x < 64 → has (getD (groupedOf s keys) p 0) x ≡ (member s x && eqb (getD keys x 0) p)
@@ -44,20 +45,34 @@ listed-so true true b e = refl
 listed-so true false b e = clash e refl
 listed-so false a b e = clash e refl
 
-module _ (t : Cell) {names parents places homes agents lengths texts : List ℕ} (n : names ≡ namesOf (t .places)) (u : parents ≡ parentsOf (t .places)) (s : places ≡ groupedOf (t .used) parents)
-    (r : Rows (cellOf t) homes lengths texts) (v : agents ≡ groupedOf (t .given) homes) where
-  pub drawn : Drawn (cellOf t) (sheetOf places agents names texts lengths)
+module _ (t : Cell) {names places agents firsts ends kinds numbers : List ℕ} (n : names ≡ namesOf (t .used) (t .places)) (s : places ≡ groupedOf (t .used) (parentsOf (t .places)))
+    (v : agents ≡ groupedOf (t .given) (homesOf (t .given) (t .agents))) (r : Rows (t .given) (t .agents) firsts ends kinds numbers 64) where
+  pub drawn : Drawn (cellOf t) (sheetOf places agents names kinds numbers firsts ends)
   drawn = record {
-    stands = λ p q l m. ap (λ (w : List ℕ). has (getD w p 0) q) s ∙ in-word (t .used) parents p q l m
+    stands = λ p q l m. ap (λ (w : List ℕ). has (getD w p 0) q) s ∙ in-word (t .used) (parentsOf (t .places)) p q l m
         ∙ ap (λ (k : ℕ). member (t .used) q && eqb k p) (parent q m) ∙ unfold cellOf standsUnder in stands-so (member (t .used) q) (eqb q 0) (getD (t .places) q noPlace .parent) p l;
-    lives = λ p x l m. ap (λ (w : List ℕ). has (getD w p 0) x) v ∙ in-word (t .given) homes p x l m
-        ∙ ap (λ (k : ℕ). member (t .given) x && eqb k p) (home x m) ∙ unfold cellOf listedAt listsIn in lives-so (member (t .given) x) (hasUnused (cellOf t .agent x)) (cellOf t .agent x .home) p l;
-    name = λ q m. ap (λ (w : List ℕ). getD w q 0) n ∙ unfold cellOf namesOf in getD-tab _ 64 q 0 m;
-    text = λ p x m e. r .row x m (unfold listsIn in listed-so (cellOf t .given x) (hasUnused (cellOf t .agent x)) (eqb (cellOf t .agent x .home) p) e);
+    lives = λ p x l m. ap (λ (w : List ℕ). has (getD w p 0) x) v ∙ in-word (t .given) (homesOf (t .given) (t .agents)) p x l m
+        ∙ ap (λ (k : ℕ). member (t .given) x && eqb k p) (home x m)
+        ∙ unfold cellOf listsIn in lives-so (member (t .given) x) (hasUnused (getD (t .agents) x noAgent)) (getD (t .agents) x noAgent .home) p l;
+    name = λ q m e. ap (λ (w : List ℕ). getD w q 0) n ∙ name q m ∙ unfold cellOf in named (member (t .used) q) (getD (t .places) q noPlace .name) (used q e);
+    text = λ p x m e. rows-text r x m (listed p x e) ∙ unfold cellOf in refl;
   }
     where
-      parent : (q : ℕ) → q < 64 → getD parents q 0 ≡ cond (eqb q 0) 64 (getD (t .places) q noPlace .parent)
-      parent q m = ap (λ (w : List ℕ). getD w q 0) u ∙ unfold parentsOf in getD-tab _ 64 q 0 m
+      parent : (q : ℕ) → q < 64 → getD (parentsOf (t .places)) q 0 ≡ cond (eqb q 0) 64 (getD (t .places) q noPlace .parent)
+      parent q m = unfold parentsOf in getD-tab _ 64 q 0 m
 
-      home : (x : ℕ) → x < 64 → getD homes x 0 ≡ listedAt (cellOf t) x
-      home x m = ap (λ (w : List ℕ). getD w x 0) (r .home) ∙ getD-tab _ 64 x 0 m
+      home : (x : ℕ) → x < 64 → getD (homesOf (t .given) (t .agents)) x 0 ≡ cond (isListed (t .given) (t .agents) x) (getD (t .agents) x noAgent .home) 64
+      home x m = unfold homesOf in getD-tab _ 64 x 0 m
+
+      name : (q : ℕ) → q < 64 → getD (namesOf (t .used) (t .places)) q 0 ≡ cond (member (t .used) q) (getD (t .places) q noPlace .name) 0
+      name q m = unfold namesOf in getD-tab _ 64 q 0 m
+
+      named : (b : Bool) (n : ℕ) → b ≡ true → cond b n 0 ≡ n
+      named true n e = refl
+      named false n e = clash e refl
+
+      used : (q : ℕ) → cellOf t .land .used q ≡ true → member (t .used) q ≡ true
+      used q e = unfold cellOf in e
+
+      listed : (p x : ℕ) → listsIn (cellOf t .given x) (cellOf t .agent x) p ≡ true → isListed (t .given) (t .agents) x ≡ true
+      listed p x e = unfold cellOf listsIn in listed-so (member (t .given) x) (hasUnused (getD (t .agents) x noAgent)) (eqb (getD (t .agents) x noAgent .home) p) e

@@ -2,7 +2,7 @@
 -- Idea: before turn i the word of p has the members below i whose key is p.
 use mathlib.Core.Path.{_≡_, refl, sym, ap, _∙_}
 use mathlib.Core.Logic.{_≢_, _⊎_, inl, inr}
-use mathlib.Core.Bool.{Bool, true, false, _&&_}
+use mathlib.Core.Bool.{Bool, true, false, _&&_, cond}
 use mathlib.Core.List.{List}
 use Prim.Native.Nat.{ℕ, _+_, _<_, _≤_}
 use native.Mathlib.Omega.{arith}
@@ -17,7 +17,11 @@ use Rattle.sets.specs.WalkLaws.{lowestIn, Rest, rest-member, rest-from, rest-sk
 use Rattle.sets.specs.declared.Set.{Set}
 use Rattle.table.specs.Base.{upd, tab}
 use Rattle.table.specs.BaseLaws.{Told, yea, nay, told, eq?, upd-at, upd-other, getD-tab, as-tab, tab-ext, set-tab}
-use Rattle.lister.specs.Sheet.{groupedOf}
+use Rattle.lister.specs.Sheet.{groupedOf, filed}
+
+-- a row of one value
+pub row-of : (v : ℕ) → replicate 64 v ≡ tab (λ _. v) 64 0
+row-of v = as-tab 0 (replicate 64 v) 64 (λ _. v) (length-replicate 64 v) (λ j m. getD-replicate 64 j v 0 m)
 
 -- the members of f below m are those below i, where there are none between
 word-skip : (f : ℕ → Bool) (i m : ℕ) → i ≤ m → ((j : ℕ) → i ≤ j → j < m → f j ≡ false) → wordOf 64 (upto i f) ≡ wordOf 64 (upto m f)
@@ -82,15 +86,28 @@ module _ (s : Set) (keys : List ℕ) where
     reach : (k : 0 < left .bits) (w : List ℕ) → w ≡ wordsTo i → w ≡ wordsTo (lowestIn left)
     reach k w q = q ∙ skip-to i (lowestIn left) (rest-from r k) (rest-skip r k)
 
-    pub words-more : 0 < left .bits → (x k : ℕ) (t : Set) (w : List ℕ) → x ≡ lowestIn left → k ≡ getD keys x 0 → k < 64 → t ≡ inserted (record { bits = getD w k 0 }) x → w ≡ wordsTo i
+    words-more : 0 < left .bits → (x k : ℕ) (t : Set) (w : List ℕ) → x ≡ lowestIn left → k ≡ getD keys x 0 → k < 64 → t ≡ inserted (record { bits = getD w k 0 }) x → w ≡ wordsTo i
         → set w k (t .bits) ≡ wordsTo (lowestIn left + 1)
     words-more h x k t w e f l u q =
         ap (λ (z : Set). set w k (z .bits)) u ∙ ap (λ (j : ℕ). set w k (inserted (record { bits = getD w k 0 }) j .bits)) e
         ∙ put-in (lowestIn left) k l (f ∙ ap (λ (j : ℕ). getD keys j 0) e) (rest-member r h) w (reach h w q)
 
-    pub words-same : 0 < left .bits → (x k : ℕ) (w : List ℕ) → x ≡ lowestIn left → k ≡ getD keys x 0 → 64 ≤ k → w ≡ wordsTo i → w ≡ wordsTo (lowestIn left + 1)
+    words-same : 0 < left .bits → (x k : ℕ) (w : List ℕ) → x ≡ lowestIn left → k ≡ getD keys x 0 → 64 ≤ k → w ≡ wordsTo i → w ≡ wordsTo (lowestIn left + 1)
     words-same h x k w e f l q = reach h w q ∙ left-out (lowestIn left) (let z = f ∙ ap (λ (j : ℕ). getD keys j 0) e in omega arith)
 
     pub words-all : left .bits ≡ 0 → (w : List ℕ) → w ≡ wordsTo i → w ≡ groupedOf s keys
     unfolding groupedOf
     words-all h w q = q ∙ skip-to i 64 (r .end) (rest-end r h) ∙ tab-ext 0 64 _ _ (λ p _. word-ext 64 _ _ (λ j l. ap (λ (z : Bool). z && keyed p j) (lt-ltb j 64 l)))
+
+    -- the member of a turn, put into the word of its key
+    pub words-filed : 0 < left .bits → (x k : ℕ) (w v : List ℕ) → x ≡ lowestIn left → k ≡ getD keys x 0 → v ≡ filed w k x → w ≡ wordsTo i → v ≡ wordsTo (x + 1)
+    unfolding filed
+    words-filed h x k w v e f u q = u ∙ go (told (ltb k 64)) ∙ ap (λ (j : ℕ). wordsTo (j + 1)) (sym e)
+      where
+        go : Told (ltb k 64) → cond (ltb k 64) (set w k (inserted (record { bits = getD w k 0 }) x .bits)) w ≡ wordsTo (lowestIn left + 1)
+        go (yea t) = rw t (words-more h x k (inserted (record { bits = getD w k 0 }) x) w e f (ltb-true k 64 t) refl q)
+        go (nay t) = rw t (words-same h x k w e f (ltb-false k 64 t) q)
+
+    -- a turn of a member that has no key below 64
+    pub words-left : 0 < left .bits → (x : ℕ) (w : List ℕ) → x ≡ lowestIn left → 64 ≤ getD keys x 0 → w ≡ wordsTo i → w ≡ wordsTo (x + 1)
+    words-left h x w e l q = words-same h x (getD keys x 0) w e refl l q ∙ ap (λ (j : ℕ). wordsTo (j + 1)) (sym e)

@@ -1,10 +1,9 @@
 pub mod Sheet
-pub mod PutLaws
 pub mod PartLaws
-pub mod AgentLaws
 pub mod SheetLaws
 pub mod GroupLaws
 pub mod RowLaws
+pub mod DigitLaws
 pub mod DrawnLaws
 pub mod WriteLaws
 pub mod DepthLaws

@@ -1,22 +1,22 @@
--- A walk over the members of a set that joins one part for each, and skipped turns. Assumes nothing.
--- Idea: a turn that is skipped joins nothing, so the fold may jump to the next member.
+-- A walk over the members of a set that joins one part for each, skipped turns, and the room that a turn has. Assumes nothing.
+-- Idea: a turn that is skipped joins nothing, so the fold may jump to the next member; no turn makes the text shorter.
 use mathlib.Core.Path.{_≡_, refl, sym, ap, _∙_, subst}
 use mathlib.Core.Logic.{_≢_, _⊎_, inl, inr}
-use mathlib.Core.Bool.{Bool, false, cond}
+use mathlib.Core.Bool.{Bool, true, false, cond}
 use mathlib.Core.List.{List, [], _++_}
-use Prim.Native.Nat.{ℕ, zero, suc, _+_, _*_, _-_, _<_, _≤_}
+use Prim.Native.Nat.{ℕ, zero, suc, _+_, _-_, _<_, _≤_}
 use native.Mathlib.Omega.{arith}
 use lib.Dec.{eqb}
-use lib.ListN.{length, getD, take, drop}
+use lib.ListN.{length, length-append}
 use Rattle.sets.specs.Set.{removed}
 use Rattle.sets.specs.WalkLaws.{lowestIn, Rest, rest-lt, rest-member, rest-from, rest-skip, rest-end, rest-more, removed-less}
 use Rattle.sets.specs.declared.Set.{Set}
 use Rattle.table.specs.Base.{foldUp}
-use Rattle.table.specs.BaseLaws.{eq?}
+use Rattle.table.specs.BaseLaws.{eq?, fold-more}
 use Rattle.meaning.specs.Text.{gap, joined}
-use Rattle.text.specs.Wrote.{capped, least, Wrote, Added}
-use Rattle.text.specs.TextLaws.{join, added, next, part, back, gap-at, wrote-as, joined-more}
-use Rattle.lister.specs.Sheet.{bar, rowAt}
+use Rattle.text.specs.Wrote.{Wrote, Fits}
+use Rattle.text.specs.TextLaws.{join, join-more, part, back, gap-at, wrote-as}
+use Rattle.text.specs.RoomLaws.{fits-less, fits-as, fits-first, fits-exactly, first-in, fits-next, then-next}
 
 -- turns that change nothing
 pub fold-skip : {S : Type 0} (f : ℕ → S → S) (s : S) (n m : ℕ) → n ≤ m → ((j : ℕ) → n ≤ j → j < m → (t : S) → f j t ≡ t) → foldUp f n s ≡ foldUp f m s
@@ -34,32 +34,47 @@ unfolding foldUp
 fold-ext f g zero s h = refl
 fold-ext f g (suc n) s h = h n (omega arith) (foldUp f n s) ∙ ap (g n) (fold-ext f g n s (λ j l t. h j (omega arith) t))
 
--- ---- one part more
+-- ---- one part more, where there is room for it
 
--- the bar, where there is text before it
-pub barred : {s b xs ys : List ℕ} {at mid : ℕ} → length b ≤ 18446744073709551615 → Wrote s b xs at → Added (cond (eqb at 0) [] bar) xs ys at mid → Wrote (s ++ gap bar s) b ys mid
-barred {s} {b} {xs} {ys} {at} room w v = wrote-as (ap (λ (g : List ℕ). s ++ g) (gap-at bar s at (w .count))) (added room w v)
+-- what stands between, and a part after it, each handed its position and lent the rest from there on
+module _ (by : List ℕ) {s b xs : List ℕ} {from at i : ℕ} (t : List ℕ) (w : Wrote s from b xs at) (f : Fits (joined by s t) from b) (e : i ≡ at - from) where
+  -- nothing, or what stands between
+  abbrev between : List ℕ
+  between = cond (eqb at from) [] by
 
--- the bar and a part after it, each at its position
-pub turned : {s t b xs ys zs : List ℕ} {at mid r : ℕ} → length b ≤ 18446744073709551615 → Wrote s b xs at → Added (cond (eqb at 0) [] bar) xs ys at mid → Added t ys zs mid r
-    → Wrote (joined bar s t) b zs r
-turned room w v u = added room (barred room w v) u
+  so : between ≡ gap by s
+  so = gap-at by (let n = length-append (s ++ gap by s) t in let m = length-append s (gap by s) in omega (arith, f .room, f .placed)) w
 
--- the bar, and a part after it that is lent the rest of the buffer
-pub placed : {s t b xs ys zs : List ℕ} {at mid from n r : ℕ} → length b ≤ 18446744073709551615 → Wrote s b xs at → Added (cond (eqb at 0) [] bar) xs ys at mid
-    → from ≡ least mid (length ys) → Wrote t (part from ys) zs n → r ≡ capped (mid + n) → Wrote (joined bar s t) b (back from ys zs) r
-placed {s} {t} {b} {xs} {ys} {zs} {at} {mid} {from} {n} {r} room w v f u e = next (s ++ gap bar s) t b ys zs mid from n r room (barred room w v) f u e
+  all : Fits ((s ++ between) ++ t) from b
+  all = fits-as (ap (λ (g : List ℕ). (s ++ g) ++ t) (sym so)) f
 
--- the part of the rows that is lent for agent x
-pub row-cut : (texts lengths : List ℕ) (x m n : ℕ) → n ≡ getD lengths x 0 → x ≡ m → take (256 * x + n - 256 * x) (drop (256 * x) texts) ≡ rowAt texts lengths m
-unfolding rowAt
-row-cut texts lengths x m n h e =
-    let z : 256 * x + n - 256 * x ≡ getD lengths x 0 = omega arith in
-    ap (λ (k : ℕ). take k (drop (256 * x) texts)) z ∙ ap (λ (k : ℕ). take (getD lengths k 0) (drop (256 * k) texts)) e
+  half : Fits (s ++ between) from b
+  half = fits-first (s ++ between) t all
 
--- the same text under another name
-pub added-as : {t u b e : List ℕ} {at r : ℕ} → t ≡ u → Added t b e at r → Added u b e at r
-added-as {t} {u} {b} {e} {at} {r} q v = subst (λ (l : List ℕ). Added l b e at r) q v
+  pub begun-before : from ≤ at
+  begun-before = omega (arith, fits-exactly (fits-first s between half) w)
+
+  pub between-in : i ≤ length xs
+  between-in = first-in between w half e
+
+  pub between-fits : Fits (cond (eqb at from) [] by) at (part i xs)
+  between-fits = fits-next between w half e
+
+  module _ {ys : List ℕ} {mid j : ℕ} (v : Wrote (cond (eqb at from) [] by) at (part i xs) ys mid) (g : j ≡ mid - from) where
+    parted : Wrote (s ++ between) from b (back i xs ys) mid
+    parted = then-next between w half e v
+
+    pub parted-after : from ≤ mid
+    parted-after = omega (arith, fits-exactly half parted)
+
+    pub part-in : j ≤ length (back i xs ys)
+    part-in = first-in t parted all g
+
+    pub part-fits : Fits t mid (part j (back i xs ys))
+    part-fits = fits-next t parted all g
+
+    pub turned : {zs : List ℕ} {r : ℕ} → Wrote t mid (part j (back i xs ys)) zs r → Wrote (joined by s t) from b (back j (back i xs ys) zs) r
+    turned u = wrote-as (ap (λ (z : List ℕ). (s ++ z) ++ t) so) (then-next t parted all g u)
 
 -- ---- the walk
 
@@ -80,12 +95,46 @@ module _ (by : List ℕ) (g : ℕ → Bool) (F : ℕ → List ℕ) (s₀ : List 
   pub skipped : (i m : ℕ) → i ≤ m → ((j : ℕ) → i ≤ j → j < m → g j ≡ false) → foldUp (join by g F s₀) i s₀ ≡ foldUp (join by g F s₀) m s₀
   skipped i m l h = fold-skip (join by g F s₀) s₀ i m l (λ j a b t. ap (λ (z : Bool). cond z (joined by t (F j)) t) (h j a b))
 
+  -- before the first turn
+  pub walk-start : {b e : List ℕ} {at n : ℕ} → Wrote s₀ at b e n → Wrote (foldUp (join by g F s₀) 0 s₀) at b e n
+  unfolding foldUp
+  walk-start w = w
+
+  -- no turn makes the text shorter
+  turn-grows : (b : Bool) (k : ℕ) (s : List ℕ) → length s ≤ length (cond b (joined by s (F k)) s)
+  turn-grows true k s = omega (arith, length-append (s ++ gap by s) (F k), length-append s (gap by s))
+  turn-grows false k s = omega arith
+
+  pub grows : (n m : ℕ) → n ≤ m → length (foldUp (join by g F s₀) n s₀) ≤ length (foldUp (join by g F s₀) m s₀)
+  unfolding foldUp
+  grows n zero l = let e : n ≡ 0 = omega arith in let h = ap (λ (k : ℕ). length (foldUp (join by g F s₀) k s₀)) e in omega arith
+  grows n (suc m) l = go (eq? n (suc m)) (grows n m)
+    where
+      go : (n ≡ suc m) ⊎ (n ≢ suc m) → (n ≤ m → length (foldUp (join by g F s₀) n s₀) ≤ length (foldUp (join by g F s₀) m s₀))
+          → length (foldUp (join by g F s₀) n s₀) ≤ length (join by g F s₀ m (foldUp (join by g F s₀) m s₀))
+      go (inl e) r = let h = ap (λ (k : ℕ). length (foldUp (join by g F s₀) k s₀)) e in omega arith
+      go (inr q) r = omega (arith, r (omega arith), turn-grows (g m) m (foldUp (join by g F s₀) m s₀))
+
+  -- a part that is joined has room where the whole text has
+  pub turn-fits : {b : List ℕ} {at : ℕ} (k n : ℕ) → g k ≡ true → k < n → Fits (foldUp (join by g F s₀) n s₀) at b → Fits (joined by (foldUp (join by g F s₀) k s₀) (F k)) at b
+  turn-fits k n p l f = fits-less (let e = ap length (join-more by g F s₀ k p) in omega (arith, grows (k + 1) n (omega arith))) f
+
   module _ {i : ℕ} {s : Set} (r : Rest g i s) where
-    -- one member more
-    pub walk-more : {b e : List ℕ} {n : ℕ} → 0 < s .bits → Wrote (joined by (foldUp (join by g F s₀) i s₀) (F (lowestIn s))) b e n → Wrote (foldUp (join by g F s₀) (lowestIn s + 1) s₀) b e n
-    walk-more k w = joined-more by g F s₀ (lowestIn s) (rest-member r k)
-        (wrote-as (ap (λ (t : List ℕ). joined by t (F (lowestIn s))) (skipped i (lowestIn s) (rest-from r k) (rest-skip r k))) w)
+    module _ (k : 0 < s .bits) {x : ℕ} (e : x ≡ lowestIn s) where
+      taken-is : foldUp (join by g F s₀) i s₀ ≡ foldUp (join by g F s₀) x s₀
+      taken-is = skipped i (lowestIn s) (rest-from r k) (rest-skip r k) ∙ ap (λ (z : ℕ). foldUp (join by g F s₀) z s₀) (sym e)
+
+      member-is : g x ≡ true
+      member-is = ap g e ∙ rest-member r k
+
+      -- one member more has room
+      pub walk-fits : {b : List ℕ} {at : ℕ} → Fits (foldUp (join by g F s₀) 64 s₀) at b → Fits (joined by (foldUp (join by g F s₀) i s₀) (F x)) at b
+      walk-fits f = fits-as (ap (λ (t : List ℕ). joined by t (F x)) (sym taken-is)) (turn-fits x 64 member-is (taken-lt r k e) f)
+
+      -- one member more
+      pub walk-more : {b xs : List ℕ} {at n : ℕ} → Wrote (joined by (foldUp (join by g F s₀) i s₀) (F x)) at b xs n → Wrote (foldUp (join by g F s₀) (x + 1) s₀) at b xs n
+      walk-more w = wrote-as (ap (λ (t : List ℕ). joined by t (F x)) taken-is ∙ join-more by g F s₀ x member-is) w
 
     -- none is left
-    pub walk-done : {b e : List ℕ} {n : ℕ} → s .bits ≡ 0 → Wrote (foldUp (join by g F s₀) i s₀) b e n → Wrote (foldUp (join by g F s₀) 64 s₀) b e n
+    pub walk-done : {b e : List ℕ} {at n : ℕ} → s .bits ≡ 0 → Wrote (foldUp (join by g F s₀) i s₀) at b e n → Wrote (foldUp (join by g F s₀) 64 s₀) at b e n
     walk-done k w = wrote-as (skipped i 64 (r .end) (rest-end r k)) w

@@ -1,171 +1,200 @@
--- Rows of 256 bytes: a text written into one leaves those before it as they were. Assumes nothing.
--- Idea: a row ends before the next one starts, so it lies in the part of the buffer that was not lent.
-use mathlib.Core.Path.{_≡_, refl, sym, ap, ap₂, _∙_}
+-- Rows of sixteen actions: what is copied into one leaves the others as they were, and a listed agent's row makes its text. Assumes nothing.
+-- Idea: an action before the first unused one, or past the last, joins nothing.
+use mathlib.Core.Path.{_≡_, refl, sym, ap, ap₂, _∙_, subst}
 use mathlib.Core.Logic.{_≢_, _⊎_, inl, inr}
-use mathlib.Core.Bool.{Bool, true, false, _&&_}
-use mathlib.Core.List.{List, _++_}
-use Prim.Native.Nat.{ℕ, _+_, _*_, _<_, _≤_}
+use mathlib.Core.Bool.{Bool, true, false, _&&_, cond}
+use mathlib.Core.List.{List, [], _++_}
+use Prim.Native.Nat.{ℕ, _+_, _*_, _<_, _≤_, zero-le}
 use native.Mathlib.Omega.{arith}
-use lib.ListN.{length, getD, set, replicate, take, drop, length-set, length-drop, length-replicate, getD-replicate, take-append-drop}
-use lib.Seq.{getD-set-same, getD-set-other, take-append-le, drop-append-le, length-take-le, drop-at}
-use lib.Dec.{ltb}
-use borrow.Author.Tests.{ltb-true, ltb-false}
-use Rattle.sets.specs.WalkLaws.{lowestIn, Rest, rest-lt, rest-member, rest-from, rest-skip, rest-end}
+use lib.Dec.{ltb, leb}
+use lib.ListN.{length, getD, set, length-set}
+use lib.Seq.{getD-set-same, getD-set-other}
+use borrow.Author.Tests.{le-leb, lt-leb, lt-ltb, le-ltb, leb-true, leb-false, ltb-true, ltb-false}
 use Rattle.sets.specs.declared.Set.{Set}
-use Rattle.table.specs.Base.{tab}
-use Rattle.table.specs.SweepLaws.{below, sweep-start, sweep-skip, sweep-hit, sweep-end}
-use Rattle.table.specs.BaseLaws.{as-tab, Told, yea, nay, told, eq?, clash}
-use Rattle.table.specs.Cell.{State, hasUnused}
-use Rattle.meaning.specs.Text.{overlay}
-use Rattle.meaning.specs.Listing.{agentText}
-use Rattle.text.specs.Wrote.{Wrote}
-use Rattle.text.specs.TextLaws.{over-start, part, back, part-is, back-is}
-use Rattle.lister.specs.Sheet.{rowAt, isListed, listedAt, Rows}
-use Rattle.lister.specs.PutLaws.{exactly, back-long}
+use Rattle.table.specs.Base.{foldUp, tab}
+use Rattle.table.specs.BaseLaws.{Told, yea, nay, told, eq?, clash, cond-cong, and-left, and-right}
+use Rattle.table.specs.Cell.{noAgent}
+use Rattle.table.specs.declared.Agent.{Agent}
+use Rattle.meaning.specs.Text.{decimal, joined}
+use Rattle.meaning.specs.Listing.{kindText, actionText, agentText}
+use Rattle.text.specs.Wrote.{least}
+use Rattle.text.specs.TextLaws.{join, least-le}
+use Rattle.lister.specs.Sheet.{dot, isListed, kindOf, numberOf, Copied, Rows, actionOn, rowFrom, rowText}
+use Rattle.lister.specs.PartLaws.{fold-ext, skipped}
 
--- ---- lists
+-- ---- copies
 
--- what lies before k is not changed past k
-cut-same : (xs ys : List ℕ) (d n k : ℕ) → d + n ≤ k → k ≤ length xs → take n (drop d (take k xs ++ ys)) ≡ take n (drop d xs)
-cut-same xs ys d n k l m = only ys ∙ sym (ap (λ (z : List ℕ). take n (drop d z)) (sym (take-append-drop k xs)) ∙ only (drop k xs))
-  where
-    long : length (take k xs) ≡ k
-    long = length-take-le k xs m
+pub copied-none : (f : ℕ → ℕ) (row first : ℕ) (l : List ℕ) → Copied f row first first l l
+copied-none f row first l = record { inside = λ j a b. absurd (omega arith); outside = λ i h. refl; long = refl }
 
-    only : (zs : List ℕ) → take n (drop d (take k xs ++ zs)) ≡ take n (drop d (take k xs))
-    only zs = ap (take n) (drop-append-le d (take k xs) zs (omega (arith, long))) ∙ take-append-le n (drop d (take k xs)) zs (omega (arith, long, length-drop d (take k xs)))
-
--- ---- rows
-
-module _ (texts lengths ys t : List ℕ) (m n : ℕ) (fits : 256 * m + 192 ≤ length texts) (w : Wrote t (part (256 * m) texts) ys n) (small : n ≤ 192) where
-  is-after : back (256 * m) texts ys ≡ take (256 * m) texts ++ overlay t (drop (256 * m) texts)
-  is-after = back-is (256 * m) texts ys ∙ ap (λ (l : List ℕ). take (256 * m) texts ++ l) (w .text ∙ ap (overlay t) (part-is (256 * m) texts))
-
-  exact : n ≡ length t
-  exact = exactly n (length t) (w .count) (omega arith)
-
-  pub row-new : m < length lengths → rowAt (back (256 * m) texts ys) (set lengths m n) m ≡ t
-  unfolding rowAt
-  row-new l =
-      ap₂ (λ (k : ℕ) (z : List ℕ). take k (drop (256 * m) z)) (getD-set-same lengths m n 0 l ∙ exact) is-after
-      ∙ ap (take (length t)) (drop-at (take (256 * m) texts) (overlay t (drop (256 * m) texts)) (256 * m) (length-take-le (256 * m) texts (omega arith)))
-      ∙ over-start t (drop (256 * m) texts) (omega (arith, length-drop (256 * m) texts, exact))
-
-  pub row-old : (x : ℕ) → x < m → getD lengths x 0 ≤ 192 → rowAt (back (256 * m) texts ys) (set lengths m n) x ≡ rowAt texts lengths x
-  unfolding rowAt
-  row-old x l h =
-      ap₂ (λ (k : ℕ) (z : List ℕ). take k (drop (256 * x) z)) (getD-set-other lengths m x n 0 (λ e. omega arith)) is-after
-      ∙ cut-same texts (overlay t (drop (256 * m) texts)) (256 * x) (getD lengths x 0) (256 * m) (omega arith) (omega arith)
-
--- ---- the rows of a cell
-
--- the rows of the agents below i are filled
-pub record Filled (c : State) (lengths texts : List ℕ) (i : ℕ) : Type 0 where
-  pub small : (x : ℕ) → x < i → isListed c x ≡ true → getD lengths x 0 ≤ 192
-  pub row : (x : ℕ) → x < i → isListed c x ≡ true → rowAt texts lengths x ≡ agentText (c .agent x)
-
-pub filled-none : (c : State) (lengths texts : List ℕ) → Filled c lengths texts 0
-filled-none c lengths texts = record { small = λ x l _. absurd (omega arith); row = λ x l _. absurd (omega arith) }
-
--- turns that have no row
-pub filled-skip : {c : State} {lengths texts : List ℕ} {i : ℕ} (m : ℕ) → ((j : ℕ) → i ≤ j → j < m → isListed c j ≡ false) → Filled c lengths texts i → Filled c lengths texts m
-filled-skip {c} {lengths} {texts} {i} m h f = record {
-  small = λ x l e. f .small x (below x l e) e;
-  row = λ x l e. f .row x (below x l e) e;
+pub copied-more : {f : ℕ → ℕ} {row first j v : ℕ} {b l : List ℕ} → Copied f row first j b l → first ≤ j → row + j < length l → v ≡ f j → Copied f row first (j + 1) b (set l (row + j) v)
+copied-more {f} {row} {first} {j} {v} {b} {l} c h k e = record {
+  inside = λ i a m. go i (eq? i j) a m;
+  outside = λ i o. getD-set-other l (row + j) i v 0 (away i o) ∙ c .outside i (wider i o);
+  long = length-set l (row + j) v ∙ c .long;
 }
   where
-    below : (x : ℕ) → x < m → isListed c x ≡ true → x < i
-    below x l e = go (told (ltb x i))
+    go : (i : ℕ) → (i ≡ j) ⊎ (i ≢ j) → first ≤ i → i < j + 1 → getD (set l (row + j) v) (row + i) 0 ≡ f i
+    go i (inl z) a m = ap (λ (n : ℕ). getD (set l (row + j) v) (row + n) 0) z ∙ getD-set-same l (row + j) v 0 k ∙ e ∙ ap f (sym z)
+    go i (inr z) a m = getD-set-other l (row + j) (row + i) v 0 (λ q. z (omega arith)) ∙ c .inside i a (omega arith)
+
+    away : (i : ℕ) → (i < row + first) ⊎ (row + (j + 1) ≤ i) → i ≢ row + j
+    away i (inl o) q = omega arith
+    away i (inr o) q = omega arith
+
+    wider : (i : ℕ) → (i < row + first) ⊎ (row + (j + 1) ≤ i) → (i < row + first) ⊎ (row + j ≤ i)
+    wider i (inl o) = inl o
+    wider i (inr o) = inr (omega arith)
+
+-- the loop ends where it should, or it made no turn
+pub copied-all : {f : ℕ → ℕ} {row first j end last : ℕ} {b l : List ℕ} → Copied f row first j b l → end ≤ j → (j ≤ end) ⊎ (j ≡ first) → end ≡ last → Copied f row first last b l
+copied-all {f} {row} {first} {j} {end} {last} {b} {l} c h o e = subst (λ (z : ℕ). Copied f row first z b l) e (record { inside = λ i a m. c .inside i a (omega arith); outside = λ i q. go i q o; long = c .long })
+  where
+    go : (i : ℕ) → (i < row + first) ⊎ (row + end ≤ i) → (j ≤ end) ⊎ (j ≡ first) → getD l i 0 ≡ getD b i 0
+    go i (inl q) _ = c .outside i (inl q)
+    go i (inr q) (inl z) = c .outside i (inr (omega arith))
+    go i (inr q) (inr z) = side (told (ltb i (row + first)))
       where
-        go : Told (ltb x i) → x < i
-        go (yea t) = ltb-true x i t
-        go (nay t) = clash e (h x (ltb-false x i t) l)
+        side : Told (ltb i (row + first)) → getD l i 0 ≡ getD b i 0
+        side (yea t) = c .outside i (inl (ltb-true i (row + first) t))
+        side (nay t) = c .outside i (inr (let k = ltb-false i (row + first) t in omega arith))
 
--- one row more
-pub filled-more : {c : State} {lengths texts ys : List ℕ} {m n : ℕ} → Filled c lengths texts m → length texts ≡ 16384 → length lengths ≡ 64 → m < 64
-    → Wrote (agentText (c .agent m)) (part (256 * m) texts) ys n → n ≤ 192 → Filled c (set lengths m n) (back (256 * m) texts ys) (m + 1)
-filled-more {c} {lengths} {texts} {ys} {m} {n} f e g l w s = record {
-  small = λ x b q. go x (eq? x m) b q;
-  row = λ x b q. rows x (eq? x m) b q;
-}
-  where
-    fits : 256 * m + 192 ≤ length texts
-    fits = omega arith
+-- ---- the rows of agents, one after another
 
-    go : (x : ℕ) → (x ≡ m) ⊎ (x ≢ m) → x < m + 1 → isListed c x ≡ true → getD (set lengths m n) x 0 ≤ 192
-    go x (inl z) b q = let v = ap (λ (k : ℕ). getD (set lengths m n) k 0) z ∙ getD-set-same lengths m n 0 (omega arith) in omega arith
-    go x (inr z) b q = let v = getD-set-other lengths m x n 0 z in omega (arith, f .small x (omega arith) q)
+module _ {given : Set} {crew : List Agent} where
+  pub rows-none : (firsts ends kinds numbers : List ℕ) → Rows given crew firsts ends kinds numbers 0
+  rows-none firsts ends kinds numbers = record {
+    first = λ x l e. absurd (omega arith);
+    end = λ x l e. absurd (omega arith);
+    kind = λ x j l e a b. absurd (omega arith);
+    number = λ x j l e a b. absurd (omega arith);
+  }
 
-    rows : (x : ℕ) → (x ≡ m) ⊎ (x ≢ m) → x < m + 1 → isListed c x ≡ true → rowAt (back (256 * m) texts ys) (set lengths m n) x ≡ agentText (c .agent x)
-    rows x (inl z) b q = ap (rowAt (back (256 * m) texts ys) (set lengths m n)) z ∙ row-new texts lengths ys (agentText (c .agent m)) m n fits w s (omega arith) ∙ ap (λ (k : ℕ). agentText (c .agent k)) (sym z)
-    rows x (inr z) b q = row-old texts lengths ys (agentText (c .agent m)) m n fits w s x (omega arith) (f .small x (omega arith) q) ∙ f .row x (omega arith) q
+  -- numbers of no listed agent
+  pub rows-skip : {firsts ends kinds numbers : List ℕ} {i : ℕ} (m : ℕ) → ((j : ℕ) → i ≤ j → j < m → isListed given crew j ≡ false)
+      → Rows given crew firsts ends kinds numbers i → Rows given crew firsts ends kinds numbers m
+  rows-skip {firsts} {ends} {kinds} {numbers} {i} m h r = record {
+    first = λ x l e. r .first x (below x l e) e;
+    end = λ x l e. r .end x (below x l e) e;
+    kind = λ x j l e. r .kind x j (below x l e) e;
+    number = λ x j l e. r .number x j (below x l e) e;
+  }
+    where
+      below : (x : ℕ) → x < m → isListed given crew x ≡ true → x < i
+      below x l e = go (told (ltb x i))
+        where
+          go : Told (ltb x i) → x < i
+          go (yea t) = ltb-true x i t
+          go (nay t) = clash e (h x (ltb-false x i t) l)
 
--- ---- homes and rows together
-
--- before turn i: homes and rows of the agents below i
-pub record Held (c : State) (homes lengths texts : List ℕ) (i : ℕ) : Type 0 where
-  pub home : homes ≡ tab (below 0 (λ _. 64) (listedAt c) i) 64 0
-  pub long : length texts ≡ 16384
-  pub count : length lengths ≡ 64
-  pub filled : Filled c lengths texts i
-
-unlisted : (c : State) (j : ℕ) → isListed c j ≡ false → listedAt c j ≡ 64
-unfolding listedAt
-unlisted c j e = rw e
-
-not-given : (c : State) (j : ℕ) → c .given j ≡ false → isListed c j ≡ false
-not-given c j e = ap (λ (b : Bool). b && hasUnused (c .agent j)) e
-
--- a row of one value
-pub row-of : (v : ℕ) → replicate 64 v ≡ tab (λ _. v) 64 0
-row-of v = as-tab 0 (replicate 64 v) 64 (λ _. v) (length-replicate 64 v) (λ j m. getD-replicate 64 j v 0 m)
-
-pub held-none : (c : State) (texts : List ℕ) → length texts ≡ 16384 → Held c (replicate 64 64) (replicate 64 0) texts 0
-held-none c texts l = record {
-  home = sweep-start 0 (λ _. 64) (listedAt c) (replicate 64 64) (row-of 64);
-  long = l;
-  count = length-replicate {A = ℕ} 64 0;
-  filled = filled-none c (replicate 64 0) texts;
-}
-
--- turns that have no agent
-held-skip : {c : State} {homes lengths texts : List ℕ} {i : ℕ} (m : ℕ) → i ≤ m → ((j : ℕ) → i ≤ j → j < m → isListed c j ≡ false) → Held c homes lengths texts i → Held c homes lengths texts m
-held-skip {c} {homes} {lengths} {texts} {i} m l h k = record {
-  home = sweep-skip 0 (λ _. 64) (listedAt c) homes i m l (λ j a b. unlisted c j (h j a b)) (k .home);
-  long = k .long;
-  count = k .count;
-  filled = filled-skip m h (k .filled);
-}
-
-module _ {c : State} {homes lengths texts : List ℕ} {i : ℕ} {s : Set} (k : Held c homes lengths texts i) (r : Rest (c .given) i s) where
-  pub held-all : s .bits ≡ 0 → Rows c homes lengths texts
-  held-all e =
-      let z = held-skip 64 (r .end) (λ j a b. not-given c j (rest-end r e j a b)) k in
-      record { home = sweep-end 0 (λ _. 64) (listedAt c) homes 64 refl (z .home); row = λ x l q. z .filled .row x l q }
-
-  module _ (some : 0 < s .bits) {x : ℕ} (e : x ≡ lowestIn s) where
-    in-reach : x < 64
-    in-reach = omega (arith, rest-lt r some)
-
-    given-x : c .given x ≡ true
-    given-x = ap (c .given) e ∙ rest-member r some
-
-    reached : Held c homes lengths texts x
-    reached = held-skip x (omega (arith, rest-from r some)) (λ j a b. not-given c j (rest-skip r some j a (omega arith))) k
-
-    -- an agent without unused actions
-    pub held-same : hasUnused (c .agent x) ≡ false → Held c homes lengths texts (x + 1)
-    held-same h = held-skip (x + 1) (omega arith) (λ j a b. here j a b) reached
+  -- the row of one agent more
+  module _ {firsts ends kinds numbers ks ns : List ℕ} {m : ℕ} (r : Rows given crew firsts ends kinds numbers m) (lf : m < length firsts) (le : m < length ends)
+      (ck : Copied (kindOf (getD crew m noAgent)) (16 * m) (getD crew m noAgent .next) (least (getD crew m noAgent .count) 16) kinds ks)
+      (cn : Copied (numberOf (getD crew m noAgent)) (16 * m) (getD crew m noAgent .next) (least (getD crew m noAgent .count) 16) numbers ns) where
+    -- a value that one turn sets
+    set-to : (l : List ℕ) (f : Agent → ℕ) → m < length l → ((x : ℕ) → x < m → isListed given crew x ≡ true → getD l x 0 ≡ f (getD crew x noAgent))
+        → (x : ℕ) → x < m + 1 → isListed given crew x ≡ true → getD (set l m (f (getD crew m noAgent))) x 0 ≡ f (getD crew x noAgent)
+    set-to l f h o x k e = go (eq? x m)
       where
-        here : (j : ℕ) → x ≤ j → j < x + 1 → isListed c j ≡ false
-        here j a b = let q : j ≡ x = omega arith in ap (isListed c) q ∙ rw (given-x, h)
+        go : (x ≡ m) ⊎ (x ≢ m) → getD (set l m (f (getD crew m noAgent))) x 0 ≡ f (getD crew x noAgent)
+        go (inl z) = ap (λ (i : ℕ). getD (set l m (f (getD crew m noAgent))) i 0) z ∙ getD-set-same l m (f (getD crew m noAgent)) 0 h ∙ ap (λ (i : ℕ). f (getD crew i noAgent)) (sym z)
+        go (inr z) = getD-set-other l m x (f (getD crew m noAgent)) 0 z ∙ o x (omega arith) e
 
-    -- an agent with its row
-    pub held-more : {ys : List ℕ} {n : ℕ} → hasUnused (c .agent x) ≡ true → Wrote (agentText (c .agent x)) (part (256 * x) texts) ys n → n ≤ 192
-        → Held c (set homes x (c .agent x .home)) (set lengths x n) (back (256 * x) texts ys) (x + 1)
-    held-more {ys} {n} h w l = record {
-      home = sweep-hit 0 (λ _. 64) (listedAt c) homes x (c .agent x .home) in-reach (unfold listedAt in rw (given-x, h)) (reached .home);
-      long = back-long texts (256 * x) (omega (arith, in-reach, k .long)) w ∙ k .long;
-      count = length-set lengths x n ∙ k .count;
-      filled = filled-more (reached .filled) (k .long) (k .count) in-reach w l;
+    -- the values that one turn copies
+    copied-to : (old new : List ℕ) (f : Agent → ℕ → ℕ) → Copied (f (getD crew m noAgent)) (16 * m) (getD crew m noAgent .next) (least (getD crew m noAgent .count) 16) old new
+        → ((x j : ℕ) → x < m → isListed given crew x ≡ true → getD crew x noAgent .next ≤ j → j < least (getD crew x noAgent .count) 16 → getD old (16 * x + j) 0 ≡ f (getD crew x noAgent) j)
+        → (x j : ℕ) → x < m + 1 → isListed given crew x ≡ true → getD crew x noAgent .next ≤ j → j < least (getD crew x noAgent .count) 16 → getD new (16 * x + j) 0 ≡ f (getD crew x noAgent) j
+    copied-to old new f c o x j k e a b = go (eq? x m)
+      where
+        go : (x ≡ m) ⊎ (x ≢ m) → getD new (16 * x + j) 0 ≡ f (getD crew x noAgent) j
+        go (inl z) =
+            let p = ap (λ (i : ℕ). getD crew i noAgent .next) z in
+            let q = ap (λ (i : ℕ). least (getD crew i noAgent .count) 16) z in
+            ap (λ (i : ℕ). getD new (16 * i + j) 0) z ∙ c .inside j (omega arith) (omega arith) ∙ ap (λ (i : ℕ). f (getD crew i noAgent) j) (sym z)
+        go (inr z) = c .outside (16 * x + j) (inl (omega (arith, least-le _ (getD crew x noAgent .count) 16 refl .1))) ∙ o x j (omega arith) e a b
+
+    pub rows-more : Rows given crew (set firsts m (getD crew m noAgent .next)) (set ends m (getD crew m noAgent .count)) ks ns (m + 1)
+    rows-more = record {
+      first = set-to firsts (λ a. a .next) lf (r .first);
+      end = set-to ends (λ a. a .count) le (r .end);
+      kind = copied-to kinds ks kindOf ck (r .kind);
+      number = copied-to numbers ns numberOf cn (r .number);
     }
+
+-- ---- the text of a row
+
+module _ (kinds numbers : List ℕ) (row first end : ℕ) where
+  -- the action at j is one of the row's
+  abbrev pub inRow : ℕ → Bool
+  inRow j = leb first j && ltb j end
+
+  before-first : (j : ℕ) → j < first → inRow j ≡ false
+  before-first j l = ap (λ (b : Bool). b && ltb j end) (lt-leb first j l)
+
+  past-last : (j : ℕ) → end ≤ j → inRow j ≡ false
+  past-last j l = ap (λ (b : Bool). leb first j && b) (le-ltb j end l) ∙ none (leb first j)
+    where
+      none : (b : Bool) → (b && false) ≡ false
+      none true = refl
+      none false = refl
+
+  pub one-unused : (j : ℕ) → first ≤ j → j < end → inRow j ≡ true
+  one-unused j l m = rw (le-leb first j l, lt-ltb j end m)
+
+  -- the text before action j
+  abbrev pub textTo : ℕ → List ℕ
+  textTo j = foldUp (join dot inRow (actionOn kinds numbers row) []) j []
+
+  -- nothing is joined before the first action
+  pub text-start : [] ≡ textTo first
+  text-start = unfold foldUp in skipped dot inRow (actionOn kinds numbers row) [] 0 first zero-le (λ k _ l. before-first k l)
+
+  -- nothing is joined past the last
+  pub text-end : (j : ℕ) → end ≤ j → end ≤ 16 → (j ≤ end) ⊎ (j ≡ first) → textTo j ≡ textTo 16
+  text-end j l m h = go (told (leb j 16))
+    where
+      go : Told (leb j 16) → textTo j ≡ textTo 16
+      go (yea p) = skipped dot inRow (actionOn kinds numbers row) [] j 16 (leb-true j 16 p) (λ k a _. past-last k (omega arith))
+      go (nay p) = sym (skipped dot inRow (actionOn kinds numbers row) [] 16 j (omega (arith, leb-false j 16 p)) (λ k _ a. before-first k (far h k a)))
+        where
+          far : (j ≤ end) ⊎ (j ≡ first) → (k : ℕ) → k < j → k < first
+          far (inl b) k a = absurd (omega (arith, leb-false j 16 p))
+          far (inr b) k a = omega arith
+
+-- no row goes beyond its sixteenth action
+row-cut : (kinds numbers : List ℕ) (row first end e : ℕ) → e ≡ least end 16 → rowFrom kinds numbers row first e ≡ rowFrom kinds numbers row first end
+unfolding rowFrom least
+row-cut kinds numbers row first end e q = fold-ext _ _ 16 [] (λ j l s. ap (λ (b : Bool). cond (leb first j && b) (joined dot s (actionOn kinds numbers row j)) s) (go j l (told (ltb end 16))))
+  where
+    go : (j : ℕ) → j < 16 → Told (ltb end 16) → ltb j e ≡ ltb j end
+    go j l (yea t) = let z : e ≡ end = q ∙ rw t in ap (ltb j) z
+    go j l (nay t) = let z : e ≡ 16 = q ∙ rw t in ap (ltb j) z ∙ lt-ltb j 16 l ∙ sym (lt-ltb j end (omega (arith, ltb-false end 16 t)))
+
+-- so a row is laid out by the bytes of where it starts and ends
+pub row-laid : (kinds numbers : List ℕ) (row first end : ℕ) {f w e : ℕ} → f ≡ first → w ≡ end → e ≡ least w 16 → rowFrom kinds numbers row f e ≡ rowFrom kinds numbers row first end
+row-laid kinds numbers row first end {f} {w} {e} p q r = ap (λ (z : ℕ). rowFrom kinds numbers row z e) p ∙ row-cut kinds numbers row first end e (r ∙ ap (λ (z : ℕ). least z 16) q)
+
+-- the row of a listed agent makes its text
+pub rows-text : {given : Set} {crew : List Agent} {firsts ends kinds numbers : List ℕ} → Rows given crew firsts ends kinds numbers 64
+    → (x : ℕ) → x < 64 → isListed given crew x ≡ true → rowText kinds numbers firsts ends x ≡ agentText (getD crew x noAgent)
+unfolding rowFrom agentText actionText
+rows-text {given} {crew} {firsts} {ends} {kinds} {numbers} r x l e =
+    ap₂ (λ (f t : ℕ). rowFrom kinds numbers (16 * x) f t) (r .first x l e) (r .end x l e)
+    ∙ fold-ext _ _ 16 [] (λ j m s. cond-cong (leb (a .next) j && ltb j (a .count)) _ _ s (λ q. ap (joined dot s)
+    (ap₂ (λ (k n : ℕ). kindText k ++ decimal n) (r .kind x j l e (from j q) (to j m q)) (r .number x j l e (from j q) (to j m q)))))
+  where
+    a : Agent
+    a = getD crew x noAgent
+
+    from : (j : ℕ) → (leb (getD crew x noAgent .next) j && ltb j (getD crew x noAgent .count)) ≡ true → getD crew x noAgent .next ≤ j
+    from j q = leb-true _ _ (and-left (leb (getD crew x noAgent .next) j) (ltb j (getD crew x noAgent .count)) q)
+
+    to : (j : ℕ) → j < 16 → (leb (getD crew x noAgent .next) j && ltb j (getD crew x noAgent .count)) ≡ true → j < least (getD crew x noAgent .count) 16
+    to j m q = both (told (ltb (getD crew x noAgent .count) 16))
+      where
+        low : j < getD crew x noAgent .count
+        low = ltb-true _ _ (and-right (leb (getD crew x noAgent .next) j) (ltb j (getD crew x noAgent .count)) q)
+
+        both : Told (ltb (getD crew x noAgent .count) 16) → j < least (getD crew x noAgent .count) 16
+        both (yea t) = unfold least in rw t low
+        both (nay t) = unfold least in rw t m

@@ -1,56 +1,71 @@
 -- What the writers are lent, read as functions of numbers, and the text that they make of it.
 use mathlib.Core.Path.{_≡_}
+use mathlib.Core.Logic.{_⊎_}
 use mathlib.Core.Bool.{Bool, true, _&&_, cond}
-use mathlib.Core.List.{List, [], _∷_, _++_}
-use Prim.Native.Nat.{ℕ, zero, suc, _+_, _*_, _/_, _%_, _<_}
-use lib.Dec.{eqb, ltb}
-use lib.ListN.{length, getD, take, drop}
+use mathlib.Core.List.{List, [], _++_}
+use Prim.Native.Nat.{ℕ, zero, suc, _+_, _*_, _<_, _≤_}
+use lib.Dec.{eqb, ltb, leb}
+use lib.ListN.{length, getD, set}
 use Rattle.sets.specs.Word.{has, wordOf}
-use Rattle.sets.specs.Set.{member}
+use Rattle.sets.specs.Set.{member, inserted}
 use Rattle.sets.specs.declared.Set.{Set}
 use Rattle.table.specs.Base.{tab, foldUp}
-use Rattle.table.specs.Cell.{State, noPlace, hasUnused}
+use Rattle.table.specs.Cell.{noPlace, noAgent, noAction, hasUnused}
+use Rattle.table.specs.declared.Agent.{Agent}
 use Rattle.table.specs.declared.Place.{Place}
 use Rattle.meaning.specs.Text.{ascii, decimal, gap, joined, overlay}
-use Rattle.meaning.specs.Listing.{agentText, bracketed}
-use Rattle.text.specs.Wrote.{capped}
+use Rattle.meaning.specs.Listing.{kindText, bracketed}
+use Rattle.text.specs.Wrote.{capped, least}
 
 -- ---- the arrays that are lent
 
--- the names of all places
-unfoldable pub namesOf : List Place → List ℕ
-namesOf ps = tab (λ q. getD ps q noPlace .name) 64 0
+-- the names of the places in use
+unfoldable pub namesOf : Set → List Place → List ℕ
+namesOf used ps = tab (λ q. cond (member used q) (getD ps q noPlace .name) 0) 64 0
 
 -- where each place stands; 64 for the floor, which stands in none
 unfoldable pub parentsOf : List Place → List ℕ
 parentsOf ps = tab (λ q. cond (eqb q 0) 64 (getD ps q noPlace .parent)) 64 0
 
 -- x is an agent with unused actions
-abbrev pub isListed : State → ℕ → Bool
-isListed c x = c .given x && hasUnused (c .agent x)
+abbrev pub isListed : Set → List Agent → ℕ → Bool
+isListed given crew x = member given x && hasUnused (getD crew x noAgent)
 
 -- where each agent is listed: its home, or 64 where it has no unused action
-unfoldable pub listedAt : State → ℕ → ℕ
-listedAt c x = cond (isListed c x) (c .agent x .home) 64
+unfoldable pub homesOf : Set → List Agent → List ℕ
+homesOf given crew = tab (λ x. cond (isListed given crew x) (getD crew x noAgent .home) 64) 64 0
 
 -- for each number below 64, the word of the members whose key it is
 unfoldable pub groupedOf : Set → List ℕ → List ℕ
 groupedOf s keys = tab (λ p. wordOf 64 (λ x. member s x && eqb (getD keys x 0) p)) 64 0
 
--- the text in the row of agent x
-unfoldable pub rowAt : List ℕ → List ℕ → ℕ → List ℕ
-rowAt texts lengths x = take (getD lengths x 0) (drop (256 * x) texts)
+-- words with x put into that of p; a p that is not below 64 has none
+unfoldable pub filed : List ℕ → ℕ → ℕ → List ℕ
+filed words p x = cond (ltb p 64) (set words p (inserted (record { bits = getD words p 0 }) x .bits)) words
 
--- every agent with unused actions has its place and its row
-pub record Rows (c : State) (homes lengths texts : List ℕ) : Type 0 where
-  pub home : homes ≡ tab (listedAt c) 64 0
-  pub row : (x : ℕ) → x < 64 → isListed c x ≡ true → rowAt texts lengths x ≡ agentText (c .agent x)
+-- the kind and the number of an agent's action j
+abbrev pub kindOf : Agent → ℕ → ℕ
+kindOf a j = getD (a .actions) j noAction .kind
+
+abbrev pub numberOf : Agent → ℕ → ℕ
+numberOf a j = getD (a .actions) j noAction .name
+
+-- the values of f from `first` to before `end` were copied into a row, each to its place there, and nothing else is changed
+pub record Copied (f : ℕ → ℕ) (row first end : ℕ) (before after : List ℕ) : Type 0 where
+  pub inside : (j : ℕ) → first ≤ j → j < end → getD after (row + j) 0 ≡ f j
+  pub outside : (i : ℕ) → (i < row + first) ⊎ (row + end ≤ i) → getD after i 0 ≡ getD before i 0
+  pub long : length after ≡ length before
+
+-- the rows of the agents below i that are listed: where their unused actions start and end, and the kind and number of each
+pub record Rows (given : Set) (crew : List Agent) (firsts ends kinds numbers : List ℕ) (i : ℕ) : Type 0 where
+  pub first : (x : ℕ) → x < i → isListed given crew x ≡ true → getD firsts x 0 ≡ getD crew x noAgent .next
+  pub end : (x : ℕ) → x < i → isListed given crew x ≡ true → getD ends x 0 ≡ getD crew x noAgent .count
+  pub kind : (x j : ℕ) → x < i → isListed given crew x ≡ true → getD crew x noAgent .next ≤ j → j < least (getD crew x noAgent .count) 16
+      → getD kinds (16 * x + j) 0 ≡ kindOf (getD crew x noAgent) j
+  pub number : (x j : ℕ) → x < i → isListed given crew x ≡ true → getD crew x noAgent .next ≤ j → j < least (getD crew x noAgent .count) 16
+      → getD numbers (16 * x + j) 0 ≡ numberOf (getD crew x noAgent) j
 
 -- ---- the text
-
--- the digit of n at a unit, where n reaches up to it
-unfoldable pub digitAt : ℕ → ℕ → List ℕ
-digitAt n unit = cond (ltb n unit) [] ((48 + n / unit % 10) ∷ [])
 
 -- ` | `
 abbrev pub bar : List ℕ
@@ -59,6 +74,19 @@ bar = ascii " | "
 -- `.`
 abbrev pub dot : List ℕ
 dot = ascii "."
+
+-- the action at j of a row of kinds and numbers
+abbrev pub actionOn : List ℕ → List ℕ → ℕ → ℕ → List ℕ
+actionOn kinds numbers row j = kindText (getD kinds (row + j) 0) ++ decimal (getD numbers (row + j) 0)
+
+-- the actions of a row of sixteen from `first` to before `end`, joined by full stops
+unfoldable pub rowFrom : List ℕ → List ℕ → ℕ → ℕ → ℕ → List ℕ
+unfolding gap tab
+rowFrom kinds numbers row first end = foldUp (λ j s. cond (leb first j && ltb j end) (joined dot s (actionOn kinds numbers row j)) s) 16 []
+
+-- the text of agent x, by the rows
+abbrev pub rowText : List ℕ → List ℕ → List ℕ → List ℕ → ℕ → List ℕ
+rowText kinds numbers firsts ends x = rowFrom kinds numbers (16 * x) (getD firsts x 0) (getD ends x 0)
 
 -- the parts of which P holds, by number, joined by bars after a text s
 unfoldable pub parts : (ℕ → Bool) → (ℕ → List ℕ) → List ℕ → List ℕ
@@ -72,13 +100,13 @@ pub record Sheet : Type 0 where
   pub name : ℕ → ℕ
   pub text : ℕ → List ℕ
 
--- the sheet of five arrays: words of places, words of agents, names, rows and their lengths
-abbrev pub sheetOf : List ℕ → List ℕ → List ℕ → List ℕ → List ℕ → Sheet
-sheetOf places agents names texts lengths = record {
+-- the sheet of the arrays: words of places, words of agents, names, and the rows of agents
+abbrev pub sheetOf : List ℕ → List ℕ → List ℕ → List ℕ → List ℕ → List ℕ → List ℕ → Sheet
+sheetOf places agents names kinds numbers firsts ends = record {
   stands = λ p. has (getD places p 0);
   lives = λ p. has (getD agents p 0);
   name = λ q. getD names q 0;
-  text = rowAt texts lengths;
+  text = rowText kinds numbers firsts ends;
 }
 
 -- a name and the bracket that opens the contents
@@ -105,6 +133,6 @@ floorOn h = cond (eqb (length (contentsOn 65 h 0)) 0) (ascii "0") (contentsOn 65
 -- ---- the whole or nothing
 
 -- the text was written as far as there was room, or, where it had to be whole and there was none for all of it, not at all
-pub record WroteIf (whole : Bool) (written before after : List ℕ) (answer : ℕ) : Type 0 where
-  pub count : answer ≡ capped (length written)
+pub record WroteIf (whole : Bool) (written : List ℕ) (at : ℕ) (before after : List ℕ) (answer : ℕ) : Type 0 where
+  pub count : answer ≡ capped (at + length written)
   pub text : after ≡ cond (whole && ltb (length before) (length written)) before (overlay written before)

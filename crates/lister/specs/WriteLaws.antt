@@ -1,38 +1,19 @@
--- The floor's text, written whole or not at all: measured first, then written. Assumes nothing.
--- Idea: a writer that is lent nothing changes nothing, and answers the length that decides.
+-- The floor's text, written over a part that has room for it, or first to a page that has. Assumes nothing.
+-- Idea: no text that fits the page is cut there, so what was written to it is the text.
 use mathlib.Core.Path.{_≡_, refl, sym, ap, _∙_, subst}
-use mathlib.Core.Bool.{Bool, true, false, cond}
-use mathlib.Core.List.{List, [], _∷_, _++_}
-use Prim.Native.Nat.{ℕ, _<_, _≤_}
+use mathlib.Core.Bool.{Bool, true, false, _&&_, cond}
+use mathlib.Core.List.{List, [], _∷_}
+use Prim.Native.Nat.{ℕ, _+_, _<_, _≤_}
 use native.Mathlib.Omega.{arith}
-use lib.Dec.{leb}
-use lib.ListN.{length}
-use borrow.Author.Tests.{eq-eqb, ne-eqb, lt-ltb, le-ltb, leb-true, leb-false}
+use lib.Dec.{ltb}
+use lib.ListN.{length, set, take, replicate, length-replicate}
+use borrow.Author.Tests.{eq-eqb, ne-eqb, lt-ltb, le-ltb}
 use Rattle.table.specs.Base.{tab}
-use Rattle.table.specs.BaseLaws.{Told, yea, nay, told}
 use Rattle.meaning.specs.Text.{overlay}
-use Rattle.text.specs.Wrote.{capped, Wrote}
-use Rattle.text.specs.TextLaws.{capped-low, capped-high, over-nil, wrote-as}
+use Rattle.text.specs.Wrote.{capped, Wrote, Fits}
+use Rattle.text.specs.TextLaws.{over-start, over-length, wrote-as}
+use Rattle.text.specs.RoomLaws.{fits-less, fits-as, fits-exactly, stores}
 use Rattle.lister.specs.Sheet.{Sheet, contentsOn, floorOn, WroteIf}
-use Rattle.lister.specs.PutLaws.{exactly}
-
--- ---- lengths
-
--- a number below the largest that is below a length's answer is below the length
-pub below-length : (m n : ℕ) → m < 18446744073709551615 → m < capped n → m < n
-below-length m n l h = go (told (leb n 18446744073709551615))
-  where
-    go : Told (leb n 18446744073709551615) → m < n
-    go (yea t) = omega (arith, capped-low n (leb-true n 18446744073709551615 t))
-    go (nay t) = omega (arith, leb-false n 18446744073709551615 t)
-
--- a number below the largest that a length's answer does not pass, the length does not pass
-pub within-length : (m n : ℕ) → m < 18446744073709551615 → capped n ≤ m → n ≤ m
-within-length m n l h = go (told (leb n 18446744073709551615))
-  where
-    go : Told (leb n 18446744073709551615) → n ≤ m
-    go (yea t) = omega (arith, capped-low n (leb-true n 18446744073709551615 t))
-    go (nay t) = absurd (omega (arith, capped-high n (leb-false n 18446744073709551615 t)))
 
 no-length : (t : List ℕ) → length t ≡ 0 → t ≡ []
 no-length [] e = refl
@@ -40,33 +21,84 @@ no-length (x ∷ t) e = absurd (omega arith)
 
 -- ---- the floor
 
-module _ (h : Sheet) {b xs : List ℕ} {n : ℕ} (w : Wrote (contentsOn 65 h 0) b xs n) where
-  pub floor-none : {ys : List ℕ} {r : ℕ} → n ≡ 0 → Wrote (48 ∷ []) xs ys r → Wrote (floorOn h) b ys r
-  unfolding floorOn overlay tab
-  floor-none {ys} {r} e v = wrote-as (sym (ap (λ (z : Bool). cond z (48 ∷ []) (contentsOn 65 h 0)) (eq-eqb (length (contentsOn 65 h 0)) 0 none)))
-      (subst (λ (z : List ℕ). Wrote (48 ∷ []) z ys r) (w .text ∙ ap (λ (t : List ℕ). overlay t b) (no-length (contentsOn 65 h 0) none)) v)
-    where
-      none : length (contentsOn 65 h 0) ≡ 0
-      none = sym (exactly n (length (contentsOn 65 h 0)) (w .count) (omega arith)) ∙ e
-
-  pub floor-some : (n ≡ 0 → ⊥) → Wrote (floorOn h) b xs n
+module _ (h : Sheet) {b : List ℕ} (f : Fits (floorOn h) 0 b) where
+  -- where there are no contents, the floor's text is `0`
+  floor-nothing : length (contentsOn 65 h 0) ≡ 0 → floorOn h ≡ 48 ∷ []
   unfolding floorOn tab
-  floor-some f = wrote-as (sym (ap (λ (z : Bool). cond z (48 ∷ []) (contentsOn 65 h 0)) (ne-eqb (length (contentsOn 65 h 0)) 0 (λ e. f (w .count ∙ ap capped e ∙ capped-low 0 (omega arith)))))) w
+  floor-nothing e = ap (λ (z : Bool). cond z (48 ∷ []) (contentsOn 65 h 0)) (eq-eqb (length (contentsOn 65 h 0)) 0 e)
+
+  -- and else the contents
+  floor-contents : (length (contentsOn 65 h 0) ≡ 0 → ⊥) → floorOn h ≡ contentsOn 65 h 0
+  unfolding floorOn tab
+  floor-contents n = ap (λ (z : Bool). cond z (48 ∷ []) (contentsOn 65 h 0)) (ne-eqb (length (contentsOn 65 h 0)) 0 n)
+
+  pub contents-fit : Fits (contentsOn 65 h 0) 0 b
+  contents-fit = go (contentsOn 65 h 0) refl
+    where
+      go : (t : List ℕ) → contentsOn 65 h 0 ≡ t → Fits (contentsOn 65 h 0) 0 b
+      go [] e = record { room = (let n = ap length e in omega (arith, f .room)); placed = f .placed }
+      go (x ∷ t) e = fits-as (floor-contents (λ z. let n = ap length e in omega arith)) f
+
+  module _ {xs : List ℕ} {n : ℕ} (w : Wrote (contentsOn 65 h 0) 0 b xs n) where
+    long : n ≡ length (contentsOn 65 h 0)
+    long = fits-exactly contents-fit w ∙ omega arith
+
+    untouched : n ≡ 0 → xs ≡ b
+    unfolding overlay
+    untouched e = w .text ∙ ap (λ (t : List ℕ). overlay t b) (no-length (contentsOn 65 h 0) (sym long ∙ e))
+
+    pub zero-in : n ≡ 0 → 0 < length xs
+    zero-in e = let k = ap length (untouched e) in let m = ap length (floor-nothing (sym long ∙ e)) in omega (arith, f .room)
+
+    pub floor-none : n ≡ 0 → Wrote (floorOn h) 0 b (set xs 0 48) 1
+    floor-none e = wrote-as (sym (floor-nothing (sym long ∙ e))) (subst (λ (z : List ℕ). Wrote (48 ∷ []) 0 b (set z 0 48) 1) (sym (untouched e)) (stores (48 ∷ []) (fits-as (floor-nothing (sym long ∙ e)) f)))
+
+    pub floor-some : (n ≡ 0 → ⊥) → Wrote (floorOn h) 0 b xs n
+    floor-some q = wrote-as (sym (floor-contents (λ z. q (long ∙ z)))) w
 
 -- ---- whole or not at all
 
-pub partly : {t b e : List ℕ} {r : ℕ} → Wrote t b e r → WroteIf false t b e r
+-- a text that has room is written whole, and the position handed over is added
+pub wholly : {t b e : List ℕ} {at r : ℕ} (whole : Bool) → length t ≤ length b → Wrote t at b e r → WroteIf whole t at b e r
+wholly {t} {b} {e} {at} {r} whole l w = record { count = w .count; text = w .text ∙ go whole }
+  where
+    go : (z : Bool) → overlay t b ≡ cond (z && ltb (length b) (length t)) b (overlay t b)
+    go true = sym (rw (le-ltb (length b) (length t) l))
+    go false = refl
+
+-- as far as there is room
+pub partly : {t b e : List ℕ} {at r : ℕ} → Wrote t at b e r → WroteIf false t at b e r
 partly w = record { count = w .count; text = w .text }
 
-module _ {t ys : List ℕ} {n : ℕ} (b : List ℕ) (room : length b < 18446744073709551615) (w : Wrote t [] ys n) where
-  untouched : ys ++ b ≡ b
-  untouched = ap (λ (l : List ℕ). l ++ b) (w .text ∙ over-nil t)
+-- not at all
+pub not-at-all : {t b : List ℕ} {at r : ℕ} → length b < length t → r ≡ capped (at + length t) → WroteIf true t at b b r
+not-at-all {t} {b} l e = record { count = e; text = sym (rw (lt-ltb (length b) (length t) l)) }
 
-  same : length (ys ++ b) ≡ length b
-  same = ap length untouched
+-- ---- the page
 
-  pub not-at-all : length (ys ++ b) < n → WroteIf true t b (ys ++ b) n
-  not-at-all l = record { count = w .count; text = untouched ∙ sym (rw (lt-ltb (length b) (length t) (below-length (length b) (length t) room (omega (arith, same, w .count))))) }
+module _ {t page xs : List ℕ} {n : ℕ} (f : Fits t 0 page) (w : Wrote t 0 page xs n) where
+  pub page-long : n ≡ length t
+  page-long = fits-exactly f w ∙ omega arith
 
-  pub wholly : {zs : List ℕ} {m : ℕ} → n ≤ length (ys ++ b) → Wrote t (ys ++ b) zs m → WroteIf true t b zs m
-  wholly {zs} {m} l v = record { count = v .count; text = v .text ∙ ap (overlay t) untouched ∙ sym (rw (le-ltb (length b) (length t) (within-length (length b) (length t) room (omega (arith, same, w .count))))) }
+  pub page-holds : take n xs ≡ t
+  page-holds = ap (λ (k : ℕ). take k xs) page-long ∙ ap (take (length t)) (w .text) ∙ over-start t page (f .room)
+
+pub page-fits : (t : List ℕ) → length t ≤ 13043 → Fits t 0 (replicate 13043 0)
+page-fits t l = let n = length-replicate {A = ℕ} 13043 0 in record { room = omega arith; placed = omega arith }
+
+-- ---- the listing
+
+-- where there are 13,043 bytes
+pub long-fits : {s t b : List ℕ} → s ≡ t → length t ≤ 13043 → 13043 ≤ length b → length b ≤ 18446744073709551615 → Fits s 0 b
+long-fits {s} {t} e l m n = let k : length s ≡ length t = ap length e in record { room = omega arith; placed = omega arith }
+
+-- the same text under another name
+pub wrote-if-as : {s t b e : List ℕ} {whole : Bool} {at r : ℕ} → s ≡ t → WroteIf whole s at b e r → WroteIf whole t at b e r
+wrote-if-as {s} {t} {b} {e} {whole} {at} {r} q w = subst (λ (l : List ℕ). WroteIf whole l at b e r) q w
+
+pub wrote-if-length : {t b e : List ℕ} {whole : Bool} {at r : ℕ} → WroteIf whole t at b e r → length e ≡ length b
+wrote-if-length {t} {b} {e} {whole} w = ap length (w .text) ∙ go (whole && ltb (length b) (length t))
+  where
+    go : (z : Bool) → length (cond z b (overlay t b)) ≡ length b
+    go true = refl
+    go false = over-length t b

@@ -7,11 +7,11 @@ ghost use Rattle.meaning.specs.Listing.{listing, listAnswer, listBuffer};
 ghost use Rattle.text.specs.Wrote.{Wrote};
 ghost use Rattle.listing.specs.Known.{knownAnswer, knownBuffer};
 
-// The listing of any cell, sound or not, as far as there is room; answers its whole length.
-pub fn write_listing(c: Cell, buf: &mut [u8]) -> usize
-    ensures { λ r. ⌜ Wrote (listing (cellOf c)) (now (buf .entry)) (now (buf .exit)) r ⌝ }
+// The listing of any cell, sound or not, at a position, as far as there is room; answers the position after it.
+pub fn write_listing(c: Cell, at: usize, buf: &mut [u8]) -> usize
+    ensures { λ r. ⌜ Wrote (listing (cellOf c)) at (now (buf .entry)) (now (buf .exit)) r ⌝ }
 {
-    lister::write_if(c, false, buf)
+    lister::write_if(c, false, at, buf)
 }
 
 // The listing call, told whether the table is sound: refused where it is not, then where the listing is longer than the
@@ -20,7 +20,7 @@ pub fn list_known(known: bool, c: Cell, buf: &mut [u8]) -> Listed
     ensures { λ r. ⌜ (r ≡ knownAnswer known (cellOf c) (now (buf .entry))) × (now (buf .exit) ≡ knownBuffer known (cellOf c) (now (buf .entry))) ⌝ }
 {
     if known {
-        let n = lister::write_if(c, true, buf);
+        let n = lister::write_if(c, true, 0, buf);
         if buf.len() < n {
             return Listed::Unlisted(12);
         }

@@ -74,13 +74,13 @@ pairs-none n len i e l = go (told (ltb (len / 2) 16384))
 -- what is written so far, and what is left of the whole text, with the table d and from pair i on
 pub record Left (whole order before after : List ℕ) (d : Cell) (i at : ℕ) : Type 0 where
   pub text : List ℕ
-  pub wrote : Wrote text before after at
+  pub wrote : Wrote text 0 before after at
   pub rest : text ++ reportRun d (callsFrom order i) ≡ whole
 
 -- one call more: z is what the step answered
 pub left-more : {whole order before after : List ℕ} {d : Cell} {i at : ℕ} → (l : Left whole order before after d i at) → i < 16384 → 2 * i + 1 < length order
     → (z : Stepped) → z ≡ stepOf d (getD order (2 * i) 0) (getD order (2 * i + 1) 0)
-    → {last : List ℕ} {to : ℕ} → Wrote (l .text ++ stepLine (getD order (2 * i) 0) (z .answer)) before last to → Left whole order before last (z .cell) (i + 1) to
+    → {last : List ℕ} {to : ℕ} → Wrote (l .text ++ stepLine (getD order (2 * i) 0) (z .answer)) 0 before last to → Left whole order before last (z .cell) (i + 1) to
 unfolding reportRun
 left-more {whole} {order} {before} {after} {d} {i} {at} l low room z e {last} {to} w = record {
   text = l .text ++ stepLine (getD order (2 * i) 0) (z .answer);
@@ -92,7 +92,7 @@ left-more {whole} {order} {before} {after} {d} {i} {at} l low room z e {last} {t
 
 -- no call more: the last line is what is left
 pub left-none : {whole order before after : List ℕ} {d : Cell} {i at : ℕ} → (l : Left whole order before after d i at) → (16384 ≤ i) ⊎ (length order ≤ 2 * i + 1)
-    → {last : List ℕ} {to : ℕ} → Wrote (l .text ++ listingLine (ascii "end") (cellOf d)) before last to → Wrote whole before last to
+    → {last : List ℕ} {to : ℕ} → Wrote (l .text ++ listingLine (ascii "end") (cellOf d)) 0 before last to → Wrote whole 0 before last to
 unfolding reportRun tab
 left-none {whole} {order} {before} {after} {d} {i} {at} l done w =
     wrote-as (sym (ap (λ (calls : List Pair). l .text ++ reportRun d calls) (calls-none order i done)) ∙ l .rest) w

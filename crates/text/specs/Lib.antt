@@ -1,2 +1,3 @@
 pub mod Wrote
 pub mod TextLaws
+pub mod RoomLaws

@@ -1,4 +1,4 @@
--- Laws of texts written over a buffer, one after another. Assumes nothing.
+-- Laws of texts written over a part of a buffer, one after another. Assumes nothing.
 use mathlib.Core.Path.{_≡_, refl, sym, ap, ap₂, _∙_}
 use mathlib.Core.Bool.{Bool, true, false, cond}
 use mathlib.Core.List.{List, [], _∷_, _++_, append-nil}
@@ -10,11 +10,11 @@ use native.Mathlib.Numerals.{add-one, sub-one}
 use lib.ListN.{length, take, drop, set, getD, length-append, length-drop, drop-of-length-le, take-append-drop}
 use lib.Seq.{take-all, take-suc}
 use lib.Dec.{leb, ltb, eqb}
-use borrow.Author.Tests.{le-leb, lt-leb, leb-true, leb-false, ltb-true, ltb-false, eqb-true, eqb-false, ne-eqb, lt-ltb, le-ltb}
+use borrow.Author.Tests.{le-leb, lt-leb, leb-true, leb-false, ltb-true, ltb-false, eqb-true, eqb-false, eq-eqb, ne-eqb, lt-ltb, le-ltb}
 use Rattle.table.specs.Base.{foldUp}
 use Rattle.table.specs.BaseLaws.{Told, yea, nay, told, fold-more}
 use Rattle.meaning.specs.Text.{overlay, digits, gap, joined}
-use Rattle.text.specs.Wrote.{capped, least, Wrote, writtenAt, Added}
+use Rattle.text.specs.Wrote.{capped, least, Wrote, Placed, Fits}
 
 pub over-length : (t b : List ℕ) → length (overlay t b) ≡ length b
 unfolding overlay
@@ -63,7 +63,7 @@ part-is n xs = take-all (length xs - n) (drop n xs) (omega (arith, length-drop n
 pub back-is : (n : ℕ) (xs ys : List ℕ) → back n xs ys ≡ take n xs ++ ys
 back-is n xs ys = ap (λ (l : List ℕ). take n xs ++ (ys ++ l)) (drop-of-length-le (drop n xs) {i = length xs - n} (omega (arith, length-drop n xs))) ∙ ap (λ (l : List ℕ). take n xs ++ l) (append-nil ys)
 
--- ---- lengths
+-- ---- positions
 pub capped-low : (n : ℕ) → n ≤ 18446744073709551615 → capped n ≡ n
 unfolding capped
 capped-low n l = rw (le-leb n 18446744073709551615 l)
@@ -79,101 +79,129 @@ capped-full n l = go (told (leb n 18446744073709551615))
     go (yea e) = capped-low n (leb-true _ _ e) ∙ omega (arith, leb-true n 18446744073709551615 e)
     go (nay e) = capped-high n (leb-false _ _ e)
 
-pub capped-add : (a b : ℕ) → capped (capped a + capped b) ≡ capped (a + b)
-capped-add a b = go (told (leb a 18446744073709551615)) (told (leb b 18446744073709551615))
+capped-top : (n : ℕ) → capped n ≤ 18446744073709551615
+capped-top n = go (told (leb n 18446744073709551615))
   where
-    go : Told (leb a 18446744073709551615) → Told (leb b 18446744073709551615) → capped (capped a + capped b) ≡ capped (a + b)
-    go (yea p) (yea q) = rw (capped-low a (leb-true _ _ p), capped-low b (leb-true _ _ q))
-    go (yea p) (nay q) = rw (capped-high b (leb-false _ _ q)) (capped-full _ (omega arith) ∙ sym (capped-full (a + b) (omega (arith, leb-false b 18446744073709551615 q))))
-    go (nay p) q = rw (capped-high a (leb-false _ _ p)) (capped-full _ (omega arith) ∙ sym (capped-full (a + b) (omega (arith, leb-false a 18446744073709551615 p))))
+    go : Told (leb n 18446744073709551615) → capped n ≤ 18446744073709551615
+    go (yea e) = omega (arith, capped-low n (leb-true _ _ e), leb-true n 18446744073709551615 e)
+    go (nay e) = omega (arith, capped-high n (leb-false _ _ e))
 
--- where the next part starts: past the text, or at the end of the buffer
-from-is : (n m : ℕ) → m ≤ 18446744073709551615 → ((n < m) × (least (capped n) m ≡ n)) ⊎ ((m ≤ n) × (least (capped n) m ≡ m))
+-- a position that was capped stays so
+capped-more : (a b : ℕ) → capped (capped a + b) ≡ capped (a + b)
+capped-more a b = go (told (leb a 18446744073709551615))
+  where
+    go : Told (leb a 18446744073709551615) → capped (capped a + b) ≡ capped (a + b)
+    go (yea p) = rw (capped-low a (leb-true _ _ p))
+    go (nay p) = rw (capped-high a (leb-false _ _ p)) (capped-full _ (omega arith) ∙ sym (capped-full (a + b) (omega (arith, leb-false a 18446744073709551615 p))))
+
+pub least-le : (n a b : ℕ) → n ≡ least a b → (n ≤ a) × (n ≤ b)
 unfolding least
-from-is n m l = go (told (ltb n m))
+least-le n a b e = go (told (ltb a b))
   where
-    go : Told (ltb n m) → ((n < m) × (least (capped n) m ≡ n)) ⊎ ((m ≤ n) × (least (capped n) m ≡ m))
-    go (yea e) = inl (ltb-true n m e, rw (capped-low n (omega (arith, ltb-true n m e)), e))
-    go (nay e) = inr (ltb-false n m e, high (told (leb n 18446744073709551615)))
-      where
-        high : Told (leb n 18446744073709551615) → least (capped n) m ≡ m
-        high (yea f) = rw (capped-low n (leb-true _ _ f), e)
-        high (nay f) = rw (capped-high n (leb-false _ _ f), le-ltb 18446744073709551615 m l)
+    go : Told (ltb a b) → (n ≤ a) × (n ≤ b)
+    go (yea h) = let q : n ≡ a = e ∙ rw h in (omega arith, omega (arith, ltb-true a b h))
+    go (nay h) = let q : n ≡ b = e ∙ rw h in (omega (arith, ltb-false a b h), omega arith)
 
--- ---- one text after another
-pub begun : (b : List ℕ) → Wrote [] b b 0
-unfolding overlay capped
-begun b = record { count = refl; text = refl }
+pub least-low : (a b : ℕ) → a ≤ b → a ≡ least a b
+unfolding least
+least-low a b l = go (told (ltb a b))
+  where
+    go : Told (ltb a b) → a ≡ cond (ltb a b) a b
+    go (yea t) = rw t
+    go (nay t) = rw t (omega (arith, ltb-false a b t))
 
-module _ (s t b xs ys : List ℕ) (at from n m : ℕ) (room : length b ≤ 18446744073709551615) (w : Wrote s b xs at) (f : from ≡ least at (length xs)) where
-  long : length xs ≡ length b
-  long = ap length (w .text) ∙ over-length s b
+-- how far into a part of m bytes the position after n bytes lies: past them, or at the part's end
+abbrev Start : ℕ → ℕ → ℕ → Type 0
+Start i n m = ((n < m) × (i ≡ n)) ⊎ ((m ≤ n) × (i ≡ m))
 
-  start : from ≡ least (capped (length s)) (length b)
-  start = f ∙ ap₂ least (w .count) long
+start-is : (at n m : ℕ) → at + m ≤ 18446744073709551615 → Start (least (capped (at + n) - at) m) n m
+start-is at n m l = go (told (ltb n m)) (told (leb (at + n) 18446744073709551615))
+  where
+    exact : at + n ≤ 18446744073709551615 → capped (at + n) - at ≡ n
+    exact h = omega (arith, capped-low (at + n) h)
 
-  pub in-buffer : from ≤ length xs
-  in-buffer = go (from-is (length s) (length b) room)
-    where
-      go : ((length s < length b) × (least (capped (length s)) (length b) ≡ length s)) ⊎ ((length b ≤ length s) × (least (capped (length s)) (length b) ≡ length b)) → from ≤ length xs
-      go (inl h) = omega (arith, h .0, h .1, start, long)
-      go (inr h) = omega (arith, h .0, h .1, start, long)
+    go : Told (ltb n m) → Told (leb (at + n) 18446744073709551615)
+        → ((n < m) × (least (capped (at + n) - at) m ≡ n)) ⊎ ((m ≤ n) × (least (capped (at + n) - at) m ≡ m))
+    go (yea e) f = inl (ltb-true n m e, ap (λ (k : ℕ). least k m) (exact (omega (arith, ltb-true n m e))) ∙ unfold least in rw e)
+    go (nay e) (yea f) = inr (ltb-false n m e, ap (λ (k : ℕ). least k m) (exact (leb-true _ _ f)) ∙ unfold least in rw e)
+    go (nay e) (nay f) = inr (
+      ltb-false n m e,
+      ap (λ (k : ℕ). least (k - at) m) (capped-high (at + n) (leb-false _ _ f))
+          ∙ unfold least in rw (le-ltb (18446744073709551615 - at) m (omega arith)),
+    )
 
-  pub next : Wrote t (part from xs) ys n → m ≡ capped (at + n) → Wrote (s ++ t) b (back from xs ys) m
-  next v e = record { count = counted; text = go (from-is (length s) (length b) room) }
-    where
-      counted : m ≡ capped (length (s ++ t))
-      counted = e ∙ ap₂ (λ (i j : ℕ). capped (i + j)) (w .count) (v .count) ∙ capped-add (length s) (length t) ∙ ap capped (sym (length-append s t))
+-- ---- one part after another
+pub begun : {b : List ℕ} {at : ℕ} → Placed at b → Wrote [] at b b at
+unfolding overlay
+begun {b} {at} l = let e : at + 0 ≡ at = omega arith in record { count = sym (ap capped e ∙ capped-low at (omega arith)); text = refl }
 
-      go : ((length s < length b) × (least (capped (length s)) (length b) ≡ length s)) ⊎ ((length b ≤ length s) × (least (capped (length s)) (length b) ≡ length b)) → back from xs ys ≡ overlay (s ++ t) b
-      go (inl h) =
-          back-is from xs ys
-          ∙ ap (λ (l : List ℕ). take from xs ++ l) (v .text ∙ ap (overlay t) (part-is from xs))
-          ∙ ap (λ (k : ℕ). take k xs ++ overlay t (drop k xs)) (start ∙ h .1)
-          ∙ ap (λ (l : List ℕ). take (length s) l ++ overlay t (drop (length s) l)) (w .text)
-          ∙ sym (over-append s t b (omega (arith, h .0)))
-      go (inr h) =
-          let k : from ≡ length xs = omega (arith, h .1, start, long) in
-          let z : drop from xs ≡ [] = drop-of-length-le xs {i = from} (omega arith) in
-          back-is from xs ys
-          ∙ ap (λ (l : List ℕ). take from xs ++ l) (v .text ∙ ap (overlay t) (part-is from xs ∙ z) ∙ over-nil t)
-          ∙ append-nil (take from xs)
-          ∙ take-all from xs (omega arith)
-          ∙ w .text
-          ∙ sym (over-full s t b (h .0))
-
--- what a writer that was lent the part from a position on has added
-pub adds : (t xs ys : List ℕ) (at from n m : ℕ) → from ≡ least at (length xs) → Wrote t (part from xs) ys n → m ≡ capped (at + n) → Added t xs (back from xs ys) at m
-unfolding writtenAt
-adds t xs ys at from n m f v e = record {
-  count = e ∙ ap (λ (i : ℕ). capped (at + i)) (v .count);
-  text = back-is from xs ys ∙ ap (λ (l : List ℕ). take from xs ++ l) (v .text ∙ ap (overlay t) (part-is from xs))
-      ∙ ap (λ (k : ℕ). take k xs ++ overlay t (drop k xs)) f;
-}
-
--- a text and one added to it
-pub added : {s t b xs ys : List ℕ} {at m : ℕ} → length b ≤ 18446744073709551615 → Wrote s b xs at → Added t xs ys at m → Wrote (s ++ t) b ys m
-unfolding writtenAt
-added {s} {t} {b} {xs} {ys} {at} {m} room w v =
-    let from = least at (length xs) in
-    let z = next s t b xs (overlay t (part from xs)) at from (capped (length t)) m room w refl (record { count = refl; text = refl }) (v .count) in
-    record {
-      count = z .count;
-      text = v .text ∙ sym (back-is from xs (overlay t (part from xs)) ∙ ap (λ (l : List ℕ). take from xs ++ overlay t l) (part-is from xs)) ∙ z .text;
-    }
-
-pub added-length : {t xs ys : List ℕ} {at m : ℕ} → Added t xs ys at m → length ys ≡ length xs
-unfolding writtenAt
-added-length {t} {xs} {ys} {at} {m} v =
-    ap length (v .text) ∙ length-append (take (least at (length xs)) xs) (overlay t (drop (least at (length xs)) xs))
-    ∙ ap (λ (n : ℕ). length (take (least at (length xs)) xs) + n) (over-length t (drop (least at (length xs)) xs))
-    ∙ sym (length-append (take (least at (length xs)) xs) (drop (least at (length xs)) xs)) ∙ ap length (take-append-drop (least at (length xs)) xs)
-
-pub wrote-length : {t b e : List ℕ} {r : ℕ} → Wrote t b e r → length e ≡ length b
+pub wrote-length : {t b e : List ℕ} {at r : ℕ} → Wrote t at b e r → length e ≡ length b
 wrote-length {t} {b} w = ap length (w .text) ∙ over-length t b
 
-pub wrote-as : {t u b e : List ℕ} {r : ℕ} → t ≡ u → Wrote t b e r → Wrote u b e r
-wrote-as {t} {u} {b} {e} {r} q w = record { count = w .count ∙ ap (λ (l : List ℕ). capped (length l)) q; text = w .text ∙ ap (λ (l : List ℕ). overlay l b) q }
+pub wrote-as : {t u b e : List ℕ} {at r : ℕ} → t ≡ u → Wrote t at b e r → Wrote u at b e r
+wrote-as {t} {u} {b} {e} {at} {r} q w = record { count = w .count ∙ ap (λ (l : List ℕ). capped (at + length l)) q; text = w .text ∙ ap (λ (l : List ℕ). overlay l b) q }
+
+-- one part after the other: the second is handed the position that the first answered, and lent what is left from there on
+pub next : {s t b xs ys : List ℕ} {at mid i r : ℕ} → Placed at b → Wrote s at b xs mid → i ≡ least (mid - at) (length xs) → Wrote t mid (part i xs) ys r
+    → Wrote (s ++ t) at b (back i xs ys) r
+next {s} {t} {b} {xs} {ys} {at} {mid} {i} {r} room w f v = record { count = counted; text = go (start-is at (length s) (length b) room) }
+  where
+    long : length xs ≡ length b
+    long = wrote-length w
+
+    start : i ≡ least (capped (at + length s) - at) (length b)
+    start = f ∙ ap₂ (λ (k m : ℕ). least (k - at) m) (w .count) long
+
+    counted : r ≡ capped (at + length (s ++ t))
+    counted = v .count ∙ ap (λ (k : ℕ). capped (k + length t)) (w .count) ∙ capped-more (at + length s) (length t)
+        ∙ (let e : at + length s + length t ≡ at + length (s ++ t) = omega (arith, length-append s t) in ap capped e)
+
+    go : Start (least (capped (at + length s) - at) (length b)) (length s) (length b) → back i xs ys ≡ overlay (s ++ t) b
+    go (inl h) =
+        back-is i xs ys
+        ∙ ap (λ (l : List ℕ). take i xs ++ l) (v .text ∙ ap (overlay t) (part-is i xs))
+        ∙ ap (λ (k : ℕ). take k xs ++ overlay t (drop k xs)) (start ∙ h .1)
+        ∙ ap (λ (l : List ℕ). take (length s) l ++ overlay t (drop (length s) l)) (w .text)
+        ∙ sym (over-append s t b (omega (arith, h .0)))
+    go (inr h) =
+        let k : i ≡ length xs = omega (arith, h .1, start, long) in
+        let z : drop i xs ≡ [] = drop-of-length-le xs {i = i} (omega arith) in
+        back-is i xs ys
+        ∙ ap (λ (l : List ℕ). take i xs ++ l) (v .text ∙ ap (overlay t) (part-is i xs ∙ z) ∙ over-nil t)
+        ∙ append-nil (take i xs)
+        ∙ take-all i xs (omega arith)
+        ∙ w .text
+        ∙ sym (over-full s t b (h .0))
+
+-- what is lent on is placed too
+pub placed-on : {s b xs : List ℕ} {at mid i : ℕ} → Placed at b → Wrote s at b xs mid → i ≡ least (mid - at) (length xs) → Placed mid (part i xs)
+placed-on {s} {b} {xs} {at} {mid} {i} room w f = go (start-is at (length s) (length b) room)
+  where
+    start : i ≡ least (capped (at + length s) - at) (length b)
+    start = f ∙ ap₂ (λ (k m : ℕ). least (k - at) m) (w .count) (wrote-length w)
+
+    left : length (part i xs) ≡ length b - i
+    left = ap length (part-is i xs) ∙ length-drop i xs ∙ ap (λ (k : ℕ). k - i) (wrote-length w)
+
+    go : Start (least (capped (at + length s) - at) (length b)) (length s) (length b) → Placed mid (part i xs)
+    go (inl h) = omega (arith, left, start, h .0, h .1, w .count, capped-low (at + length s) (omega (arith, h .0)))
+    go (inr h) = omega (arith, left, start, h .0, h .1, w .count, capped-top (at + length s))
+
+-- a text written from position 0 on, and the position handed over added: the same text written from there on
+pub moved : {t b e : List ℕ} {at n r : ℕ} → Wrote t 0 b e n → r ≡ capped (at + n) → Wrote t at b e r
+moved {t} {b} {e} {at} {n} {r} w q = record { count = q ∙ counted; text = w .text }
+  where
+    counted : capped (at + n) ≡ capped (at + length t)
+    counted =
+        let f : at + n ≡ n + at = omega arith in
+        let g : (0 + length t) + at ≡ at + length t = omega arith in
+        ap capped f ∙ ap (λ (k : ℕ). capped (k + at)) (w .count) ∙ capped-more (0 + length t) at ∙ ap capped g
+
+-- ---- where there is room for the whole text
+
+-- the position is not capped
+pub exactly : {s b xs : List ℕ} {at mid : ℕ} → at + length s ≤ 18446744073709551615 → Wrote s at b xs mid → mid ≡ at + length s
+exactly {s} {b} {xs} {at} l w = w .count ∙ capped-low (at + length s) l
 
 -- ---- bytes
 pub store : (s b : List ℕ) (x : ℕ) → length s < length b → set (overlay s b) (length s) x ≡ overlay (s ++ (x ∷ [])) b
@@ -183,15 +211,15 @@ store [] (y ∷ b) x h = refl
 store (z ∷ s) [] x h = absurd (not-suc-le-zero h)
 store (z ∷ s) (y ∷ b) x h = ap (λ (l : List ℕ). z ∷ l) (store s b x (le-of-suc-le-suc h))
 
-pub one-byte : (b : List ℕ) (x : ℕ) → 0 < length b → Wrote (x ∷ []) b (set b 0 x) 1
-unfolding overlay capped
-one-byte [] x h = absurd (not-suc-le-zero h)
-one-byte (y ∷ b) x h = record { count = refl; text = refl }
+pub one-byte : (b : List ℕ) (x : ℕ) {at r : ℕ} → 0 < length b → r ≡ capped (at + 1) → Wrote (x ∷ []) at b (set b 0 x) r
+unfolding overlay
+one-byte [] x h e = absurd (not-suc-le-zero h)
+one-byte (y ∷ b) x h e = record { count = e; text = refl }
 
-pub no-byte : (b : List ℕ) (x : ℕ) → length b ≤ 0 → Wrote (x ∷ []) b b 1
-unfolding overlay capped
-no-byte [] x h = record { count = refl; text = refl }
-no-byte (y ∷ b) x h = absurd (not-suc-le-zero h)
+pub no-byte : (b : List ℕ) (x : ℕ) {at r : ℕ} → length b ≤ 0 → r ≡ capped (at + 1) → Wrote (x ∷ []) at b b r
+unfolding overlay
+no-byte [] x h e = record { count = e; text = refl }
+no-byte (y ∷ b) x h e = absurd (not-suc-le-zero h)
 
 pub bytes-none : (t b : List ℕ) → b ≡ overlay (take 0 t) b
 unfolding overlay
@@ -218,9 +246,9 @@ over-cut (x ∷ t) [] (suc i) h = refl
 over-cut (x ∷ t) (y ∷ b) zero h = absurd (not-suc-le-zero h)
 over-cut (x ∷ t) (y ∷ b) (suc i) h = ap (λ (l : List ℕ). x ∷ l) (over-cut t b i (le-of-suc-le-suc h))
 
-pub bytes-all : (t b xs : List ℕ) (i n : ℕ) → n ≡ least (length t) (length b) → n ≤ i → length t ≤ 18446744073709551615 → xs ≡ overlay (take i t) b → Wrote t b xs (length t)
+pub bytes-all : (t b xs : List ℕ) (i n : ℕ) → n ≡ least (length t) (length b) → n ≤ i → xs ≡ overlay (take i t) b → xs ≡ overlay t b
 unfolding least
-bytes-all t b xs i n e l room p = record { count = sym (capped-low (length t) room); text = p ∙ go (told (ltb (length t) (length b))) }
+bytes-all t b xs i n e l p = p ∙ go (told (ltb (length t) (length b)))
   where
     go : Told (ltb (length t) (length b)) → overlay (take i t) b ≡ overlay t b
     go (yea h) = let q : n ≡ length t = e ∙ rw h in ap (λ (z : List ℕ). overlay z b) (take-all i t (omega arith))
@@ -241,50 +269,19 @@ unfolding digits
 digits-more zero n h l = absurd (h refl)
 digits-more (suc k) n h l = rw (le-ltb n 10 l, sub-one (suc k))
 
--- ---- joins: the program looks at the length so far
-pub gap-at : (by s : List ℕ) (at : ℕ) → at ≡ capped (length s) → cond (eqb at 0) [] by ≡ gap by s
+-- ---- joins: the program looks at where its text began
+pub gap-at : (by : List ℕ) {s b xs : List ℕ} {from at : ℕ} → from + length s ≤ 18446744073709551615 → Wrote s from b xs at → cond (eqb at from) [] by ≡ gap by s
 unfolding gap
-gap-at by s at e = go (told (eqb (length s) 0))
+gap-at by {s} {b} {xs} {from} {at} l w = go (told (eqb (length s) 0))
   where
-    go : Told (eqb (length s) 0) → cond (eqb at 0) [] by ≡ cond (eqb (length s) 0) [] by
-    go (yea t) = rw (t, e, eqb-true (length s) 0 t) (rw (capped-low 0 (omega arith)))
-    go (nay t) = rw (t, ne-eqb at 0 (λ z. not-zero (told (leb (length s) 18446744073709551615)) z))
-      where
-        not-zero : Told (leb (length s) 18446744073709551615) → at ≡ 0 → ⊥
-        not-zero (yea f) z = eqb-false (length s) 0 t (sym (e ∙ capped-low (length s) (leb-true _ _ f)) ∙ z)
-        not-zero (nay f) z = let y : _≡_ {A = ℕ} 0 18446744073709551615 = sym z ∙ e ∙ capped-high (length s) (leb-false _ _ f) in omega arith
-
-pub least-le : (n a b : ℕ) → n ≡ least a b → (n ≤ a) × (n ≤ b)
-unfolding least
-least-le n a b e = go (told (ltb a b))
-  where
-    go : Told (ltb a b) → (n ≤ a) × (n ≤ b)
-    go (yea h) = let q : n ≡ a = e ∙ rw h in (omega arith, omega (arith, ltb-true a b h))
-    go (nay h) = let q : n ≡ b = e ∙ rw h in (omega (arith, ltb-false a b h), omega arith)
-
--- ---- a turn that joins one part more
-module _ (by s b xs ys : List ℕ) (at from n mid : ℕ) (room : length b ≤ 18446744073709551615) (w : Wrote s b xs at) (f : from ≡ least at (length xs))
-    (v : Wrote (cond (eqb at 0) [] by) (part from xs) ys n) (e : mid ≡ capped (at + n)) where
-  pub half-joined : Wrote (s ++ gap by s) b (back from xs ys) mid
-  half-joined = wrote-as (ap (λ (g : List ℕ). s ++ g) (gap-at by s at (w .count))) (next s (cond (eqb at 0) [] by) b xs ys at from n mid room w f v e)
-
-  pub all-joined : (t zs : List ℕ) (to m r : ℕ) → to ≡ least mid (length (back from xs ys)) → Wrote t (part to (back from xs ys)) zs m → r ≡ capped (mid + m)
-      → Wrote (joined by s t) b (back to (back from xs ys) zs) r
-  all-joined t zs to m r g u h = next (s ++ gap by s) t b (back from xs ys) zs mid to m r room half-joined g u h
+    go : Told (eqb (length s) 0) → cond (eqb at from) [] by ≡ cond (eqb (length s) 0) [] by
+    go (yea t) = rw (t, eq-eqb at from (omega (arith, exactly l w, eqb-true (length s) 0 t)))
+    go (nay t) = rw (t, ne-eqb at from (λ z. eqb-false (length s) 0 t (omega (arith, exactly l w))))
 
 module _ (by : List ℕ) (P : ℕ → Bool) (F : ℕ → List ℕ) (s₀ : List ℕ) where
   abbrev pub join : ℕ → List ℕ → List ℕ
   join k s = cond (P k) (joined by s (F k)) s
 
-  pub joined-more : (k : ℕ) {b e : List ℕ} {r : ℕ} → P k ≡ true → Wrote (joined by (foldUp join k s₀) (F k)) b e r → Wrote (foldUp join (k + 1) s₀) b e r
-  joined-more k p = wrote-as (sym (ap (λ (z : Bool). cond z (joined by (foldUp join k s₀) (F k)) (foldUp join k s₀)) p) ∙ fold-more join s₀ (foldUp join k s₀) k refl)
-
-  pub joined-none : (k : ℕ) {b e : List ℕ} {r : ℕ} → P k ≡ false → Wrote (foldUp join k s₀) b e r → Wrote (foldUp join (k + 1) s₀) b e r
-  joined-none k p = wrote-as (sym (ap (λ (z : Bool). cond z (joined by (foldUp join k s₀) (F k)) (foldUp join k s₀)) p) ∙ fold-more join s₀ (foldUp join k s₀) k refl)
-
-  pub joined-start : {b e : List ℕ} {r : ℕ} → Wrote s₀ b e r → Wrote (foldUp join 0 s₀) b e r
-  unfolding foldUp
-  joined-start w = w
-
-  pub joined-done : (k n : ℕ) {b e : List ℕ} {r : ℕ} → k ≡ n → Wrote (foldUp join k s₀) b e r → Wrote (foldUp join n s₀) b e r
-  joined-done k n q = wrote-as (ap (λ (i : ℕ). foldUp join i s₀) q)
+  -- one turn that joins a part
+  pub join-more : (k : ℕ) → P k ≡ true → joined by (foldUp join k s₀) (F k) ≡ foldUp join (k + 1) s₀
+  join-more k p = sym (ap (λ (z : Bool). cond z (joined by (foldUp join k s₀) (F k)) (foldUp join k s₀)) p) ∙ fold-more join s₀ (foldUp join k s₀) k refl

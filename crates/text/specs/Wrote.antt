@@ -1,13 +1,14 @@
--- What a writer promises: it is lent a part of a buffer, writes as much of its text as there is room for, and answers the whole text's length.
+-- What every writer promises: it is handed a position and lent the part of a buffer from there on, writes as much of its text as there is room for,
+-- and answers the position after the whole text.
 use mathlib.Core.Path.{_≡_}
 use mathlib.Core.Bool.{cond}
-use mathlib.Core.List.{List, _++_}
-use Prim.Native.Nat.{ℕ, _+_}
+use mathlib.Core.List.{List}
+use Prim.Native.Nat.{ℕ, _+_, _≤_}
 use lib.Dec.{ltb, leb}
-use lib.ListN.{length, take, drop}
+use lib.ListN.{length}
 use Rattle.meaning.specs.Text.{overlay}
 
--- a length, as far as a number of 64 bits can hold it
+-- a position, as far as a number of 64 bits can hold it
 unfoldable pub capped : ℕ → ℕ
 capped n = cond (leb n 18446744073709551615) n 18446744073709551615
 
@@ -15,16 +16,16 @@ capped n = cond (leb n 18446744073709551615) n 18446744073709551615
 unfoldable pub least : ℕ → ℕ → ℕ
 least a b = cond (ltb a b) a b
 
--- the text was written from the buffer's start on, and the answer is its length
-pub record Wrote (written before after : List ℕ) (answer : ℕ) : Type 0 where
-  pub count : answer ≡ capped (length written)
+-- the text lies over the part that was lent from `at` on, nothing else of it is changed, and the answer is the position after the text
+pub record Wrote (written : List ℕ) (at : ℕ) (before after : List ℕ) (answer : ℕ) : Type 0 where
+  pub count : answer ≡ capped (at + length written)
   pub text : after ≡ overlay written before
 
--- a buffer after a text is written from a position on
-unfoldable pub writtenAt : ℕ → List ℕ → List ℕ → List ℕ
-writtenAt at text b = take (least at (length b)) b ++ overlay text (drop (least at (length b)) b)
+-- every byte of the part that is lent from `at` on has a position
+abbrev pub Placed : ℕ → List ℕ → Type 0
+Placed at b = at + length b ≤ 18446744073709551615
 
--- the text was written from position `at` on, and the answer is the position after it
-pub record Added (written before after : List ℕ) (at answer : ℕ) : Type 0 where
-  pub count : answer ≡ capped (at + capped (length written))
-  pub text : after ≡ writtenAt at written before
+-- and there is room for the whole text
+pub record Fits (text : List ℕ) (at : ℕ) (b : List ℕ) : Type 0 where
+  pub room : length text ≤ length b
+  pub placed : Placed at b

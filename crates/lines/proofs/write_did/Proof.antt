@@ -1,10 +1,12 @@
--- The line is its six pieces one after another: each piece added makes the text so far longer by its own text.
-use Prim.Native.Nat.{_≤_}
-use lib.ListN.{length}
+-- The line is its three pieces one after another.
+use mathlib.Core.List.{[], _∷_, _++_}
 use native.Mathlib.Omega.{arith}
 use Rattle.table.specs.Base.{tab}
-use Rattle.text.specs.TextLaws.{added}
-use Rattle.meaning.specs.Report.{stepLine}
+use Rattle.meaning.specs.Text.{ascii, decimal}
+use Rattle.meaning.specs.Report.{wordText, stepLine}
+use Rattle.text.specs.Wrote.{Wrote}
+use Rattle.text.specs.TextLaws.{least-le, next, placed-on, wrote-length, wrote-as}
+use Rattle.lines.specs.LineLaws.{did-grouped}
 use borrow.Author.Needs.{needs}
 use Rattle.lines.proofs.write_did.Statement.{statement}
 use Rattle.lines.proofs.write_did.Tie as tie
@@ -12,19 +14,17 @@ use Rattle.lines.proofs.write_did.Tie as tie
 returns : tie.Need-returns
 unfolding stepLine tab
 returns c =
-    let counted = c .before .before .before .before .before .before in
-    let apart = counted .before .before .before .before in
-    let said = apart .before .before .before .before in
-    let spaced = said .before .before .before .before in
-    let named = spaced .before .before .before .before in
-    let f = named .before .before .before in
-    let short : length (f .args .buf .now) ≤ 18446744073709551615 = omega (arith, f .good) in
-    let word = added short (added short (named .write-number .ensures) (spaced .add-byte .ensures)) (said .add-word .ensures) in
-    added short (added short (added short word (apart .add-byte2 .ensures)) (counted .add-number .ensures)) (c .before .before .add-byte3 .ensures)
+    let f = c .before .before .before .before .before .before .before .before .before .before .before .before .before .before .before in
+    let said = next (omega (arith, f .good)) (c .before .before .before .before .before .before .before .before .before .before .before .before .write-ended .ensures) (c .before .before .before .before .before .before .before .before .before .offset .ensures) (c .before .before .before .before .before .before .before .write-word .ensures) in
+    wrote-as (did-grouped (decimal (f .args .agent)) (32 ∷ []) (wordText (f .args .word)) (32 ∷ []) (decimal (f .args .woken)) (10 ∷ []))
+    (next (omega (arith, f .good)) said (c .before .before .before .before .offset2 .ensures) (c .before .before .write-ended2 .ensures))
 
 pub write-did-spec : {M : Type 1} → statement M
 write-did-spec =
     tie.close
     (tie.spec
-    (λ c κs. search needs) (λ c κs. search needs) (λ c κs. search needs) (λ c κs. search needs) (λ c κs. search needs)
-    (λ c κs. search needs) (λ c. search needs) returns)
+    (λ c κs. omega (arith, c .before .before .good)) (λ c κs. search needs)
+    (λ c. least-le _ _ _ (c .offset .ensures) .1) (λ c. least-le _ _ _ (c .offset .ensures) .1) (λ c. search needs) (λ c κs. search needs) (λ c κs. search needs)
+    (λ c. least-le _ _ _ (c .offset2 .ensures) .1) (λ c. least-le _ _ _ (c .offset2 .ensures) .1) (λ c. search needs)
+    (λ c κs. placed-on (omega (arith, c .before .before .before .before .before .before .before .before .before .before .before .before .good)) (next (omega (arith, c .before .before .before .before .before .before .before .before .before .before .before .before .good)) (c .before .before .before .before .before .before .before .before .before .write-ended .ensures) (c .before .before .before .before .before .before .offset .ensures) (c .before .before .before .before .write-word .ensures)) (c .before .offset2 .ensures))
+    (λ c. wrote-length (returns c)) returns)

@@ -1,19 +1,34 @@
--- The name, and one byte after it.
+-- The digits, and the bracket after them.
+use mathlib.Core.Path.{refl}
+use mathlib.Core.List.{[], _∷_}
 use native.Mathlib.Omega.{arith}
+use lib.ListN.{length-append}
 use borrow.Author.Needs.{needs}
 use Rattle.table.specs.Base.{tab}
-use Rattle.text.specs.TextLaws.{added}
+use Rattle.meaning.specs.Text.{decimal}
+use Rattle.text.specs.TextLaws.{wrote-length}
+use Rattle.text.specs.RoomLaws.{fits-first, fits-exactly, store-in, stored}
 use Rattle.lister.specs.Sheet.{headText}
 use Rattle.lister.proofs.write_head.Statement.{statement}
 use Rattle.lister.proofs.write_head.Tie as tie
+
+returns : tie.Need-returns
+unfolding headText tab
+returns c = stored 91 (c .before .before .write-number .ensures) (c .before .before .before .before .before .pre) refl
 
 pub write-head-spec : {M : Type 1} → statement M
 unfolding headText tab
 write-head-spec =
     tie.close
     (tie.spec
-    (λ c κs. search needs) (λ c κs. search needs) (λ c. search needs)
-    (λ c.
-    let n = c .before .before .before .before .before .before in
-    let f = n .before .before .before in
-    added (omega (arith, f .good)) (n .write-name .ensures) (c .before .before .add-byte .ensures)))
+    (λ c κs. fits-first (decimal (c .before .before .args .name)) (91 ∷ []) (c .before .before .pre))
+    (λ c. omega (arith, fits-exactly (fits-first (decimal (c .before .before .before .before .before .args .name)) (91 ∷ []) (c .before .before .before .before .before .pre)) (c .before .before .write-number .ensures)))
+    (λ c. store-in 91 (c .before .before .write-number .ensures) (c .before .before .before .before .before .pre) refl)
+    (λ c. omega (
+      arith,
+      fits-exactly (fits-first (decimal (c .before .before .before .before .before .args .name)) (91 ∷ []) (c .before .before .before .before .before .pre)) (c .before .before .write-number .ensures),
+      length-append (decimal (c .before .before .before .before .before .args .name)) (91 ∷ []),
+      c .before .before .before .before .before .pre .room,
+      c .before .before .before .before .before .pre .placed,
+    ))
+    (λ c. wrote-length (returns c)) returns)

@@ -1,51 +1,33 @@
--- What is laid out is the cell, so what the floor writes is the listing.
+-- What is laid out is the cell, so what the floor writes is the listing, and no listing is longer than 13,043 bytes.
+use mathlib.Core.Path.{_≡_, refl, sym, ap}
+use mathlib.Core.List.{List}
+use Prim.Native.Nat.{ℕ, _≤_}
 use native.Mathlib.Omega.{arith}
+use lib.ListN.{length, length-replicate}
 use borrow.Author.Needs.{needs}
-use Rattle.text.specs.TextLaws.{wrote-as}
+use Rattle.table.proofs.Facts.{names16}
+use Rattle.lengths.specs.ListingLength.{listing-longest}
+use Rattle.text.specs.TextLaws.{moved, wrote-as, wrote-length}
+use Rattle.text.specs.RoomLaws.{fits-as}
 use Rattle.lister.specs.SheetLaws.{floor-is}
 use Rattle.lister.specs.DrawnLaws.{drawn}
-use Rattle.lister.specs.WriteLaws.{not-at-all, wholly, partly}
+use Rattle.lister.specs.WriteLaws.{long-fits, wrote-if-as, wrote-if-length, wholly}
 use Rattle.lister.proofs.write_if.Statement.{statement}
 use Rattle.lister.proofs.write_if.Tie as tie
 
 returns : tie.Need-returns
-returns c =
-    let t = c .before .before .before .before .before .before .before .before .before .before in
-    let rows = t .before .before .before .before .before .before in
-    let up = rows .before .before .before .before in
-    let f = up .before .before .before .before in
-    let laid = floor-is (drawn (f .args .c) (up .before .names .ensures) (up .parents .ensures) (rows .before .before .grouped .ensures)
-    (rows .write-rows .ensures) (t .before .grouped2 .ensures)) in
-    rw (t .if1 .taken) (not-at-all (f .args .buf .now) (omega (arith, f .good)) (wrote-as laid (c .before .before .before .write-floor .ensures))
-    (c .if2 .taken))
+returns c = let t = c .before .before .before .before .before .before .before .before .before .before .before .before .before .before .before .before .before .before .before .before .before .before .before .before .args .c in let e = floor-is (drawn t (c .before .before .before .before .before .before .before .before .before .before .before .before .before .before .before .before .before .before .before .stand .ensures .0) (c .before .before .before .before .before .before .before .before .before .before .before .before .before .before .before .before .before .before .before .stand .ensures .1) (c .before .before .before .before .before .before .before .before .before .before .before .before .lodge .ensures .0) (c .before .before .before .before .before .before .before .before .before .before .before .before .lodge .ensures .1)) in let m = listing-longest t (names16 t (c .before .before .before .before .before .before .before .before .before .before .before .before .before .before .before .before .before .before .before .before .before .before .before .before .good .0)) in wrote-if-as e (c .before .before .write-page .ensures)
 
 returns-2 : tie.Need-returns-2
-returns-2 c =
-    let m = c .before .before .before .before .before .before .before .before .before in
-    let t = m .before .before .before .before .before .before .before .before .before .before in
-    let rows = t .before .before .before .before .before .before in
-    let up = rows .before .before .before .before in
-    let f = up .before .before .before .before in
-    let laid = floor-is (drawn (f .args .c) (up .before .names .ensures) (up .parents .ensures) (rows .before .before .grouped .ensures)
-    (rows .write-rows .ensures) (t .before .grouped2 .ensures)) in
-    rw (t .if1 .taken) (wholly (f .args .buf .now) (omega (arith, f .good)) (wrote-as laid (m .before .before .before .write-floor .ensures))
-    (m .if2 .left) (wrote-as laid (c .before .before .write-floor2 .ensures)))
-
-returns-3 : tie.Need-returns-3
-returns-3 c =
-    let t = c .before .before .before .before .before .before .before .before .before in
-    let rows = t .before .before .before .before .before .before in
-    let up = rows .before .before .before .before in
-    let f = up .before .before .before .before in
-    let laid = floor-is (drawn (f .args .c) (up .before .names .ensures) (up .parents .ensures) (rows .before .before .grouped .ensures)
-    (rows .write-rows .ensures) (t .before .grouped2 .ensures)) in
-    rw (t .if1 .left) (partly (wrote-as laid (c .before .before .write-floor3 .ensures)))
+returns-2 c = let t = c .before .before .before .before .before .before .before .before .before .before .before .before .before .before .before .before .before .before .before .before .before .before .before .before .before .args .c in let e = floor-is (drawn t (c .before .before .before .before .before .before .before .before .before .before .before .before .before .before .before .before .before .before .before .before .stand .ensures .0) (c .before .before .before .before .before .before .before .before .before .before .before .before .before .before .before .before .before .before .before .before .stand .ensures .1) (c .before .before .before .before .before .before .before .before .before .before .before .before .before .lodge .ensures .0) (c .before .before .before .before .before .before .before .before .before .before .before .before .before .lodge .ensures .1)) in let m = listing-longest t (names16 t (c .before .before .before .before .before .before .before .before .before .before .before .before .before .before .before .before .before .before .before .before .before .before .before .before .before .good .0)) in wholly (c .before .before .before .before .before .before .before .before .before .before .before .before .before .before .before .before .before .before .before .before .before .before .before .before .before .args .whole) (omega (arith, m, c .before .before .before .before .before .before .before .before .before .before .before .before .if1 .left)) (moved (wrote-as e (c .before .before .before .write-floor .ensures)) (c .plus .ensures))
 
 pub write-if-spec : {M : Type 1} → statement M
 write-if-spec =
     tie.close
     (tie.spec
-    (λ c κs. search needs) (λ c κs. search needs) (λ c κs. search needs) (λ c. search needs) (λ c κs. search needs) (λ c κs. search needs)
-    (λ c. search needs) (λ c. search needs) (λ c. search needs) (λ c. search needs) (λ c κs. search needs) (λ c. search needs) returns
-    (λ c. search needs) (λ c κs. search needs) (λ c. search needs) returns-2
-    (λ c. search needs) (λ c κs. search needs) (λ c. search needs) returns-3)
+    (λ c κs. (refl, refl))
+    (λ c κs. (refl, (length-replicate {A = ℕ} 64 0, (length-replicate {A = ℕ} 64 0, (length-replicate {A = ℕ} 1024 0, length-replicate {A = ℕ} 1024 0)))))
+    (λ c κs. let t = c .before .before .before .before .before .before .before .before .before .before .before .before .before .before .before .before .before .before .before .before .before .args .c in let e = floor-is (drawn t (c .before .before .before .before .before .before .before .before .before .before .before .before .before .before .before .before .stand .ensures .0) (c .before .before .before .before .before .before .before .before .before .before .before .before .before .before .before .before .stand .ensures .1) (c .before .before .before .before .before .before .before .before .before .lodge .ensures .0) (c .before .before .before .before .before .before .before .before .before .lodge .ensures .1)) in let m = listing-longest t (names16 t (c .before .before .before .before .before .before .before .before .before .before .before .before .before .before .before .before .before .before .before .before .before .good .0)) in let n = ap length e in omega arith)
+    (λ c. wrote-if-length (c .before .before .write-page .ensures)) returns
+    (λ c κs. let t = c .before .before .before .before .before .before .before .before .before .before .before .before .before .before .before .before .before .before .before .before .before .args .c in let e = floor-is (drawn t (c .before .before .before .before .before .before .before .before .before .before .before .before .before .before .before .before .stand .ensures .0) (c .before .before .before .before .before .before .before .before .before .before .before .before .before .before .before .before .stand .ensures .1) (c .before .before .before .before .before .before .before .before .before .lodge .ensures .0) (c .before .before .before .before .before .before .before .before .before .lodge .ensures .1)) in let m = listing-longest t (names16 t (c .before .before .before .before .before .before .before .before .before .before .before .before .before .before .before .before .before .before .before .before .before .good .0)) in long-fits e m (c .before .before .before .before .before .before .before .before .if1 .left) (omega (arith, c .before .before .before .before .before .before .before .before .before .before .before .before .before .before .before .before .before .before .before .before .before .good)))
+    (λ c κs. search needs) (λ c. wrote-length (c .before .before .before .write-floor .ensures)) returns-2)

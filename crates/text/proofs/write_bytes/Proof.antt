@@ -1,4 +1,4 @@
--- Before turn i the first i bytes are written over the start of the buffer.
+-- Before turn i the first i bytes are written over the start of the part.
 use mathlib.Core.List.{[]}
 use mathlib.Core.Path.{_≡_, _∙_, ap}
 use native.Mathlib.Omega.{arith}
@@ -10,10 +10,10 @@ use Rattle.text.proofs.write_bytes.Statement.{statement}
 use Rattle.text.proofs.write_bytes.Tie as tie
 
 abbrev Inv-loop : tie.InvT-loop
-Inv-loop t buf₀ n i₀ buf i = buf ≡ overlay (take i t) buf₀
+Inv-loop t at buf₀ n i₀ buf i = buf ≡ overlay (take i t) buf₀
 
 abbrev μ-loop : tie.MeasureT-loop
-μ-loop t buf₀ n i₀ buf i = n - i
+μ-loop t at buf₀ n i₀ buf i = n - i
 
 slice-write-buf : tie.Need-slice-write-buf Inv-loop μ-loop
 slice-write-buf c =
@@ -29,9 +29,10 @@ loop-again c =
     bytes-more _ _ _ _ (omega (arith, h .0, t)) (omega (arith, h .1, t)) (c .before .before .loop .inv)
 
 returns : tie.Need-returns Inv-loop μ-loop
-returns c =
-    let f = c .before .before .before .before .before in
-    bytes-all _ _ _ _ _ (c .before .before .least .ensures) (c .loop-test .left) (omega (arith, f .good)) (c .before .loop .inv)
+returns c = record {
+  count = c .plus .ensures;
+  text = bytes-all _ _ _ _ _ (c .before .before .before .least .ensures) (c .before .loop-test .left) (c .before .before .loop .inv);
+}
 
 pub write-bytes-spec : {M : Type 1} → statement M
 write-bytes-spec =
@@ -40,4 +41,4 @@ write-bytes-spec =
     (λ c κs. tt) (λ c. bytes-none [] _)
     (λ c. let h = least-le _ _ _ (c .before .before .before .least .ensures) in omega (arith, h .0, c .before .loop-test .taken))
     slice-write-buf (λ c. omega arith) (λ c. omega arith) loop-again
-    (λ c. ap length (c .before .loop .inv) ∙ over-length _ _) returns)
+    (λ c κs. tt) (λ c. ap length (c .before .before .loop .inv) ∙ over-length _ _) returns)
