@@ -1,8 +1,9 @@
--- The first of a row that passes a test: it passes, none passes where there is none, and none that passes stands before it. Assumes nothing.
+-- The first of a row that passes a test: it passes, it stands before every other that does, and where there is none none passes. Assumes nothing.
 use mathlib.Core.Path.{_≡_, refl, sym, ap, _∙_}
+use mathlib.Core.Logic.{_≢_}
 use mathlib.Core.Bool.{Bool, true, false}
 use mathlib.Core.List.{List, [], _∷_}
-use Prim.Native.Nat.{ℕ, suc, _+_, _≤_, _<_, zero-le}
+use Prim.Native.Nat.{ℕ, suc, _+_, _≤_, _<_}
 use native.Mathlib.Omega.{arith}
 use lib.Dec.{eqb}
 use lib.ListN.{length, getD, drop, drop-of-length-le}
@@ -31,18 +32,20 @@ first-most f (r ∷ row) s = go (told (f r)) (first-most f row s)
     go (yea e) h = rw e (let l = s r e in omega arith)
     go (nay e) h = rw e h
 
--- none that passes stands before it
-pub first-before : (f : ℕ → Bool) (row : List ℕ) (q : ℕ) → f q ≡ true → positionOf (firstIn f row) row ≤ positionOf q row
+-- it stands before every other that passes
+pub first-before : (f : ℕ → Bool) (row : List ℕ) → firstIn f row < 64 → (q : ℕ) → f q ≡ true → q ≢ firstIn f row → positionOf (firstIn f row) row < positionOf q row
 unfolding firstIn positionOf
-first-before f [] q t = zero-le
-first-before f (r ∷ row) q t = go (told (f r)) (told (eqb q r)) (told (eqb (firstIn f row) r)) (first-before f row q t)
+first-before f [] l q t n = absurd (omega arith)
+first-before f (r ∷ row) l q t n = go (told (f r)) (told (eqb q r)) (told (eqb (firstIn f row) r)) (first-before f row)
   where
-    go : Told (f r) → Told (eqb q r) → Told (eqb (firstIn f row) r) → positionOf (firstIn f row) row ≤ positionOf q row
-        → positionOf (firstIn f (r ∷ row)) (r ∷ row) ≤ positionOf q (r ∷ row)
-    go (yea e) _ _ h = rw (e, positionOf, eq-eqb r r refl) zero-le
+    go : Told (f r) → Told (eqb q r) → Told (eqb (firstIn f row) r)
+        → (firstIn f row < 64 → (q : ℕ) → f q ≡ true → q ≢ firstIn f row → positionOf (firstIn f row) row < positionOf q row)
+        → positionOf (firstIn f (r ∷ row)) (r ∷ row) < positionOf q (r ∷ row)
+    go (yea e) (yea m) _ h = absurd (n (eqb-true q r m ∙ sym (rw (e, firstIn))))
+    go (yea e) (nay m) _ h = rw (e, positionOf, eq-eqb r r refl, m) (omega arith)
     go (nay e) (yea m) _ h = clash (sym (ap f (eqb-true q r m)) ∙ t) e
-    go (nay e) (nay m) (yea k) h = rw (e, positionOf, k) zero-le
-    go (nay e) (nay m) (nay k) h = rw (e, positionOf, k, m) (omega arith)
+    go (nay e) (nay m) (yea k) h = clash (sym (ap f (eqb-true (firstIn f row) r k)) ∙ first-fits f row (omega (arith, rw (e, firstIn) at l))) e
+    go (nay e) (nay m) (nay k) h = rw (e, positionOf, k, m) (let z = h (omega (arith, rw (e, firstIn) at l)) q t (λ x. n (x ∙ sym (rw (e, firstIn)))) in omega arith)
 
 -- where it is 64, and only numbers below 64 pass, none of the row does
 pub first-none : (f : ℕ → Bool) (row : List ℕ) → ((q : ℕ) → f q ≡ true → q < 64) → 64 ≤ firstIn f row → (q : ℕ) → occurs q row ≡ true → f q ≡ false
