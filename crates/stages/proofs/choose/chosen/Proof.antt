@@ -1,4 +1,4 @@
--- By the wish's membership: the wished number, or what first answers.
+-- By the wish's membership: the wished number, or what first_in answers.
 use Rattle.meaning.specs.Step.{chosenOf}
 use borrow.Author.Needs.{needs}
 use Rattle.stages.proofs.choose.chosen.Statement.{statement}
@@ -11,4 +11,4 @@ chosen-spec =
     (tie.spec
     (λ c κs. search needs) (λ c κs. search needs)
     (λ c. rw (← c .before .has .ensures, c .if1 .taken))
-    (λ c. rw (← c .before .before .has .ensures, c .before .if1 .left) (c .first .ensures)))
+    (λ c. rw (← c .before .before .has .ensures, c .before .if1 .left) (c .first-in .ensures)))
