@@ -4,6 +4,7 @@ use Prim.Native.Nat.{ℕ, zero, suc}
 use mathlib.Core.Bool.{Bool, true, false, not, _&&_, _||_, cond}
 use mathlib.Core.List.{List, [], _∷_, _++_}
 use lib.Dec.{eqb, ltb}
+use lib.ListN.{take}
 
 -- those of a row that pass a test, in their order
 unfoldable pub keep : (ℕ → Bool) → List ℕ → List ℕ
@@ -48,6 +49,10 @@ countingRow = counting 64 0
 unfoldable pub loadedRow : List ℕ → List ℕ
 unfolding keep occurs countingRow
 loadedRow ns = keep (λ q. not (occurs q ns)) countingRow ++ ns
+
+-- the numbers that do not pass, as they are counted, and behind them as many of lasts as there is room for
+abbrev pub filledRow : (ℕ → Bool) → List ℕ → List ℕ
+filledRow f lasts = take 64 (keep (λ q. not (f q)) countingRow ++ lasts)
 
 -- ---- "In a sound table this order is strict": what soundness asks of a row
 

@@ -4,7 +4,7 @@ ghost use mathlib.Core.Path.{_≡_};
 ghost use Prim.Native.Nat.{_≤_};
 ghost use Rattle.sets.specs.Word.{bit};
 ghost use Rattle.sets.specs.Set.{member};
-ghost use Rattle.order.specs.Row.{firstIn, rowFits, countingRow};
+ghost use Rattle.order.specs.Row.{firstIn, rowFits, countingRow, filledRow};
 
 // All numbers as they are counted: the row of a bare floor.
 pub fn counting_row() -> [u8; 64]
@@ -107,6 +107,31 @@ pub fn latest(order: [u8; 64], q: u8) -> [u8; 64]
     while n < 64 {
         row[n] = q;
         n += 1;
+    }
+    row
+}
+
+// The row of a loaded cell: all numbers but the members of s as they are counted, and behind them the first of those that
+// came, as many as there is room for.
+pub fn loaded_row(s: Set, came: [u8; 64]) -> [u8; 64]
+    ensures { λ r. ⌜ r ≡ filledRow (member s) came ⌝ }
+{
+    let order = counting_row();
+    let mut row = order;
+    let mut n: usize = 0;
+    let mut j: usize = 0;
+    while j < 64 {
+        let q = order[j];
+        let one = one_if(s.has(q));
+        row[n] = q;
+        n += 1 - one;
+        j += 1;
+    }
+    let mut next: usize = 0;
+    while n < 64 {
+        row[n] = came[next];
+        n += 1;
+        next += 1;
     }
     row
 }
