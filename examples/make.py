@@ -66,6 +66,11 @@ EXAMPLES = {
         place(1, 0, 20) + place(2, 1, 50) + touches(2, 40) + place(3, 0, 30) + touches(3, 1200)
         + agent(0, 1, (OPEN, 50)) + agent(1, 3, (ENTER, 20)) + END,
         calls([1] * 7 + [0] * 5)),
+    # holders 30 and 31 want into a tray 50; tray 4 stands before tray 3 in the file, goes into bonder 20 in between and comes back
+    "trays-in-turn": (
+        place(1, 0, 30) + place(2, 0, 31) + place(4, 0, 50) + place(3, 0, 50) + place(5, 0, 20)
+        + agent(0, 1, (ENTER, 50)) + agent(1, 2, (ENTER, 50)) + agent(2, 4, (ENTER, 20), (EXIT, 20)) + END,
+        calls([0] * 8 + [2] * 15 + [1] * 8)),
     # a line on which nothing is defined yet: a file of length 0, and a dispatcher that calls agents that are not there
     "empty-line": (
         b"",
@@ -80,6 +85,13 @@ def full_cell():
     places = b"".join(place(q, (q - 1) // 2, 65535 - q % 3) for q in range(1, 64))
     agents = b"".join(agent(x, x % 64, *[(1 + (x + j) % 3, 65533 + (x * j) % 3) for j in range(16)]) for x in range(64))
     return places + agents + END
+
+
+def full_floor():
+    """63 places on the floor, with two names and numbers across the file's order, each with an agent that takes it into another and out."""
+    places = b"".join(place(q * 37 % 64, 0, 1 + q % 2) for q in range(1, 64))
+    row = [(ENTER, 1), (EXIT, 1), (ENTER, 2), (EXIT, 2)] * 2
+    return places + agent(0, 0, *[(OPEN, 1 + j // 2 % 2) for j in range(16)]) + b"".join(agent(x, x, *row) for x in range(1, 64)) + END
 
 
 def deep_cell():
@@ -149,6 +161,29 @@ CASES = {
     "no-such-agent": (TWO, calls([0, 1, 63, 64, 255, 0])),
     "wishes": (place(1, 0, 7) + place(2, 0, 9) + place(3, 0, 9) + agent(0, 1, (ENTER, 9)) + END,
                calls([0, 0], 3) + calls([0], 3) + calls([0, 0, 0, 0], 64)),
+    # first in, first served: file order and not number order; a wish for the younger one; a tray that left and came back; freed children
+    "first-in-first-served": (
+        place(9, 0, 8) + place(1, 0, 7) + place(4, 0, 9) + place(5, 9, 9) + place(3, 0, 9) + place(2, 0, 9)
+        + place(6, 4, 1) + place(7, 3, 2) + agent(0, 1, (ENTER, 9)) + agent(1, 0, (OPEN, 9), (OPEN, 9)) + END,
+        calls([0] * 7 + [1] * 9)),
+    "wish-for-the-younger": (
+        place(1, 0, 7) + place(4, 0, 9) + place(3, 0, 9) + place(2, 0, 8) + agent(0, 1, (ENTER, 9), (EXIT, 9), (ENTER, 9)) + END,
+        calls([0] * 14, 3) + calls([0] * 7, 2)),
+    "came-back-is-latest": (
+        place(4, 0, 20) + place(2, 0, 50) + place(3, 0, 50) + place(5, 3, 60)
+        + agent(0, 0, (OPEN, 50), (OPEN, 50)) + agent(1, 2, (ENTER, 20), (EXIT, 20)) + END,
+        calls([1] * 14 + [0] * 4)),
+    # a tray on its way is not taken, and whoever sleeps for want of another is woken when it comes
+    "on-its-way-not-taken": (
+        place(4, 0, 20) + place(2, 0, 50) + place(3, 0, 50) + agent(0, 0, (OPEN, 50), (OPEN, 50))
+        + agent(1, 2, (ENTER, 20), (EXIT, 20)) + END,
+        calls([1] * 4 + [0] * 7 + [1] * 10 + [0] * 5)),
+    # box 5 has trays 3 and 2; opened, they come after tray 4, and 3 before 2
+    "freed-children": (
+        place(5, 0, 8) + place(3, 5, 9) + place(2, 5, 9) + place(4, 0, 9) + place(1, 3, 1) + place(6, 2, 6)
+        + agent(0, 0, (OPEN, 8), (OPEN, 9), (OPEN, 9)) + END,
+        calls([0] * 13)),
+    "full-floor": (full_floor(), calls([x for y in mixed(3, 170) for x in [y] * 14 + [0] * 2])),
     "own-sibling": (place(1, 0, 7) + agent(0, 1, (ENTER, 7)) + END, calls([0] * 4)),
     "opened-with-agents": (
         place(1, 0, 1) + place(2, 1, 2) + agent(0, 0, (OPEN, 1), (OPEN, 2)) + agent(1, 1, (ENTER, 2)) + agent(2, 2, (EXIT, 1)) + END,

@@ -53,7 +53,7 @@ extern "C" {
 ** anew: another layout of a cell, other arguments, another meaning of an answer. The minor number changes when something is added: a
 ** call, a word, a refusal. The patch number changes with anything else.
 */
-#define KEEPER_MAJOR 2
+#define KEEPER_MAJOR 3
 #define KEEPER_MINOR 0
 #define KEEPER_PATCH 0
 #define KEEPER_VERSION (KEEPER_MAJOR * 65536 + KEEPER_MINOR * 256 + KEEPER_PATCH)
@@ -70,7 +70,7 @@ extern "C" {
 #define KEEPER_TOUCHES_MOST 1000000000000
 
 /* The size of a cell in bytes. */
-#define KEEPER_CELL_BYTES 5328
+#define KEEPER_CELL_BYTES 5392
 
 /* The longest cell file that can be accepted; and how many bytes of a file, at its start, always decide the answer to it: a host may
 ** read that many of a longer file and lend those. Both are proved (crates/lengths, `accepted-longest` and `prefix`). */
@@ -87,7 +87,7 @@ extern "C" {
 /*
 ** The memory of a cell. It is plain data: a host may copy it, keep it in a file for the same kind of machine and the same KEEPER_MAJOR, and
 ** read its fields. A host that writes the fields itself can make the table unsound; keeper_check tells. Fields of numbers that are not in
-** use mean nothing, nor does the byte between an action's kind and its name.
+** use mean nothing, nor does the byte between an action's kind and its name; but every place number stands in `order`.
 */
 
 /* A place: `way` is 0 where it is linked to `parent`, else it is on its way to `parent`. The floor has name 0, parent 0 and way 1. */
@@ -116,7 +116,9 @@ typedef struct keeper_agent {
 } keeper_agent;
 
 /* A cell: its places, for each the agent that holds its lock or KEEPER_FREE, its agents, the numbers of places (`used`) and agents
-** (`given`) that are in use, bit i for number i, and for each place its touch count. */
+** (`given`) that are in use, bit i for number i, for each place its touch count, and in `order` all place numbers, 0 to 63, each once: of
+** places linked to one parent the one that has been there longest comes first. The floor and numbers that are not in use stand in it
+** too, anywhere. */
 typedef struct keeper_cell {
     keeper_place places[KEEPER_PLACES];
     uint8_t locks[KEEPER_PLACES];
@@ -124,6 +126,7 @@ typedef struct keeper_cell {
     uint64_t used;
     uint64_t given;
     uint64_t touches[KEEPER_PLACES];
+    uint8_t order[KEEPER_PLACES];
 } keeper_cell;
 
 KEEPER_ASSERT(sizeof(keeper_place) == 4, "keeper_place has 4 bytes");
@@ -133,10 +136,10 @@ KEEPER_ASSERT(sizeof(keeper_agent) == 70, "keeper_agent has 70 bytes");
 KEEPER_ASSERT(offsetof(keeper_agent, stage) == 1 && offsetof(keeper_agent, remembered) == 2, "keeper_agent");
 KEEPER_ASSERT(offsetof(keeper_agent, chosen) == 3 && offsetof(keeper_agent, next) == 4, "keeper_agent");
 KEEPER_ASSERT(offsetof(keeper_agent, count) == 5 && offsetof(keeper_agent, actions) == 6, "keeper_agent");
-KEEPER_ASSERT(sizeof(keeper_cell) == KEEPER_CELL_BYTES, "keeper_cell has 5328 bytes");
+KEEPER_ASSERT(sizeof(keeper_cell) == KEEPER_CELL_BYTES, "keeper_cell has 5392 bytes");
 KEEPER_ASSERT(offsetof(keeper_cell, locks) == 256 && offsetof(keeper_cell, agents) == 320, "keeper_cell");
 KEEPER_ASSERT(offsetof(keeper_cell, used) == 4800 && offsetof(keeper_cell, given) == 4808, "keeper_cell");
-KEEPER_ASSERT(offsetof(keeper_cell, touches) == 4816, "keeper_cell");
+KEEPER_ASSERT(offsetof(keeper_cell, touches) == 4816 && offsetof(keeper_cell, order) == 5328, "keeper_cell");
 
 /* The numbers with which a call is refused. Of a cell file, 3 is for the number that a place record gives, 13 for a parent (of a place) or
 ** home (of an agent), 14 for the number of an agent, in an agent or an action record; of the three the earlier byte in the record decides. A
@@ -219,7 +222,8 @@ keeper_answer keeper_load(keeper_cell *cell, const uint8_t *file, size_t len);
 /*
 ** keeper_step: one lock step of an agent. `wish` is the number of the place that an enter or open should choose where several qualify. It
 ** counts in the call in which the agent, holding its first lock, chooses. A wish for a place that does not qualify, or for none, such as
-** 255, is passed over, and the lowest qualifying number is chosen.
+** 255, is passed over, and of the places that qualify the one is chosen that has been under its parent longest: first in, first served.
+** Loaded places count in file order. A place that comes is the latest, and so are those that an opening frees, which keep their order.
 **
 ** Answers, in keeper_word(answer), what the agent did, and in keeper_woken(answer) how many sleeping agents that woke:
 **

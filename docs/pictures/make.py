@@ -122,6 +122,16 @@ def touches():
                 "20[30[]]")])
 
 
+def served():
+    """The tray that came first is taken first, whatever its number."""
+    panels("served.svg", "First in, first served",
+           "Two trays named 50 stand on the floor: place 4 has been there longest, place 3 came after it. Holder 30 goes into place 4.", [
+               ("Start: place 4 stands before place 3 in the file",
+                place("floor", 0, place("30", 1, agent(0, "enter 50")), place("50, 2nd", 3), place("50, 1st", 4)),
+                "30[enter 50] | 50[] | 50[]"),
+               ("After came", place("floor", 0, place("50, 2nd", 3), place("50, 1st", 4, place("30", 1, spent(0)))), "50[] | 50[30[]]")])
+
+
 def slips():
     """Opening while something is on its way: the start, and the moment at which the opener must step back."""
     panels("slips.svg", "Opening a place that something is on its way to",
@@ -222,5 +232,5 @@ def stages():
 
 
 if __name__ == "__main__":
-    for draw in (cell, stages, enter, exit_, open_, touches, example_trees, example_held, example_locks, slips):
+    for draw in (cell, stages, enter, exit_, open_, touches, served, example_trees, example_held, example_locks, slips):
         draw()

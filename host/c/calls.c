@@ -1,37 +1,8 @@
 /* Each call of keeper.h: what it answers, and that a refusal changes nothing. */
-#include "../keeper.h"
-
-#include <stdio.h>
-#include <stdlib.h>
-#include <string.h>
-
-static int tests;
-
-/* Ends the program where something does not hold. */
-#define HOLDS(test) holds((test) ? 1 : 0, #test, __LINE__)
-
-static void holds(int test, const char *text, int line)
-{
-    tests++;
-    if (!test) {
-        fprintf(stderr, "calls.c:%d: %s does not hold\n", line, text);
-        exit(1);
-    }
-}
+#include "holds.h"
 
 /* The worked example's cell, `7[enter 9] | 9[exit 7]`. */
 static const uint8_t example[27] = {1, 1, 0, 7, 0, 1, 2, 0, 9, 0, 2, 0, 1, 3, 0, 1, 9, 0, 2, 1, 2, 3, 1, 2, 7, 0, 4};
-
-/* A copy of these bytes in memory of exactly their size, so that a sanitizer sees a byte too many. */
-static uint8_t *exactly(const void *bytes, size_t length)
-{
-    uint8_t *copy = malloc(length == 0 ? 1 : length);
-
-    if (copy == NULL)
-        exit(1);
-    memcpy(copy, bytes, length);
-    return copy;
-}
 
 /* The answer to a file that must be refused, after which the cell must be as it was. */
 static keeper_answer refused(keeper_cell *cell, const uint8_t *bytes, size_t length)
@@ -102,11 +73,11 @@ static void too_large(keeper_cell *cell)
     }
 }
 
-/* Whether two cells without agents say the same: places, locks, the two sets and the touches. */
+/* Whether two cells without agents say the same: places, locks, the two sets, the touches and the row. */
 static int same_floor(const keeper_cell *one, const keeper_cell *other)
 {
     return memcmp(one, other, offsetof(keeper_cell, agents)) == 0 && one->used == other->used && one->given == 0 && other->given == 0
-        && memcmp(one->touches, other->touches, sizeof one->touches) == 0;
+        && memcmp(one->touches, other->touches, sizeof one->touches) == 0 && memcmp(one->order, other->order, sizeof one->order) == 0;
 }
 
 /* A file of length 0 is a bare floor, as `04` is, whatever the cell held before; nothing is read through its pointer. */

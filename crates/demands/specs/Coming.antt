@@ -5,6 +5,7 @@ use mathlib.Core.Logic.{_≢_, _⊎_, inl, inr}
 use Prim.Native.Nat.{ℕ, _≤_}
 use mathlib.Core.Bool.{Bool, true}
 use native.Mathlib.Omega.{arith}
+use Rattle.order.specs.RowLaws.{fits-later}
 use Rattle.table.specs.BaseLaws.{clash, eq?, upd-at, upd-other}
 use Rattle.table.specs.Cell.{Land, State, linked}
 use Rattle.table.specs.declared.Agent.{Agent}
@@ -64,6 +65,7 @@ module _ (c : State) (i : Sound c) (x : ℕ) (g : c .given x ≡ true) (e : c .a
     tree = subst (λ (f : ℕ → ℕ). (q : ℕ) → Up f q) (sym (parent-linked l h)) (i .places .tree);
     parent-used = subst (λ (f : ℕ → ℕ). (q : ℕ) → l .used (f q) ≡ true) (sym (parent-linked l h)) (i .places .parent-used);
     small = i .places .small;
+    order = fits-later _ _ (i .places .order);
     named = λ q u n. subst (λ (f : ℕ → ℕ). 1 ≤ f q) (sym (name-linked l h)) (i .places .named q u n);
   }
 
@@ -111,7 +113,7 @@ module _ (c : State) (i : Sound c) (x : ℕ) (g : c .given x ≡ true) (e : c .a
       change : Change c (arrive c x (c .agent x) (parentIn (c .land) (c .agent x .home)) .cell) x (Apart h d (beyond l d))
       change = record {
         steps = g;
-        untouched = woken-untouched c x g _ _ _ h _ _ _ (home-given c i x g)
+        untouched = woken-untouched c x g _ _ _ h _ _ _ _ (home-given c i x g)
             (released-outside (c .land .used) (c .lock) _ _ (home-given c i x g) (i .places .parent-used _));
         used = λ q u. u;
         fresh = λ q n u. clash u n;

@@ -47,6 +47,7 @@ fresh-same c f = record {
   tree = refl;
   travels = sym (fun-ext (whole-still c (f .whole)));
   pick = λ x s k. absurd (not-between (fresh-stage c f x) (omega arith) (omega arith));
+  order = refl;
 }
 
 -- a cell equals its own tree
@@ -120,6 +121,7 @@ module _ (c : State) (f : Fresh c) (calls : List Call) where
   fresh-three = record {
     one-tree = tree-of (reached c calls) reached-sized reached-inv;
     equals = subst (EqualsPlain (cellOf (reached c calls))) (sym reached-tree) (equals-tree (cellOf (reached c calls)));
+    order = reached-beside .same .order;
     history = steps-history (reached-beside .steps);
     goes-on = goes-of (reached c calls) reached-sized reached-inv;
     at-rest = λ r a u v. rest-of (reached c calls) reached-sized reached-inv r a u (subst (λ t. Move t a u) reached-tree v);

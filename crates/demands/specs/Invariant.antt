@@ -6,6 +6,7 @@ use mathlib.Core.Logic.{_≢_}
 use mathlib.Core.List.{[]}
 use Prim.Native.Nat.{ℕ, _≤_, _<_}
 use mathlib.Core.Bool.{true, false}
+use Rattle.order.specs.Row.{rowFits}
 use Rattle.table.specs.Cell.{Land, State, none, linked, kindOf, nameOf, unused, enterKind, exitKind, openKind}
 use Rattle.table.specs.Cell.{looking, found, holding, holdingBoth, onWay, onWayOwn, onWayBoth, asleep, done}
 use Rattle.table.specs.Sound.{secondPlace, touchSum, mostTouches}
@@ -22,7 +23,7 @@ pub record Under (l : Land) (q p : ℕ) : Type 0 where
   pub link : linked l q ≡ true
   pub parent : parentIn l q ≡ p
 
--- the places are one tree under the floor
+-- the places are one tree under the floor, and every number stands in their row
 pub record Places (l : Land) : Type 0 where
   pub floor-used : l .used 0 ≡ true
   pub floor-parent : parentIn l 0 ≡ 0
@@ -32,6 +33,7 @@ pub record Places (l : Land) : Type 0 where
   pub parent-used : (q : ℕ) → l .used (parentIn l q) ≡ true
   pub small : (q : ℕ) → l .used q ≡ true → q < 64
   pub named : (q : ℕ) → l .used q ≡ true → q ≢ 0 → 1 ≤ nameIn l q
+  pub order : rowFits (l .order) ≡ true
 
 -- ---- agents
 

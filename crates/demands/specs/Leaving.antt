@@ -70,6 +70,7 @@ module _ (c : State) (i : Sound c) (x : ℕ) (g : c .given x ≡ true) (e : c .a
     parent-used = subst (λ (f : ℕ → ℕ). (q : ℕ) → l .used (f q) ≡ true) (sym parents)
         (upd-all (parentIn l) h d (λ (q p : ℕ). l .used p ≡ true) ud (λ q _. i .places .parent-used q));
     small = i .places .small;
+    order = i .places .order;
     named = λ q u n. subst (λ (f : ℕ → ℕ). 1 ≤ f q) (sym (name-sent l h d)) (i .places .named q u n);
   }
 
@@ -111,7 +112,7 @@ module _ (c : State) (i : Sound c) (x : ℕ) (g : c .given x ≡ true) (e : c .a
       change : Change c (leave c x (c .agent x) d .cell) x (Apart (a .remembered) h h)
       change = record {
         steps = g;
-        untouched = woken-untouched c x g _ _ _ h _ _ _ (home-given c i x g)
+        untouched = woken-untouched c x g _ _ _ h _ _ _ _ (home-given c i x g)
             (released-outside (c .land .used) (c .lock) _ _ (ok-at 3 e (ok-given c i x g) .0 .known) (home-given c i x g));
         used = λ q u. u;
         fresh = λ q n u. clash u n;

@@ -6,6 +6,7 @@ pub mod TwoSteps
 pub mod Agrees
 pub mod NoMore
 pub mod TouchTotal
+pub mod FirstCome
 -- the theorems
 pub mod DemandOne
 pub mod DemandTwo
@@ -14,6 +15,7 @@ pub mod PrintedLaws
 pub mod AgreesLaws
 pub mod NoMoreLaws
 pub mod TouchTotalLaws
+pub mod FirstComeLaws
 -- the invariant and the ways a step can go
 pub mod Reading
 pub mod ReadingLaws
@@ -53,6 +55,7 @@ pub mod Always
 -- an accepted load
 pub mod Fresh
 pub mod Loading
+pub mod LoadingRecords
 pub mod LoadingFile
 pub mod LoadingLaws
 -- while an agent is awake, somebody can go on
@@ -67,6 +70,10 @@ pub mod MovesMade
 pub mod AtRest
 pub mod RunKeeps
 pub mod Resting
+-- the log of arrivals beside the row
+pub mod ArrivalLaws
+pub mod Arrivals
+pub mod LoadingOrder
 -- listings and trees
 pub mod Layouts
 -- nine steps

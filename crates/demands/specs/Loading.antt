@@ -10,6 +10,8 @@ use lib.ListN.{getD, set, length-set}
 use lib.Seq.{getD-set-same, getD-set-other}
 use borrow.Author.Tests.{eqb-true, eq-eqb, ne-eqb, lt-ltb, leb-false}
 use Rattle.sets.specs.Word.{has}
+use Rattle.order.specs.Row.{rowFits}
+use Rattle.order.specs.RowLaws.{fits-later, counting-fits}
 use Rattle.table.specs.Base.{upd}
 use Rattle.table.specs.BaseLaws.{clash, eq?, upd-same, upd-at, upd-other, upd-all}
 use Rattle.table.specs.Cell.{Land, State, noPlace, noAction, freshAgent, linked, cellOf, bareTable, lastKind}
@@ -18,7 +20,7 @@ use Rattle.table.specs.declared.Action.{Action}
 use Rattle.table.specs.declared.Agent.{Agent}
 use Rattle.meaning.specs.Update.{linkedPlace, withHome, withAgent, withGiven}
 use Rattle.meaning.specs.File.{addPlace, addAgent, withAction, addAction, giveTouches, isFull}
-use Rattle.meaning.specs.FileLaws.{bare-bounded, bare-used, bare-given, bare-lock, bare-agent, bare-place, bare-touches}
+use Rattle.meaning.specs.FileLaws.{bare-bounded, bare-used, bare-given, bare-lock, bare-agent, bare-place, bare-touches, bare-order}
 use Rattle.calculus.specs.Up.{Up, base, up, Off, off0, offs, move-up}
 use Rattle.demands.specs.Reading.{parentIn, nameIn}
 use Rattle.demands.specs.ReadingLaws.{readUsed, readParent, readName, readLinked, upd-self, written}
@@ -70,6 +72,7 @@ bare-fresh = record {
     tree = λ q. up q (rw (bare-parent q) base);
     parent-used = λ q. ap (cellOf bareTable .land .used) (bare-parent q) ∙ bare-used 0;
     small = λ q e. let z = only-floor q e in omega arith;
+    order = ap rowFits bare-order ∙ counting-fits;
     named = λ q e n. absurd (n (only-floor q e));
   };
   whole = λ q e n. absurd (n (only-floor q e));
@@ -128,6 +131,10 @@ module _ (c : State) (f : Fresh c) (n p m : ℕ) (n0 : n ≢ 0) (n64 : n < 64) (
   way-off u base = off0
   way-off u (up q v) = offs q (other q u) (way-off (f .places .parent-used q) v)
 
+  still-ordered : rowFits (grown .order) ≡ true
+  unfolding addPlace
+  still-ordered = fits-later (λ q. eqb q n) (was .order) (f .places .order)
+
   add-places : Places grown
   add-places = record {
     floor-used = still-used 0 (f .places .floor-used);
@@ -138,6 +145,7 @@ module _ (c : State) (f : Fresh c) (n p m : ℕ) (n0 : n ≢ 0) (n64 : n < 64) (
     parent-used = λ q. rw parent-added
         (upd-all (parentIn was) n p (λ _ v. grown .used v ≡ true) (still-used p old) (λ r _. still-used _ (f .places .parent-used r)) q);
     small = λ q u. small q u (eq? q n);
+    order = still-ordered;
     named = λ q u z. rw name-added (named q u z (eq? q n));
   }
     where

@@ -5,9 +5,9 @@ use mathlib.Core.Path.{_≡_, refl, sym, ap, _∙_, subst}
 use mathlib.Core.Logic.{_≢_, _⊎_, inl, inr}
 use mathlib.Core.List.{List, [], _∷_}
 use mathlib.Core.Bool.{Bool, true, false, _||_, cond}
-use Prim.Native.Nat.{ℕ, zero, suc, _+_, _-_, _^_, _≤_, _<_}
+use Prim.Native.Nat.{ℕ, zero, suc, _+_, _^_, _≤_, _<_}
 use native.Mathlib.Omega.{arith}
-use lib.Dec.{ltb, leb, eqb}
+use lib.Dec.{ltb, eqb}
 use lib.ListN.{length}
 use borrow.Author.Tests.{eqb-true, eq-eqb, ne-eqb}
 use Rattle.table.specs.Base.{upd}
@@ -19,63 +19,14 @@ use Rattle.meaning.specs.Refusals.{afterEnd}
 use Rattle.meaning.specs.declared.Record.{Record}
 use Rattle.meaning.specs.declared.Record.the-variants.{PlaceRecord, AgentRecord, ActionRecord, EndRecord, TouchRecord, Faulty}
 use Rattle.meaning.specs.Update.{withTouches}
-use Rattle.meaning.specs.File.{byteAt, countAt, placeRecord, agentRecord, actionRecord, touchRecord, Known, recordAt, addPlace, addAgent, addAction, giveTouches, isFull}
+use Rattle.meaning.specs.File.{byteAt, countAt, recordAt, addPlace, addAgent, addAction, giveTouches, isFull}
 use Rattle.meaning.specs.File.{Progress, withCell, withCounted, knownIn, bareProgress, Load, accepted, refused, loadRecord, loadFrom, load}
 use Rattle.meaning.specs.FileLaws.{Fits, place, agent, action, end, touch, faulty, record-fits, bare-touches, load-either}
 use Rattle.demands.specs.Fresh.{Fresh}
 use Rattle.demands.specs.Touches.{touch-sum}
 use Rattle.demands.specs.TouchTotal.{touchesFrom, touchesIn}
+use Rattle.demands.specs.LoadingRecords.{Stands, a-place, an-agent, an-action, the-end, touches, at-fault, record-stands}
 use Rattle.demands.specs.Loading.{bare-fresh, add-place, add-agent, add-action, give-touches}
-
--- ---- the record at an offset, by its kind
-
-module _ (s : List ℕ) (at : ℕ) where
-  data Stands : Record → Type 0 where
-    a-place : {number parent name : ℕ} → byteAt s at ≡ 1 → Stands (PlaceRecord number parent name)
-    an-agent : {number home : ℕ} → byteAt s at ≡ 2 → Stands (AgentRecord number home)
-    an-action : {agent kind name : ℕ} → byteAt s at ≡ 3 → Stands (ActionRecord agent kind name)
-    the-end : byteAt s at ≡ 4 → Stands EndRecord
-    touches : {q : ℕ} → byteAt s at ≡ 5 → Stands (TouchRecord q (countAt s at))
-    at-fault : {number : ℕ} → Stands (Faulty number)
-
-  -- a test with such a record in each arm
-  either : (b : Bool) (x y : Record) → (b ≡ true → Stands x) → (b ≡ false → Stands y) → Stands (cond b x y)
-  either true x y f g = f refl
-  either false x y f g = g refl
-
-  -- with a refusal in the first arm, or in the second
-  unless : (b : Bool) (number : ℕ) (y : Record) → Stands y → Stands (cond b (Faulty number) y)
-  unless b number y g = either b (Faulty number) y (λ _. at-fault) (λ _. g)
-
-  where-known : (b : Bool) (number : ℕ) (x : Record) → Stands x → Stands (cond b x (Faulty number))
-  where-known b number x g = either b x (Faulty number) (λ _. g) (λ _. at-fault)
-
-  place-stands : (taken known : Bool) (n p m : ℕ) → byteAt s at ≡ 1 → Stands (placeRecord taken known n p m)
-  unfolding placeRecord
-  place-stands taken known n p m e = unless (ltb n 1) _ _ (unless (leb 64 n) _ _ (unless (leb 64 p) _ _ (unless taken _ _
-      (where-known known _ _ (unless (ltb m 1) _ _ (a-place e))))))
-
-  agent-stands : (taken known : Bool) (n h : ℕ) → byteAt s at ≡ 2 → Stands (agentRecord taken known n h)
-  unfolding agentRecord
-  agent-stands taken known n h e = unless (leb 64 n) _ _ (unless (leb 64 h) _ _ (unless taken _ _ (where-known known _ _ (an-agent e))))
-
-  action-stands : (known full : Bool) (n k m : ℕ) → byteAt s at ≡ 3 → Stands (actionRecord known full n k m)
-  unfolding actionRecord
-  action-stands known full n k m e = unless (leb 64 n) _ _ (where-known known _ _ (unless (ltb k 1) _ _ (unless (ltb lastKind k) _ _
-      (unless (ltb m 1) _ _ (unless full _ _ (an-action e))))))
-
-  touches-stand : (taken known : Bool) (q : ℕ) → byteAt s at ≡ 5 → Stands (touchRecord taken known q (countAt s at))
-  unfolding touchRecord
-  touches-stand taken known q e = unless (leb 64 q) _ _ (unless taken _ _ (where-known known _ _ (touches e)))
-
-  record-stands : (k : Known) → Stands (recordAt k s at)
-  unfolding recordAt
-  record-stands k =
-      either (eqb (byteAt s at) 1) _ _ (λ e. unless (ltb (length s - at) 5) _ _ (place-stands _ _ _ _ _ (eqb-true _ 1 e)))
-      (λ _. either (eqb (byteAt s at) 2) _ _ (λ e. unless (ltb (length s - at) 3) _ _ (agent-stands _ _ _ _ (eqb-true _ 2 e)))
-      (λ _. either (eqb (byteAt s at) 3) _ _ (λ e. unless (ltb (length s - at) 5) _ _ (action-stands _ _ _ _ _ (eqb-true _ 3 e)))
-      (λ _. either (eqb (byteAt s at) 4) _ _ (λ e. the-end (eqb-true _ 4 e))
-      (λ _. either (eqb (byteAt s at) 5) _ _ (λ e. unless (ltb (length s - at) 6) _ _ (touches-stand _ _ _ (eqb-true _ 5 e))) (λ _. at-fault)))))
 
 -- ---- what the records so far made
 
@@ -214,7 +165,7 @@ load-from (suc turns) p s at b = go (told (ltb at (length s))) (record-fits (kno
 
     rest : Rest turns s at → (r : Record) → Fits (knownIn p) r → Stands s at r
         → Freshly (touchSum (p .cell) + touchesFrom (suc turns) s at) (loadRecord (λ q i. loadFrom turns q s i) p s at r)
-    rest h (PlaceRecord n parent m) (place one low under new known named) (a-place e) =
+    rest h (PlaceRecord n parent m) (place one low under new known named) (a-place e _) =
         let z : n ≢ 0 = λ z. absurd (omega arith) in
         unfold loadRecord in so (omega (arith, place-sum p b n parent m z low new known named, from-five turns s at (inl e)))
         (h (withCell p (addPlace (p .cell) n parent m)) (at + 5) (begun-place p b n parent m z low new known named))

@@ -23,7 +23,7 @@ use Rattle.demands.specs.OpeningPlaces.{linked-not-floor}
 use Rattle.demands.specs.SameTree.{given-home, given-kind, given-name}
 use Rattle.demands.specs.SamePlain.{Same}
 use Rattle.demands.specs.SameSteps.{plain-quiet, plain-took, plain-choice, plain-held, plain-left, plain-came, plain-opened}
-use Rattle.demands.specs.SameSteps.{enter-result, exit-result, open-result}
+use Rattle.demands.specs.SameSteps.{chosen-pick, enter-result, exit-result, open-result}
 
 -- the tree before and after a call: one move of agent x, or no change
 pub record MovedOrSame (moves : Bool) (x : ℕ) (t u : Tree) : Type 0 where
@@ -137,7 +137,7 @@ module _ (c : State) (i : Sound c) (x : ℕ) (g : c .given x ≡ true) (t : Plai
       (exit-made s k f)
   way-follows {wish} (opens s k f) =
       let e = open-result c i x g t m s k in
-      has-moved (plain-opened c i x g t m wish (ok-at 3 s (ok-given c i x g) .0 .opener (omega arith)) (both-open c i x g s k .under) e) e (open-made s k f)
+      has-moved (plain-opened c i x g t m wish (chosen-pick c i x g t m s (λ z. absurd (omega arith))) (ok-at 3 s (ok-given c i x g) .0 .opener (omega arith)) (both-open c i x g s k .under) e) e (open-made s k f)
   way-follows {wish} (takes-own _ _) = record { same = plain-took c i x g t m _ 5 0 0 wish (λ z. absurd (omega arith)); step = unmoved }
   way-follows {wish} (takes-destination _ _) = record { same = plain-took c i x g t m _ 6 0 0 wish (λ z. absurd (omega arith)); step = unmoved }
   way-follows {wish} (comes _) = record { same = plain-came c i x g t m wish; step = unmoved }

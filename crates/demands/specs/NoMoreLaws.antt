@@ -15,7 +15,7 @@ use Rattle.meaning.specs.declared.Answer.the-variants.{Did}
 use Rattle.meaning.specs.Step.{Outcome, still, leave, dissolve, arrive, step}
 use Rattle.meaning.specs.Run.{Call, stepCall, touchCall, stepOf, made, turnedAway, callOf, run}
 use Rattle.meaning.specs.Touch.{counted, untouched, touchOf}
-use Rattle.demands.specs.NoMore.{Untouched, usedAfter, touchesAfter, NoMore, OnlyTouches}
+use Rattle.demands.specs.NoMore.{Untouched, usedAfter, touchesAfter, orderBy, NoMore, OnlyTouches}
 use Rattle.demands.specs.Invariant.{Sound}
 use Rattle.demands.specs.Ways.{Way, is-done, is-asleep, held-first, held-second, held-own, held-destination, looks-up, looks-home}
 use Rattle.demands.specs.Ways.{sleeps-alone, takes-first, goes-back, sleeps-stuck, takes-second, gives-up, enters, exits, opens}
@@ -83,6 +83,30 @@ way-touches i g (takes-own _ _) q = refl
 way-touches i g (takes-destination _ _) q = refl
 way-touches i g (comes _) q = refl
 
+-- the row of places after each way
+way-order : {c : State} {x wish : ℕ} {o : Outcome} → Way c x wish o → o .cell .land .order ≡ orderBy (o .word) c x
+unfolding still leave dissolve arrive
+way-order (is-done _) = refl
+way-order (is-asleep _) = refl
+way-order (held-first _ _) = refl
+way-order (held-second _ _ _ _) = refl
+way-order (held-own _ _) = refl
+way-order (held-destination _ _) = refl
+way-order (looks-up _ _ _) = refl
+way-order (looks-home _ _) = refl
+way-order (sleeps-alone _ _ _) = refl
+way-order (takes-first _ _) = refl
+way-order (goes-back _ _) = refl
+way-order (sleeps-stuck _ _ _) = refl
+way-order (takes-second _ _ _ _ _ _) = refl
+way-order (gives-up _ _) = refl
+way-order (enters _ _ _) = refl
+way-order (exits _ _ _) = refl
+way-order (opens _ _ _) = refl
+way-order (takes-own _ _) = refl
+way-order (takes-destination _ _) = refl
+way-order (comes _) = refl
+
 -- a step of a given agent in a sound cell
 pub step-no-more : (c : State) → Sound c → (x : ℕ) → c .given x ≡ true → (wish : ℕ)
     → NoMore c x (step c x wish .cell) (Did (step c x wish .word) (step c x wish .woken))
@@ -90,6 +114,7 @@ step-no-more c i x g wish = record {
   untouched = step-keeps c i x g wish .untouched;
   used = way-used (step-way c i x g wish);
   touches = way-touches i g (step-way c i x g wish);
+  order = way-order (step-way c i x g wish);
 }
 
 -- ---- calls on a table
@@ -100,16 +125,16 @@ made-no-more : (t : Cell) → Sized t → Sound (cellOf t) → (x : ℕ) → cel
 made-no-more t z i x g wish = subst (λ (d : State). NoMore (cellOf t) x d (Did (step (cellOf t) x wish .word) (step (cellOf t) x wish .woken)))
     (sym (step-back t z i x g wish)) (step-no-more (cellOf t) i x g wish)
 
--- a step call changes nothing that is not in use, makes no number unused but that of the place that it opens, and moves that one's touches to
--- the opener's place and no others; the table has the sizes of the struct, as every value of it has
+-- a step call changes nothing that is not in use, makes no number unused but that of the place that it opens, moves that one's touches to the
+-- opener's place and no others, and of the row those that arrive and no others; the table has the sizes of the struct, as every value of it has
 pub no-more : (t : Cell) (x wish : ℕ) → Sized t → NoMore (cellOf t) x (cellOf (stepOf t x wish .cell)) (stepOf t x wish .answer)
 unfolding stepOf made turnedAway
 no-more t x wish z = go (told (sound (cellOf t))) (told (cellOf t .given x))
   where
     go : Told (sound (cellOf t)) → Told (cellOf t .given x) → NoMore (cellOf t) x (cellOf (stepOf t x wish .cell)) (stepOf t x wish .answer)
     go (yea e) (yea g) = rw (e, g) (made-no-more t z (sound-bounded (cellOf t) (bounded t z) e) x g wish)
-    go (yea e) (nay g) = rw (e, g) (record { untouched = untouched-none (cellOf t); used = λ q. refl; touches = λ q. refl })
-    go (nay e) _ = rw e (record { untouched = untouched-none (cellOf t); used = λ q. refl; touches = λ q. refl })
+    go (yea e) (nay g) = rw (e, g) (record { untouched = untouched-none (cellOf t); used = λ q. refl; touches = λ q. refl; order = refl })
+    go (nay e) _ = rw e (record { untouched = untouched-none (cellOf t); used = λ q. refl; touches = λ q. refl; order = refl })
 
 -- a touch call changes nothing but the touches of the place that it names
 pub only-touches : (t : Cell) (q n : ℕ) → Sized t → OnlyTouches (cellOf t) q (cellOf (touchOf t q n .cell))

@@ -7,6 +7,7 @@ use mathlib.Core.Bool.{Bool, true, false, cond}
 use lib.Dec.{eqb}
 use borrow.Author.Tests.{eq-eqb, ne-eqb}
 use Rattle.table.specs.Base.{iter}
+use Rattle.order.specs.RowLaws.{fits-later}
 use Rattle.table.specs.BaseLaws.{clash, eq?, upd-at, upd-other}
 use Rattle.table.specs.Cell.{Land, linked}
 use Rattle.meaning.specs.Step.{awaited, dissolveLand}
@@ -88,6 +89,7 @@ module _ {l : Land} (i : Places l) {p t : ℕ} (u : Under l t p) where
         (opened-up (parentIn l) (i .floor-parent) t p (u .parent) (i .tree));
     parent-used = λ q. parents-used q (eq? q t) (eq? (parentIn l q) t);
     small = λ q e. i .small q (sym (used-same q (used-before q e)) ∙ e);
+    order = fits-later _ _ (i .order);
     named = λ q e z. subst (λ (n : ℕ). 1 ≤ n) (sym (name-same q (used-before q e))) (i .named q (sym (used-same q (used-before q e)) ∙ e) z);
   }
 

@@ -196,7 +196,7 @@ module _ (c : State) (i : Sound c) (x : ℕ) (g : c .given x ≡ true) where
       r = ok-at 2 e (ok-given c i x g) .0
 
       nothing : (q : ℕ) → qualifies (c .land) (kindOf (c .agent x)) (nameOf (c .agent x)) (c .agent x .home) (c .agent x .remembered) q ≡ false
-      nothing q = not-yes _ (λ t. clash t (choice-none (c .land) (c .agent x) wish ch q
+      nothing q = not-yes _ (λ t. clash t (choice-none (c .land) (c .agent x) wish (i .places .order) ch q
           (i .places .small q (link-used (c .land) q (fits-linked (c .land) _ _ _ _ q (kind-of _ (fit-given c i x g) (r .some)) t)))))
 
   -- stage 2 when it fires and the second lock is free

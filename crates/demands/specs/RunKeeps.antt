@@ -83,7 +83,7 @@ module _ (t : Cell) (i : Inv (cellOf t)) (x wish : ℕ) where
 -- a cell with some touches more has the same plain tree beside it
 same-touched : (c : State) (q n : ℕ) (p : Plain) → Same c p → Same (addTouches c q n) p
 unfolding treeOf agentIn
-same-touched c q n p m = record { tree = m .tree; travels = m .travels; pick = m .pick }
+same-touched c q n p m = record { tree = m .tree; travels = m .travels; pick = m .pick; order = m .order }
 
 -- a run keeps the plain tree beside the cell
 pub run-keeps : (calls : List Call) (t : Cell) → Sized t → Inv (cellOf t) → (p : Plain) → Same (cellOf t) p → Beside t p calls

@@ -2,6 +2,7 @@
 -- Idea: every test asks first whether a place is in use, and reads of it a name, a parent and whether it is linked.
 use mathlib.Core.Path.{_≡_, refl, ap, ap₂, _∙_, fun-ext}
 use Prim.Native.Nat.{ℕ}
+use mathlib.Core.List.{List}
 use mathlib.Core.Bool.{Bool, true, not, _&&_, cond}
 use lib.Dec.{eqb}
 use Rattle.sets.specs.Word.{upto}
@@ -9,12 +10,13 @@ use Rattle.table.specs.BaseLaws.{and-left, and-cong, any-ext}
 use Rattle.table.specs.Cell.{Land, linked, linkedTo, travels, enterKind, exitKind, openKind, answersTo}
 use Rattle.meaning.specs.Step.{onWayTo, awaited, named, entersAt, exitsFrom, opensAt, qualifies, chosenOf, choose}
 
--- l and m have the same places in use, each with the same name and parent, and linked in both or in neither
+-- l and m have the same places in use, each with the same name and parent, and linked in both or in neither, in the same order
 pub record Alike (l m : Land) : Type 0 where
   pub used : (q : ℕ) → l .used q ≡ m .used q
   pub name : (q : ℕ) → m .used q ≡ true → l .place q .name ≡ m .place q .name
   pub parent : (q : ℕ) → m .used q ≡ true → l .place q .parent ≡ m .place q .parent
   pub way : (q : ℕ) → m .used q ≡ true → eqb (l .place q .way) 0 ≡ eqb (m .place q .way) 0
+  pub order : l .order ≡ m .order
 
 module _ (l m : Land) (s : Alike l m) where
   -- two tests of a place in use that agree
@@ -67,4 +69,5 @@ module _ (l m : Land) (s : Alike l m) where
   -- stage 2 chooses the same place in both
   pub choose-alike : (kind n home p wish : ℕ) → choose l kind n home p wish ≡ choose m kind n home p wish
   unfolding choose
-  choose-alike kind n home p wish = ap (λ (f : ℕ → Bool). chosenOf (upto 64 f) wish) (fun-ext (qualifies-alike kind n home p))
+  choose-alike kind n home p wish =
+      ap₂ (λ (row : List ℕ) (f : ℕ → Bool). chosenOf row (upto 64 f) wish) (s .order) (fun-ext (qualifies-alike kind n home p))

@@ -18,11 +18,12 @@ use Rattle.demands.specs.SamePlaces.{Alike}
 abbrev pub Picked : (ℕ → ℕ) → ℕ → Agent → Type 0
 Picked pick x a = a .stage ≡ holdingBoth → kindOf a ≢ exitKind → pick x ≡ a .chosen
 
--- the plain tree has the cell's tree, the same places travel, and agents holding both places have their chosen place as their pick
+-- the plain tree has the cell's tree and the order of its places, the same places travel, and agents holding both places have their chosen place as their pick
 pub record Same (c : State) (t : Plain) : Type 0 where
   pub tree : t .tree ≡ treeOf c
   pub travels : t .travels ≡ travels (c .land)
   pub pick : (x : ℕ) → Picked (t .pick) x (agentIn c x)
+  pub order : t .order ≡ c .land .order
 
 -- ---- what stage 2 chooses
 
@@ -35,6 +36,7 @@ same-places c t i m = record {
   parent = λ q u. ap (λ v. v .parent q) (m .tree) ∙ rw u;
   way = λ q u. ap (λ (f : ℕ → Bool). eqb (cond (eqb q 0 || f q) 1 0) 0) (m .travels)
       ∙ way q u (told (eqb q 0)) (told (eqb (c .land .place q .way) 0));
+  order = m .order;
 }
   where
     way : (q : ℕ) → c .land .used q ≡ true → Told (eqb q 0) → Told (eqb (c .land .place q .way) 0)

@@ -1,11 +1,14 @@
 -- What a step does to the cell the plain tree does too, by the answered word alone: steps that change no place, leaving, coming and opening.
 -- Idea: its pick at the second took is the cell's choice, since both read places alike; leaving and opening are then the same move in both.
-use mathlib.Core.Path.{_≡_, refl, sym, ap, ap₂, _∙_, subst}
+use mathlib.Core.Path.{_≡_, refl, sym, ap, ap₂, _∙_, subst, fun-ext}
 use mathlib.Core.Logic.{_≢_, inl}
-use mathlib.Core.Bool.{Bool, true, false}
+use mathlib.Core.Bool.{Bool, true, false, not, _&&_}
+use mathlib.Core.List.{List}
 use Prim.Native.Nat.{ℕ}
 use native.Mathlib.Omega.{arith}
-use borrow.Author.Tests.{ne-eqb}
+use lib.Dec.{eqb}
+use borrow.Author.Tests.{eqb-true, ne-eqb}
+use Rattle.order.specs.Row.{later, latest}
 use Rattle.table.specs.Base.{upd}
 use Rattle.table.specs.BaseLaws.{Told, yea, nay, told, upd-same, upd-other, upd-all}
 use Rattle.table.specs.Cell.{State, linked, travels, nextAction, kindOf, nameOf, enterKind, exitKind, openKind, looksHome}
@@ -14,14 +17,14 @@ use Rattle.table.specs.declared.Action.{Action}
 use Rattle.table.specs.declared.Agent.{Agent}
 use Rattle.meaning.specs.declared.Word.the-variants.{Took, Left, Came, Opened}
 use Rattle.meaning.specs.Update.{atStage, useUp, withLocks}
-use Rattle.meaning.specs.Step.{choose, choice, stays, leave, dissolve, arrive, beyond, restStage, dissolveAgent}
-use Rattle.meaning.specs.Calculus.{nextOf, putInto, openUp, move}
+use Rattle.meaning.specs.Step.{choose, choice, stays, leave, childOf, dissolve, arrive, beyond, restStage, dissolveAgent}
+use Rattle.meaning.specs.Calculus.{nextOf, standsAt, putInto, openUp, move}
 use Rattle.meaning.specs.Plain.{Plain, withPicks, treeOf, landIn, heldIn, pickOf, plainWord}
 use Rattle.demands.specs.Reading.{parentIn, agentIn}
 use Rattle.demands.specs.ReadingLaws.{travels-sent, travels-linked, travels-dissolved, agent-given, agent-turned, wakeAgent}
 use Rattle.demands.specs.ReadingLaws.{agent-woken, agent-dissolved}
 use Rattle.demands.specs.Invariant.{Under, Sound}
-use Rattle.demands.specs.Facts.{link-used, stays-under}
+use Rattle.demands.specs.Facts.{link-used, parent-read, stays-under}
 use Rattle.demands.specs.Stages.{ok-at, rest-stage, not-between, SameOrReset, same-between, ok-given, both-move}
 use Rattle.demands.specs.Ways.{goesOn}
 use Rattle.demands.specs.StepWays.{kind-given}
@@ -45,7 +48,7 @@ module _ (c : State) (i : Sound c) (x : ℕ) (g : c .given x ≡ true) (t : Plai
   next : nextOf (t .tree) x ≡ nextAction a
   next = ap (λ v. nextOf v x) (m .tree) ∙ given-next c x g (i .fit x)
 
-  chosen-pick : a .stage ≡ 3 → kindOf a ≢ exitKind → t .pick x ≡ a .chosen
+  pub chosen-pick : a .stage ≡ 3 → kindOf a ≢ exitKind → t .pick x ≡ a .chosen
   chosen-pick = subst (Picked (t .pick) x) (agent-given c x g) (m .pick x)
 
   -- ---- the picks of all agents, when x becomes b and every other agent becomes what f says
@@ -65,6 +68,7 @@ module _ (c : State) (i : Sound c) (x : ℕ) (g : c .given x ≡ true) (t : Plai
     tree = m .tree ∙ sym (tree-quiet c x g locks stage remembered chosen);
     travels = m .travels;
     pick = picks pick (agentIn c) b (agent-turned c x b g) p o (λ y. inl refl);
+    order = m .order;
   }
     where
       b : Agent
@@ -120,6 +124,7 @@ module _ (c : State) (i : Sound c) (x : ℕ) (g : c .given x ≡ true) (t : Plai
     pick = picks (t .pick) (λ y. wakeAgent (a .remembered) (a .home) (a .home) (agentIn c y)) gone
         (agent-woken c (a .remembered) (a .home) (a .home) x gone g) (λ s. absurd (omega arith)) (λ y _. refl)
         (λ y. roused-reset (rouses (a .remembered) (a .home) (a .home) (agentIn c y)));
+    order = m .order;
   }
     where
       u : c .land .used (a .home) ≡ true
@@ -137,6 +142,7 @@ module _ (c : State) (i : Sound c) (x : ℕ) (g : c .given x ≡ true) (t : Plai
     pick = picks (t .pick) (λ y. wakeAgent (a .home) d (beyond (c .land) d) (agentIn c y)) gone
         (agent-woken c (a .home) d (beyond (c .land) d) x gone g) (λ s. absurd (not-between (rest-stage a) (omega arith) (omega arith)))
         (λ y _. refl) (λ y. roused-reset (rouses (a .home) d (beyond (c .land) d) (agentIn c y)));
+    order = ap₂ latest home (m .order);
   }
     where
       d : ℕ
@@ -145,18 +151,32 @@ module _ (c : State) (i : Sound c) (x : ℕ) (g : c .given x ≡ true) (t : Plai
       gone : Agent
       gone = atStage a (restStage a) 0 0
 
+  -- what stands in a place other than the floor: the same in the cell and in its tree
+  freed : (p : ℕ) → p ≢ 0 → (q : ℕ) → standsAt (treeOf c) q p ≡ childOf (c .land) p q
+  unfolding standsAt treeOf
+  freed p n q = go (told (c .land .used q)) (told (eqb q 0))
+    where
+      floor : c .land .used q ≡ true → eqb q 0 ≡ true → c .land .place q .parent ≡ 0
+      floor k o = sym (parent-read (c .land) q k) ∙ ap (parentIn (c .land)) (eqb-true q 0 o) ∙ i .places .floor-parent
+
+      go : Told (c .land .used q) → Told (eqb q 0) → standsAt (treeOf c) q p ≡ childOf (c .land) p q
+      go (yea k) (yea o) = rw (k, o) (sym (ne-eqb (c .land .place q .parent) p (λ e. n (sym e ∙ floor k o))))
+      go (yea k) (nay o) = rw (k, o)
+      go (nay k) _ = rw k
+
   -- opened: the move is made in both
-  pub plain-opened : (wish : ℕ) → a .remembered ≡ a .home → Under (c .land) (a .chosen) (a .remembered)
+  pub plain-opened : (wish : ℕ) → t .pick x ≡ a .chosen → a .remembered ≡ a .home → Under (c .land) (a .chosen) (a .remembered)
       → move (t .tree) x (t .pick x) ≡ openUp (treeOf c) x (a .chosen)
       → Same (dissolve c x a (a .remembered) (a .chosen) .cell) (plainWord t x wish Opened)
   unfolding plainWord agentIn dissolve
-  plain-opened wish h u e = record {
+  plain-opened wish picked h u e = record {
     tree = e ∙ sym (tree-opened c x g (a .remembered) (a .chosen) h (λ z. child-not-self (i .places) u (h ∙ z)) z);
     travels = m .travels ∙ sym (travels-dissolved (c .land) (a .remembered) (a .chosen) (u .link));
     pick = picks (t .pick) (λ y. dissolveAgent (a .remembered) (a .chosen) (agentIn c y)) gone
         (agent-dissolved c (a .remembered) (a .chosen) x gone g z)
         (λ s. absurd (not-between (rest-stage (useUp a)) (omega arith) (omega arith))) (λ y _. refl)
         (λ y. dissolved-reset (dissolved (a .remembered) (a .chosen) (agentIn c y)));
+    order = ap₂ later (fun-ext (λ q. ap₂ (λ v (p : ℕ). standsAt v q p) (m .tree) picked ∙ freed (a .chosen) z q)) (m .order);
   }
     where
       z : a .chosen ≢ 0

@@ -14,7 +14,7 @@ use Rattle.table.specs.Bounds.{Bounded}
 use Rattle.table.specs.Cell.{State, none, freshAgent}
 use Rattle.table.specs.Sound.{firstHeld, secondHeldIn, lockIs, claims, goes, agentFits, agentSound, stands, travellersFit, placeFits}
 use Rattle.table.specs.Sound.{placeSound, leads, coreSound, sound}
-use Rattle.table.specs.SoundParts.{sound-core, sound-touches, parts-sound}
+use Rattle.table.specs.SoundParts.{sound-core, sound-touches, sound-order, parts-sound}
 use Rattle.table.specs.declared.Agent.{Agent}
 use Rattle.demands.specs.Reading.{agentIn}
 use Rattle.demands.specs.ReadingLaws.{agent-given}
@@ -80,7 +80,7 @@ module _ (c : State) where
     )
 
     pub sound-true : sound c ≡ true
-    sound-true = parts-sound c core-true (i .touched)
+    sound-true = parts-sound c core-true (i .touched) (i .places .order)
 
   -- ---- and back
 
@@ -118,7 +118,7 @@ module _ (c : State) where
 
     places : Places (c .land)
     places = places-hold (c .land) floor small (λ q u. and-left (stands q (c .land .place q) (c .land .used (c .land .place q .parent))) _
-        (others q u)) leads-fits
+        (others q u)) leads-fits (sound-order c t)
 
     travellers : (q : ℕ) → c .land .used q ≡ true → travellersFit q (c .land .place q .way) (countBelow (goes c q) 64) ≡ true
     travellers q u = and-right (stands q (c .land .place q) (c .land .used (c .land .place q .parent))) _ (others q u)

@@ -7,6 +7,7 @@ use mathlib.Core.Bool.{true, false, not, _&&_}
 use Prim.Native.Nat.{ℕ, zero, suc, _≤_, _<_}
 use lib.Dec.{leb, eqb}
 use borrow.Author.Tests.{eqb-true, eq-eqb, ne-eqb, le-leb, leb-true, not-true}
+use Rattle.order.specs.Row.{rowFits}
 use Rattle.table.specs.Base.{iter}
 use Rattle.table.specs.BaseLaws.{Told, yea, nay, told, eq?, and-left, and-right}
 use Rattle.table.specs.Cell.{Land, linked}
@@ -64,7 +65,7 @@ module _ (l : Land) where
 
   module _ (floor : l .used 0 ≡ true) (small : (q : ℕ) → l .used q ≡ true → q < 64)
       (s : (q : ℕ) → l .used q ≡ true → stands q (l .place q) (l .used (parent q)) ≡ true)
-      (leads : (q : ℕ) → l .used q ≡ true → iter parent 64 q ≡ 0) where
+      (leads : (q : ℕ) → l .used q ≡ true → iter parent 64 q ≡ 0) (row : rowFits (l .order) ≡ true) where
     floor-is : (eqb (l .place 0 .name) 0 && (eqb (parent 0) 0 && not (eqb (l .place 0 .way) 0))) ≡ true
     floor-is = s 0 floor
 
@@ -102,6 +103,7 @@ module _ (l : Land) where
       tree = λ q. tree q (told (l .used q));
       parent-used = λ q. above q (told (l .used q));
       small = small;
+      order = row;
       named = λ q u n. subst (λ (k : ℕ). 1 ≤ k) (sym (name-read l q u)) (leb-true _ _ (and-left (leb 1 (l .place q .name)) _ (placed q u n)));
     }
       where

@@ -2,6 +2,7 @@
 -- One value changed at a number in use is no change at one that is not.
 use mathlib.Core.Path.{_≡_, refl, ap, _∙_}
 use mathlib.Core.Bool.{Bool, true, false, not, and-false}
+use mathlib.Core.List.{List}
 use Prim.Native.Nat.{ℕ}
 use lib.Dec.{eqb}
 use Rattle.table.specs.Base.{upd}
@@ -10,7 +11,7 @@ use Rattle.table.specs.Bounds.{Bounded}
 use Rattle.table.specs.Cell.{State, none}
 use Rattle.table.specs.declared.Place.{Place}
 use Rattle.table.specs.declared.Agent.{Agent}
-use Rattle.meaning.specs.Update.{withPlaces, withLand, withLocks, withAgents, withAgent, released}
+use Rattle.meaning.specs.Update.{withPlaces, withOrder, withLand, withLocks, withAgents, withAgent, released}
 use Rattle.meaning.specs.Step.{wake, dissolve, dissolveLock}
 use Rattle.demands.specs.NoMore.{Untouched}
 
@@ -65,12 +66,12 @@ module _ (c : State) (x : ℕ) (g : c .given x ≡ true) where
     touches = λ q u. refl;
   }
 
-  -- sleepers are woken, and place h changes too
-  pub woken-untouched : (p q r h : ℕ) (a : Agent) (locks : ℕ → ℕ) (new : Place) → c .land .used h ≡ true
+  -- sleepers are woken, place h changes too, and so may the row
+  pub woken-untouched : (p q r h : ℕ) (a : Agent) (locks : ℕ → ℕ) (new : Place) (row : List ℕ) → c .land .used h ≡ true
       → ((s : ℕ) → c .land .used s ≡ false → locks s ≡ c .lock s)
-      → Untouched c (withLand (withLocks (withAgents c (upd (wake c p q r) x a)) locks) (withPlaces (c .land) (upd (c .land .place) h new)))
+      → Untouched c (withLand (withLocks (withAgents c (upd (wake c p q r) x a)) locks) (withOrder (withPlaces (c .land) (upd (c .land .place) h new)) row))
   unfolding wake
-  woken-untouched p q r h a locks new u same = record {
+  woken-untouched p q r h a locks new row u same = record {
     place = upd-outside (c .land .used) (c .land .place) h new u;
     lock = same;
     unused = λ s v. v;

@@ -7,9 +7,9 @@ use Prim.Native.Nat.{ℕ, _+_, _*_}
 abbrev pub versionNumber : ℕ → ℕ → ℕ → ℕ
 versionNumber major minor patch = major * 65536 + minor * 256 + patch
 
--- version 2.0.0
+-- version 3.0.0
 abbrev pub keeperVersion : ℕ
-keeperVersion = versionNumber 2 0 0
+keeperVersion = versionNumber 3 0 0
 
 -- ---- how many bytes a cell has, field by field, as C lays it out
 
@@ -25,6 +25,6 @@ actionBytes = 1 + 1 + 2
 abbrev pub agentBytes : ℕ
 agentBytes = 6 + 16 * actionBytes
 
--- 64 places, a lock for each, 64 agents, two sets of eight bytes, and 64 counts of touches
+-- 64 places, a lock for each, 64 agents, two sets of eight bytes, 64 counts of touches, and the row of 64 numbers
 abbrev pub cellBytes : ℕ
-cellBytes = 64 * placeBytes + 64 + 64 * agentBytes + 2 * 8 + 64 * 8
+cellBytes = 64 * placeBytes + 64 + 64 * agentBytes + 2 * 8 + 64 * 8 + 64

@@ -6,12 +6,13 @@ use mathlib.Core.List.{List, [], _∷_, _++_}
 use Prim.Native.Nat.{ℕ}
 use Prim.Native.String.{String}
 use lib.Dec.{eqb}
-use Rattle.sets.specs.Word.{has, wordOf, countOf, lowestOf}
+use Rattle.sets.specs.Word.{has, wordOf, countOf}
+use Rattle.order.specs.Row.{keep, later, firstIn, occurs, counting, countingRow, hasAll, allSmall, rowFits}
 use Rattle.table.specs.Base.{upd, tab, foldUp, allBelow, anyBelow, countBelow, sumBelow, iter}
 use Rattle.table.specs.Cell.{cellOf, tableOf, bareTable, linked, linkedTo, travels, nextAction}
 use Rattle.table.specs.Idle.{idle}
 use Rattle.table.specs.Sound.{actionsFit, ready, holdsBoth, stageFits, firstHeld, secondHeld, lockIs, claims, agentFits, goingFrom, goes, placeFits}
-use Rattle.table.specs.Sound.{coreSound, touchSum, sound}
+use Rattle.table.specs.Sound.{coreSound, touchSum, booksSound, sound}
 use Rattle.meaning.specs.File.{placeRecord, agentRecord, actionRecord, touchRecord, recordAt, addPlace, addAgent, withAction, addAction, giveTouches}
 use Rattle.meaning.specs.File.{loadRecord, loadFrom, load, loaded, loadOf}
 use Rattle.meaning.specs.Step.{onWayTo, awaited, entersAt, exitsFrom, opensAt, qualifies, chosenOf, choose, fires, stays, still, turn, take, release}
@@ -34,9 +35,10 @@ use Rattle.meaning.specs.BenchSound.{soundRows}
 use Rattle.meaning.specs.BenchCalls.{callRows}
 use Rattle.meaning.specs.BenchAfter.{afterRows}
 use Rattle.meaning.specs.BenchTouch.{crib, touchRows}
+use Rattle.meaning.specs.BenchOrder.{firstRows, orderRows}
 
 pub rows : List Row
-rows = paperRows ++ (slipRows ++ (fileRows ++ (stepRows ++ listingRows)))
+rows = paperRows ++ (slipRows ++ (fileRows ++ (stepRows ++ (firstRows ++ listingRows))))
 
 -- two texts are the same
 same : List ℕ → List ℕ → Bool
@@ -58,9 +60,9 @@ allSame (r ∷ rest) = same (report (r .cell) (r .order)) (textOf (r .lines)) &&
 
 -- computed by the checker from the definitions alone
 pub bench : allSame rows ≡ true
-unfolding allSame rows paperRows slipRows fileRows stepRows listingRows textOf file manyOpens calls same has wordOf countOf lowestOf
+unfolding allSame rows paperRows slipRows fileRows stepRows firstRows listingRows textOf file manyOpens calls same has wordOf countOf keep later firstIn occurs counting countingRow hasAll allSmall rowFits
     chosenOf upd tab foldUp allBelow anyBelow countBelow iter cellOf tableOf bareTable linked linkedTo travels nextAction actionsFit ready
-    holdsBoth stageFits firstHeld secondHeld lockIs claims agentFits goingFrom goes placeFits coreSound sumBelow touchSum sound placeRecord agentRecord actionRecord touchRecord
+    holdsBoth stageFits firstHeld secondHeld lockIs claims agentFits goingFrom goes placeFits coreSound sumBelow touchSum booksSound sound placeRecord agentRecord actionRecord touchRecord
     recordAt addPlace addAgent withAction addAction giveTouches loadRecord loadFrom load onWayTo awaited entersAt exitsFrom opensAt qualifies choose
     fires stays still turn take release asleepOn wake look lockFirst lockSecond hold leave dissolveAgent wokenBy dissolveLock dissolve act
     arrive travel stepAt step made turnedAway stepOf digits gap kindText actionText agentText listsIn agentsText standsUnder bracketed
@@ -73,12 +75,12 @@ unfolding same
 allMeant [] = true
 allMeant (r ∷ rest) = same (r .value) (r .meant) && allMeant rest
 
--- what walk cannot show: soundness clause by clause, the calls and answers of a host, the table after each kind of step, and touches
-pub numbers : allMeant (soundRows ++ (callRows ++ (afterRows ++ touchRows))) ≡ true
-unfolding allMeant soundRows callRows afterRows touchRows crib counted untouched touchOf touchesOf callOf run sample topmost checkOf idleOf idle loadOf loaded listAnswer listBuffer overlay settled rests file manyOpens
-    calls same has wordOf countOf lowestOf chosenOf upd tab foldUp allBelow anyBelow countBelow iter cellOf tableOf bareTable linked
+-- what walk cannot show: soundness clause by clause, the calls and answers of a host, the table after each kind of step, touches, and the row of places
+pub numbers : allMeant (soundRows ++ (callRows ++ (afterRows ++ (touchRows ++ orderRows)))) ≡ true
+unfolding allMeant soundRows callRows afterRows touchRows orderRows crib counted untouched touchOf touchesOf callOf run sample topmost checkOf idleOf idle loadOf loaded listAnswer listBuffer overlay settled rests file manyOpens
+    calls same has wordOf countOf keep later firstIn occurs counting countingRow hasAll allSmall rowFits chosenOf upd tab foldUp allBelow anyBelow countBelow iter cellOf tableOf bareTable linked
     linkedTo travels nextAction actionsFit ready holdsBoth stageFits firstHeld secondHeld lockIs claims agentFits goingFrom goes placeFits
-    coreSound sumBelow touchSum sound placeRecord agentRecord actionRecord touchRecord recordAt addPlace addAgent withAction addAction giveTouches loadRecord loadFrom load onWayTo awaited
+    coreSound sumBelow touchSum booksSound sound placeRecord agentRecord actionRecord touchRecord recordAt addPlace addAgent withAction addAction giveTouches loadRecord loadFrom load onWayTo awaited
     entersAt exitsFrom opensAt qualifies choose fires stays still turn take release asleepOn wake look lockFirst lockSecond hold leave
     dissolveAgent wokenBy dissolveLock dissolve act arrive travel stepAt step made turnedAway stepOf digits gap kindText actionText
     agentText listsIn agentsText standsUnder bracketed contentsText listing wordText stepLine refusedLine listingLine callsIn reportRun

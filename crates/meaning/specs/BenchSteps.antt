@@ -7,7 +7,8 @@ stepRows =
     -- "Enter and open choose the wished place if it qualifies": place 3, by the wish at stage 2 alone
     row (file (place 1 0 3 ∷ place 2 0 4 ∷ place 3 0 4 ∷ place 4 0 5 ∷ agent 0 1 ∷ enters 0 4 ∷ [])) (hex "00 02 00 02 00 03 00 02")
     ("start 3[enter 4] | 4[] | 4[] | 5[]" ∷ "0 looked 0" ∷ "0 took 0" ∷ "0 took 0" ∷ "0 left 0" ∷ "end 4[] | 4[3[]] | 5[]" ∷ [])
-    -- "else the lowest qualifying number": a wish for an unfit place
+    -- else "the qualifying place that has been under this parent longest" (document 02, W5), here the one that the file gives first: a wish for
+    -- an unfit place
     ∷ row (file (place 1 0 3 ∷ place 2 0 4 ∷ place 3 0 4 ∷ place 4 0 5 ∷ agent 0 1 ∷ enters 0 4 ∷ [])) (hex "00 03 00 03 00 04 00 03")
     ("start 3[enter 4] | 4[] | 4[] | 5[]" ∷ "0 looked 0" ∷ "0 took 0" ∷ "0 took 0" ∷ "0 left 0" ∷ "end 4[3[]] | 4[] | 5[]" ∷ [])
     -- "Other wishes are passed over": 67 is not 3
@@ -19,7 +20,7 @@ stepRows =
     -- open: the wished place
     ∷ row (file (place 1 0 4 ∷ place 2 0 4 ∷ agent 0 0 ∷ opens 0 4 ∷ opens 0 4 ∷ place 3 2 6 ∷ [])) (hex "00 ff 00 ff 00 02 00 ff")
     ("start open 4.open 4 | 4[] | 4[6[]]" ∷ "0 looked 0" ∷ "0 took 0" ∷ "0 took 0" ∷ "0 opened 0" ∷ "end open 4 | 4[] | 6[]" ∷ [])
-    -- open: the lowest, and then "only an agent's next action counts"
+    -- open: the one that the file gives first, and then "only an agent's next action counts"
     ∷ row (file (place 1 0 4 ∷ place 2 0 4 ∷ agent 0 0 ∷ opens 0 4 ∷ opens 0 6 ∷ place 3 2 6 ∷ [])) (agents "0 0 0 0 0 0 0")
     ("start open 4.open 6 | 4[] | 4[6[]]" ∷ "0 looked 0" ∷ "0 took 0" ∷ "0 took 0" ∷ "0 opened 0" ∷ "0 looked 0" ∷ "0 took 0" ∷ "0 slept 0" ∷
     "end open 6 | 4[6[]]" ∷ [])

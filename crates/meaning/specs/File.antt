@@ -4,6 +4,7 @@ use mathlib.Core.Bool.{Bool, false, _||_, cond}
 use mathlib.Core.List.{List, [], _∷_}
 use lib.Dec.{ltb, leb, eqb}
 use lib.ListN.{length, getD, set}
+use Rattle.order.specs.Row.{later, latest}
 use Rattle.table.specs.Base.{upd}
 use Rattle.table.specs.Cell.{State, cellOf, tableOf, bareTable, looking, lastKind}
 use Rattle.table.specs.declared.Agent.{Agent}
@@ -14,7 +15,7 @@ use Rattle.meaning.specs.declared.Verdict.the-variants.{Accepted, Reject
 use Rattle.meaning.specs.declared.Loaded.{Loaded}
 use Rattle.meaning.specs.Refusals.{cutShort, unknownKind, placeTooLarge, parentTooLarge, agentTooLarge, givenTwice, notYetGiven}
 use Rattle.meaning.specs.Refusals.{nameZero, wrongKind, seventeenth, afterEnd}
-use Rattle.meaning.specs.Update.{linkedPlace, withHome, withStage, withCount, withActions, withPlaces, withUsed, withLand, withGiven, withAgent, withTouches}
+use Rattle.meaning.specs.Update.{linkedPlace, withHome, withStage, withCount, withActions, withPlaces, withUsed, withOrder, withLand, withGiven, withAgent, withTouches}
 
 -- "Two-byte numbers have the low byte first"
 abbrev pub twoBytes : ℕ → ℕ → ℕ
@@ -112,11 +113,13 @@ recordAt k s at =
 
 -- ---- what a record adds
 
--- a new place, linked to its parent
+-- a new place, linked to its parent: "Loaded places count in file order" (document 02, W5), so it is the latest
 unfoldable pub addPlace : State → ℕ → ℕ → ℕ → State
-addPlace c number parent name = withLand c (withUsed
+unfolding later
+addPlace c number parent name = withLand c (withOrder (withUsed
     (withPlaces (c .land) (upd (c .land .place) number (linkedPlace name parent)))
     (λ j. eqb j number || c .land .used j))
+    (latest number (c .land .order)))
 
 -- a new agent: "an agent loaded without actions is at 8"
 unfoldable pub addAgent : State → ℕ → ℕ → State

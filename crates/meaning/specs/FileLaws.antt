@@ -11,6 +11,7 @@ use lib.Dec.{ltb, leb, eqb}
 use lib.ListN.{length, getD, replicate, getD-replicate, List·getD-eq-default}
 use borrow.Author.Tests.{ltb-true, ltb-false, leb-false}
 use Rattle.sets.specs.WordLaws.{has-pow, has-none}
+use Rattle.order.specs.Row.{countingRow}
 use Rattle.table.specs.BaseLaws.{Told, yea, nay, told}
 use Rattle.table.specs.Cell.{cellOf, bareTable, noPlace, noAgent, freshAgent, none, lastKind}
 use Rattle.table.specs.Bounds.{Bounded}
@@ -182,6 +183,10 @@ bare-touches q = go (told (ltb q 64))
     go : Told (ltb q 64) → _≡_ {A = ℕ} (getD (replicate 64 0) q 0) 0
     go (yea e) = getD-replicate 64 q 0 0 (ltb-true q 64 e)
     go (nay e) = List·getD-eq-default (replicate 64 0) 0 (ltb-false q 64 e)
+
+pub bare-order : cellOf bareTable .land .order ≡ countingRow
+unfolding cellOf bareTable
+bare-order = refl
 
 -- ---- the whole file
 

@@ -21,6 +21,7 @@ pub mod BenchSound
 pub mod BenchCalls
 pub mod BenchAfter
 pub mod BenchTouch
+pub mod BenchOrder
 pub mod Bench
 pub mod FileLaws
 pub mod OrderLaws

@@ -5,6 +5,7 @@ use mathlib.Core.Path.{_≡_}
 use mathlib.Core.Bool.{Bool, true, false, _||_, cond}
 use mathlib.Core.List.{List, [], _∷_}
 use lib.Dec.{eqb}
+use Rattle.order.specs.Row.{later, latest}
 use Rattle.table.specs.Base.{upd}
 use Rattle.table.specs.Cell.{Land, State, none, unused, exitKind, looksHome}
 use Rattle.table.specs.declared.Action.{Action}
@@ -12,26 +13,30 @@ use Rattle.meaning.specs.declared.Word.{Word}
 use Rattle.meaning.specs.declared.Word.the-variants.{Looked, Took, Held, Back, Slept, Left, Came, Opened, Asleep, Done}
 use Rattle.meaning.specs.declared.Answer.the-variants.{Did, Refused}
 use Rattle.meaning.specs.Step.{choose}
-use Rattle.meaning.specs.Calculus.{Tree, nextOf, move, Move}
+use Rattle.meaning.specs.Calculus.{Tree, nextOf, standsAt, move, Move}
 use Rattle.meaning.specs.Run.{Call, agentOf, wishOf, Reply, stepReply, touchReply}
 
 -- "It knows each place's name and where it stands, each agent's home and unused actions, which places travel, and a pick for each agent";
--- 64 is no pick
+-- 64 is no pick. "The plain tree knows this order too, from the file and the words came and opened, and picks by it" (document 02, W5)
 pub record Plain : Type 0 where
   pub tree : Tree
   pub travels : ℕ → Bool
   pub pick : ℕ → ℕ
+  pub order : List ℕ
 
 -- ---- one part of a plain tree written anew: besides plainOf the only definitions that write one out
 
 abbrev pub withTree : Plain → Tree → Plain
-withTree t u = record { tree = u; travels = t .travels; pick = t .pick }
+withTree t u = record { tree = u; travels = t .travels; pick = t .pick; order = t .order }
 
 abbrev pub withTravels : Plain → (ℕ → Bool) → Plain
-withTravels t f = record { tree = t .tree; travels = f; pick = t .pick }
+withTravels t f = record { tree = t .tree; travels = f; pick = t .pick; order = t .order }
 
 abbrev pub withPicks : Plain → (ℕ → ℕ) → Plain
-withPicks t f = record { tree = t .tree; travels = t .travels; pick = f }
+withPicks t f = record { tree = t .tree; travels = t .travels; pick = f; order = t .order }
+
+abbrev pub withRow : Plain → List ℕ → Plain
+withRow t row = record { tree = t .tree; travels = t .travels; pick = t .pick; order = row }
 
 -- ---- the start
 
@@ -53,7 +58,7 @@ treeOf c = treeFrom (c .land) (λ x. cond (c .given x) (c .agent x .home) 0) (λ
 -- "It starts as the file says, with nothing travelling and no picks": c is the cell that the file gives
 unfoldable pub plainOf : State → Plain
 unfolding treeOf
-plainOf c = record { tree = treeOf c; travels = λ q. false; pick = λ x. none }
+plainOf c = record { tree = treeOf c; travels = λ q. false; pick = λ x. none; order = c .land .order }
 
 -- ---- took: the pick
 
@@ -62,6 +67,7 @@ unfoldable pub landIn : Plain → Land
 landIn t = record {
   place = λ q. record { name = t .tree .name q; parent = t .tree .parent q; way = cond (eqb q 0 || t .travels q) 1 0 };
   used = t .tree .used;
+  order = t .order;
 }
 
 -- "There p is where its own place stands (open: its own place)"
@@ -79,13 +85,14 @@ pickOf t a wish =
 
 -- "took: the agent's pick becomes the place that stage 2 would choose here. left: its own place now stands in the pick (enter), or where the
 -- place around it stands (exit), and travels; the action is used up. opened: places and agents in the pick go to its own place, the
--- pick's number becomes unused; the action is used up. came: its own place travels no more."
+-- pick's number becomes unused; the action is used up. came: its own place travels no more." "A place that comes is the latest; children freed
+-- by an opening become the latest and keep their order among themselves" (document 02, W5)
 unfoldable pub plainWord : Plain → ℕ → ℕ → Word → Plain
-unfolding pickOf
+unfolding pickOf later standsAt
 plainWord t a wish Took = withPicks t (upd (t .pick) a (pickOf t a wish))
 plainWord t a wish Left = withTravels (withTree t (move (t .tree) a (t .pick a))) (upd (t .travels) (t .tree .home a) true)
-plainWord t a wish Opened = withTree t (move (t .tree) a (t .pick a))
-plainWord t a wish Came = withTravels t (upd (t .travels) (t .tree .home a) false)
+plainWord t a wish Opened = withRow (withTree t (move (t .tree) a (t .pick a))) (later (λ q. standsAt (t .tree) q (t .pick a)) (t .order))
+plainWord t a wish Came = withRow (withTravels t (upd (t .travels) (t .tree .home a) false)) (latest (t .tree .home a) (t .order))
 plainWord t a wish Looked = t
 plainWord t a wish Held = t
 plainWord t a wish Back = t

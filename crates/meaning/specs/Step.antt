@@ -1,8 +1,10 @@
 -- One lock step (document 01, "One step"), over total functions: the agent's stage decides the step.
 use Prim.Native.Nat.{ℕ, _+_, _%_, _^_}
 use mathlib.Core.Bool.{Bool, not, _&&_, _||_, cond}
+use mathlib.Core.List.{List}
 use lib.Dec.{ltb, leb, eqb}
-use Rattle.sets.specs.Word.{countOf, lowestOf, upto}
+use Rattle.sets.specs.Word.{countOf, upto}
+use Rattle.order.specs.Row.{later, latest, firstIn}
 use Rattle.table.specs.Base.{upd, anyBelow}
 use Rattle.table.specs.Cell.{Land, State, none, noPlace, linked, linkedTo, travels, hasAction, kindOf, nameOf, enterKind, exitKind, openKind}
 use Rattle.table.specs.Cell.{looksHome, answersTo, looking, found, holding, holdingBoth, onWay, onWayOwn, onWayBoth, asleep, done}
@@ -11,7 +13,7 @@ use Rattle.table.specs.declared.Place.{Place}
 use Rattle.table.specs.declared.Agent.{Agent}
 use Rattle.meaning.specs.declared.Word.{Word}
 use Rattle.meaning.specs.declared.Word.the-variants.{Looked, Took, Held, Back, Slept, Left, Came, Opened, Asleep, Done}
-use Rattle.meaning.specs.Update.{withParent, withWay, withHome, atStage, useUp, withPlaces, withUsed, withLand, withLocks, withAgents, withAgent, withTouches, released}
+use Rattle.meaning.specs.Update.{withParent, withWay, withHome, atStage, useUp, withPlaces, withUsed, withOrder, withLand, withLocks, withAgents, withAgent, withTouches, released}
 
 -- "The answer is a word and how many agents the step woke", with the cell after the step
 pub record Outcome : Type 0 where
@@ -52,15 +54,16 @@ qualifies l kind n home p q =
     (cond (eqb kind exitKind) (eqb q p && exitsFrom l n p)
     (opensAt l n p q))
 
--- what is chosen of those that qualify: "the wished place if it qualifies, else the lowest qualifying number. Other wishes are passed
--- over"; 64 where there is none
-unfoldable pub chosenOf : (ℕ → Bool) → ℕ → ℕ
-unfolding lowestOf
-chosenOf f wish = cond (f wish) wish (lowestOf 64 f)
+-- what is chosen of those that qualify: "the wished place if it qualifies. .. Other wishes are passed over"; "Where no fitting wish is given,
+-- enter and open choose the qualifying place that has been under this parent longest" (document 02, W5); 64 where there is none
+unfoldable pub chosenOf : List ℕ → (ℕ → Bool) → ℕ → ℕ
+unfolding firstIn
+chosenOf row f wish = cond (f wish) wish (firstIn f row)
 
 -- what "enter and open choose"; 64 where the action can't fire
 unfoldable pub choose : Land → ℕ → ℕ → ℕ → ℕ → ℕ → ℕ
-choose l kind n home p wish = chosenOf (upto 64 (qualifies l kind n home p)) wish
+unfolding chosenOf
+choose l kind n home p wish = chosenOf (l .order) (upto 64 (qualifies l kind n home p)) wish
 
 -- the place that an agent at stage 2 chooses
 abbrev pub choice : Land → Agent → ℕ → ℕ
@@ -173,11 +176,17 @@ leave c x a d = record {
 abbrev pub dissolvePlace : ℕ → ℕ → ℕ → Place → Place
 dissolvePlace p t q x = cond (eqb q t) noPlace (cond (eqb (x .parent) t) (withParent x p) x)
 
--- "its number becomes unused": the places once t is dissolved into p; those that are not in use stay as they are
+-- the children of place t
+abbrev pub childOf : Land → ℕ → ℕ → Bool
+childOf l t q = l .used q && eqb (l .place q .parent) t
+
+-- "its number becomes unused": the places once t is dissolved into p; those that are not in use stay as they are. "children freed by an
+-- opening become the latest and keep their order among themselves" (document 02, W5)
 abbrev pub dissolveLand : Land → ℕ → ℕ → Land
-dissolveLand l p t = withUsed
+dissolveLand l p t = withOrder (withUsed
     (withPlaces l (λ q. cond (l .used q) (dissolvePlace p t q (l .place q)) (l .place q)))
-    (λ q. not (eqb q t) && l .used q)
+    (λ q. not (eqb q t) && l .used q))
+    (later (childOf l t) (l .order))
 
 -- "agents of the chosen place go to p, the moved agents that aren't done go to stage 0"; "wake all asleep on p or on it, and set to
 -- stage 0 all that remembered it at stage 1"
@@ -227,9 +236,9 @@ act c x a =
 
 -- ---- stages 4 to 6, on its way
 
--- place h is linked to where it was on its way to
+-- place h is linked to where it was on its way to: "A place that comes is the latest" (document 02, W5)
 abbrev pub linkUp : Land → ℕ → Land
-linkUp l h = withPlaces l (upd (l .place) h (withWay (l .place h) 0))
+linkUp l h = withOrder (withPlaces l (upd (l .place) h (withWay (l .place h) 0))) (latest h (l .order))
 
 -- "the place that the destination is linked to, if any", else the destination
 abbrev pub beyond : Land → ℕ → ℕ

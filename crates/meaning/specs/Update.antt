@@ -55,10 +55,13 @@ useUp a = withNext a (cond (hasAction a) (a .next + 1) (a .next))
 -- ---- a cell
 
 abbrev pub withPlaces : Land → (ℕ → Place) → Land
-withPlaces l f = record { place = f; used = l .used }
+withPlaces l f = record { place = f; used = l .used; order = l .order }
 
 abbrev pub withUsed : Land → (ℕ → Bool) → Land
-withUsed l f = record { place = l .place; used = f }
+withUsed l f = record { place = l .place; used = f; order = l .order }
+
+abbrev pub withOrder : Land → List ℕ → Land
+withOrder l row = record { place = l .place; used = l .used; order = row }
 
 abbrev pub withLand : State → Land → State
 withLand c l = record { land = l; lock = c .lock; agent = c .agent; given = c .given; touches = c .touches }

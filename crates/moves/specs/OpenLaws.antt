@@ -12,9 +12,10 @@ use Rattle.sets.specs.Set.{member, insertedIf, removed}
 use Rattle.sets.specs.SetLaws.{emptySet}
 use Rattle.sets.specs.WalkLaws.{lowestIn}
 use Rattle.sets.specs.declared.Set.{Set}
+use Rattle.order.specs.Row.{later}
 use Rattle.table.specs.Base.{tab, upd}
 use Rattle.table.specs.BaseLaws.{tab-ext, getD-tab}
-use Rattle.table.specs.Cell.{none, noPlace, noAgent, cellOf, tableOf, putPlaces, putLocks, putAgents, putUsed, putTouches}
+use Rattle.table.specs.Cell.{none, noPlace, noAgent, landOf, cellOf, tableOf, putPlaces, putLocks, putAgents, putUsed, putTouches, putOrder}
 use Rattle.table.specs.Bounds.{Sized}
 use Rattle.table.specs.CellLaws.{agents-are, back}
 use Rattle.table.specs.declared.Place.{Place}
@@ -23,7 +24,7 @@ use Rattle.table.specs.declared.Cell.{Cell}
 use Rattle.meaning.specs.declared.Word.the-variants.{Opened}
 use Rattle.meaning.specs.declared.Answer.the-variants.{Did}
 use Rattle.meaning.specs.Update.{atStage, useUp, released}
-use Rattle.meaning.specs.Step.{wokenBy, dissolvePlace, dissolveAgent, dissolveLock, dissolve, restStage, pooled}
+use Rattle.meaning.specs.Step.{wokenBy, childOf, dissolvePlace, dissolveAgent, dissolveLock, dissolve, restStage, pooled}
 use Rattle.meaning.specs.Run.{made}
 use Rattle.updates.specs.GatherLaws.{member-among, Gathered, gathered-start, gathered-more, gathered-end}
 use Rattle.updates.specs.UpdateLaws.{did}
@@ -110,20 +111,22 @@ module _ (t : Cell) (p o : ℕ) where
         lock = getD (t .locks) q 0
 
     -- the table and the answer
-    pub opening-end : (x : ℕ) (a b : Agent) (n : ℕ) (ps : List Place) (ms ls : List ℕ) (es : List Agent) (us : Set) (ts : List ℕ)
+    pub opening-end : (x : ℕ) (a b : Agent) (n : ℕ) (ps : List Place) (ms ls : List ℕ) (es : List Agent) (us : Set) (ts row : List ℕ)
         → ps ≡ tab (λ q. cond (member (t .used) q) (dissolvePlace p o q (getD (t .places) q noPlace)) (getD (t .places) q noPlace)) 64 0
         → ms ≡ tab (λ q. cond (member (t .used) q) (cond (member holders (getD (t .locks) q 0)) none (getD (t .locks) q 0)) (getD (t .locks) q 0)) 64 0
         → ls ≡ tab (released (λ q. getD ms q 0) p o) 64 0 → es ≡ tab (upd after x b) 64 0 → b ≡ atStage (useUp a) (restStage (useUp a)) 0 0
-        → us ≡ removed (t .used) o → ts ≡ tab (pooled (λ q. getD (t .touches) q 0) p o) 64 0 → n ≡ countOf 64 (member sleepers)
-        → record { cell = putTouches (putUsed (putLocks (putPlaces (putAgents d es) ps) ls) us) ts; answer = Did Opened n }
+        → us ≡ removed (t .used) o → ts ≡ tab (pooled (λ q. getD (t .touches) q 0) p o) 64 0
+        → row ≡ later (childOf (landOf (t .places) (t .used) (t .order)) o) (t .order) → n ≡ countOf 64 (member sleepers)
+        → record { cell = putOrder (putTouches (putUsed (putLocks (putPlaces (putAgents d es) ps) ls) us) ts) row; answer = Did Opened n }
         ≡ made (dissolve (cellOf t) x a p o)
     unfolding cellOf tableOf dissolve
-    opening-end x a b n ps ms ls es us ts e f g v r u k m = did _ Opened n (dissolve (cellOf t) x a p o)
-        (λ i. putTouches (putUsed (putLocks (putPlaces (putAgents ((w .others ∙ ap (λ (c : Cell). putAgents c (d .agents)) (sym (back t z))) i)
+    opening-end x a b n ps ms ls es us ts row e f g v r u k y m = did _ Opened n (dissolve (cellOf t) x a p o)
+        (λ i. putOrder (putTouches (putUsed (putLocks (putPlaces (putAgents ((w .others ∙ ap (λ (c : Cell). putAgents c (d .agents)) (sym (back t z))) i)
         ((v ∙ ap (λ (c : Agent). tab (upd after x c) 64 0) r) i))
         (e i))
         ((g ∙ release-tab _ ms (f ∙ tab-ext 0 64 _ _ (λ q _. freed q))) i))
         (u i))
         (k i))
+        (y i))
         refl
-        (m ∙ count-ext 64 _ _ (λ y i. ap (λ (s : Set). member s y) (gathered-end (w .slept) end) ∙ member-among (t .given) (z .given) wakes y))
+        (m ∙ count-ext 64 _ _ (λ j i. ap (λ (s : Set). member s j) (gathered-end (w .slept) end) ∙ member-among (t .given) (z .given) wakes j))

@@ -16,10 +16,11 @@ ghost use mathlib.Core.Path.{_≡_};
 ghost use mathlib.Core.Bool.{_&&_, cond};
 ghost use lib.Dec.{eqb};
 ghost use lib.ListN.{getD};
-ghost use Rattle.sets.specs.Set.{member};
+ghost use Rattle.sets.specs.Set.{member, setOf};
+ghost use Rattle.order.specs.Row.{later};
 ghost use Rattle.table.specs.Base.{tab, upd};
-ghost use Rattle.table.specs.Cell.{none, noPlace, cellOf};
-ghost use Rattle.meaning.specs.Step.{dissolvePlace, dissolveAgent, wokenBy, pooled};
+ghost use Rattle.table.specs.Cell.{none, noPlace, landOf, cellOf};
+ghost use Rattle.meaning.specs.Step.{childOf, dissolvePlace, dissolveAgent, wokenBy, pooled};
 ghost use Rattle.meaning.specs.Run.{made};
 
 // Place q, in use, once t is dissolved into p: cleared where it is t, and a child of t goes to p.
@@ -51,6 +52,30 @@ fn adopt(ps: [Place; 64], used: Set, p: u8, t: u8) -> [Place; 64]
         qs[k] = y;
     }
     qs
+}
+
+// The places in use that stand in t.
+fn children(ps: [Place; 64], used: Set, t: u8) -> Set
+    ensures { λ r. ⌜ r ≡ setOf (λ q. member used q && eqb (getD ps q noPlace .parent) t) ⌝ }
+{
+    let mut found = Set::EMPTY;
+    let mut rest = used;
+    while rest.bits != 0 {
+        let q = rest.first();
+        rest = rest.rest();
+        let k = q as usize;
+        let x = ps[k];
+        found = found.insert_if(q, x.parent == t);
+    }
+    found
+}
+
+// The row once the places in t are the latest, in their order among themselves.
+fn freed(row: [u8; 64], ps: [Place; 64], used: Set, t: u8) -> [u8; 64]
+    ensures { λ r. ⌜ r ≡ later (childOf (landOf ps used row) t) row ⌝ }
+{
+    let s = children(ps, used, t);
+    order::later(row, s)
 }
 
 // A lock once those of the agents in s are released.
@@ -179,6 +204,7 @@ pub(super) fn dissolve(c: Cell, x: u8, a: Agent, p: u8, t: u8) -> Stepped
     let ps = c.places;
     let ls = c.locks;
     let ts = c.touches;
+    let row = c.order;
     let mut d = c;
     let mut holders = Set::EMPTY;
     let mut sleepers = Set::EMPTY;
@@ -204,6 +230,8 @@ pub(super) fn dissolve(c: Cell, x: u8, a: Agent, p: u8, t: u8) -> Stepped
     d.used = us;
     let both = pool(ts, p, t);
     d.touches = both;
+    let last = freed(row, ps, used, t);
+    d.order = last;
     let u = use_up(a);
     let s = rest_stage(u.next, u.count);
     let b = at_stage(u, s, 0, 0);

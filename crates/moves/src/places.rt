@@ -125,11 +125,12 @@ fn beyond(known: bool, x: Place, d: u8) -> u8
     if linked(known, x) { x.parent } else { d }
 }
 
-// Stage 6: its place is linked to d.
+// Stage 6: its place is linked to d, and is the latest.
 pub(super) fn arrive(c: Cell, x: u8, a: Agent, d: u8) -> Stepped
     ensures { λ r. ⌜ r ≡ made (Rattle.meaning.specs.Step.arrive (cellOf c) x a d) ⌝ }
 {
     let ps = c.places;
+    let row = c.order;
     let used = c.used;
     let h = table::place_at(ps, a.home);
     let y = linked_up(h);
@@ -138,5 +139,8 @@ pub(super) fn arrive(c: Cell, x: u8, a: Agent, d: u8) -> Stepped
     let r = beyond(u, t, d);
     let s = rest_stage(a.next, a.count);
     let b = at_stage(a, s, 0, 0);
-    move_place(c, x, a.home, y, a.home, d, r, b, Word::Came)
+    let last = order::latest(row, a.home);
+    let mut e = c;
+    e.order = last;
+    move_place(e, x, a.home, y, a.home, d, r, b, Word::Came)
 }

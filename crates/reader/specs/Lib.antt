@@ -1,2 +1,3 @@
 pub mod KnownSets
+pub mod LoadRest
 pub mod LoadLaws

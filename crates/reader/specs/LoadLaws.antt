@@ -1,69 +1,35 @@
--- One turn of the load loop, on the table of the cell so far: what is left of the file loads to what the whole file loads to.
--- The loop keeps a table, the set of agents whose rows are full and the set of places whose touches were given; each record changes one
--- element and one set, as the definition does.
+-- One turn of the load loop, on the table of the cell so far: each record changes one element and one set, as the definition does, and a
+-- place is noted as the next that came.
 use mathlib.Core.Path.{_≡_, refl, sym, ap, ap₂, _∙_, subst}
-use mathlib.Core.Bool.{Bool, true, false, _||_}
+use mathlib.Core.Bool.{Bool, true, false, not, _&&_, _||_}
 use mathlib.Core.List.{List}
 use mathlib.Core.Logic.{_≢_, _⊎_, inl, inr}
 use Prim.Native.Nat.{ℕ, zero, suc, _+_, _%_, _<_, _≤_}
 use native.Mathlib.Omega.{arith}
 use lib.Dec.{ltb, leb, eqb}
 use lib.ListN.{length, getD, set}
-use borrow.Author.Tests.{eq-eqb, ne-eqb, lt-ltb, le-ltb, le-leb, lt-leb, ltb-true, ltb-false, leb-false}
-use Rattle.sets.specs.Word.{wordOf}
-use Rattle.sets.specs.Set.{member, setOf, inserted, insertedIf}
+use borrow.Author.Tests.{eqb-true, eq-eqb, ne-eqb, lt-ltb, le-ltb, le-leb, lt-leb, ltb-true, ltb-false, leb-false}
+use Rattle.sets.specs.Set.{member, setOf, inserted, insertedIf, removed}
 use Rattle.sets.specs.SetLaws.{set-eq, member-set, set-ext}
 use Rattle.sets.specs.declared.Set.{Set}
+use Rattle.order.specs.Row.{filledRow}
+use Rattle.order.specs.RowLawsLoaded.{Came, came-room, came-more, came-end}
 use Rattle.table.specs.Base.{upd, tab}
-use Rattle.table.specs.BaseLaws.{eq?, upd-at, upd-other, getD-tab, set-tab}
-use Rattle.table.specs.Cell.{State, noPlace, noAgent, bareTable, cellOf, tableOf, putPlaces, putAgents, putUsed, putGiven, putTouches}
-use Rattle.table.specs.CellLaws.{back, sized-bare}
+use Rattle.table.specs.BaseLaws.{Told, yea, nay, told, eq?, upd-at, upd-other, getD-tab, set-tab}
+use Rattle.table.specs.Cell.{State, noPlace, noAgent, tableOf, putPlaces, putAgents, putUsed, putGiven, putTouches, putOrder}
 use Rattle.table.specs.declared.Place.{Place}
 use Rattle.table.specs.declared.Agent.{Agent}
 use Rattle.table.specs.declared.Cell.{Cell}
 use Rattle.meaning.specs.Refusals.{cutShort, afterEnd}
 use Rattle.meaning.specs.declared.Record.{Record}
 use Rattle.meaning.specs.declared.Record.the-variants.{PlaceRecord, AgentRecord, ActionRecord, EndRecord, TouchRecord, Faulty}
-use Rattle.meaning.specs.declared.Verdict.the-variants.{Accepted, Rejected}
 use Rattle.meaning.specs.Update.{linkedPlace, withHome}
-use Rattle.meaning.specs.File.{recordAt, addPlace, withAction, addAgent, addAction, giveTouches, isFull, Known, Progress, withCell, withCounted, knownIn, bareProgress, accepted, refused, loadRecord, loadFrom, load, loaded, loadOf}
+use Rattle.meaning.specs.File.{recordAt, addPlace, withAction, addAgent, addAction, giveTouches, isFull, Known, Progress, withCell, withCounted, knownIn, accepted, refused, loadRecord, loadFrom, load}
 use Rattle.reader.specs.KnownSets.{knownBy}
-use Rattle.meaning.specs.FileLaws.{Fits, place, agent, action, touch, record-fits, record-same, load-begun, load-empty}
+use Rattle.reader.specs.LoadRest.{Rest, loadedAt}
+use Rattle.meaning.specs.FileLaws.{Fits, place, agent, action, touch, record-fits, record-same}
 
--- ---- the load from an offset on
-
--- the load from an offset on, with the table d, the full agents and the counted places so far, comes to the load of the whole file
-pub record Rest (s : List ℕ) (at : ℕ) (d : Cell) (full counted : Set) : Type 0 where
-  pub made : Progress
-  pub turns : ℕ
-  pub is : d ≡ tableOf (made .cell)
-  pub filled : full ≡ setOf (isFull (made .cell))
-  pub numbered : counted ≡ setOf (made .counted)
-  pub enough : length s < turns + at
-  pub rest : loadFrom turns made s at ≡ load s
-
--- no row of the bare floor is full, and no touches are given
-none-full : 0 ≡ setOf (isFull (cellOf bareTable)) .bits
-unfolding cellOf bareTable wordOf
-none-full = refl
-
-none-counted : 0 ≡ setOf (bareProgress .counted) .bits
-unfolding wordOf
-none-counted = refl
-
--- the loop starts with the bare floor and the whole file, which has a byte
-pub rest-all : (s : List ℕ) (d : Cell) (full counted : Set) → 0 < length s → d ≡ bareTable → full .bits ≡ 0 → counted .bits ≡ 0 → Rest s 0 d full counted
-rest-all s d full counted l e f g = record {
-  made = bareProgress;
-  turns = suc (length s);
-  is = e ∙ sym (back bareTable sized-bare);
-  filled = set-eq (f ∙ none-full);
-  numbered = set-eq (g ∙ none-counted);
-  enough = omega arith;
-  rest = sym (load-begun s l);
-}
-
-module _ (s : List ℕ) (at : ℕ) (d : Cell) (full counted : Set) (r : Rest s at d full counted) where
+module _ (s : List ℕ) (at : ℕ) (d : Cell) (full counted : Set) (came : List ℕ) (many : ℕ) (r : Rest s at d full counted came many) where
   abbrev c : State
   c = r .made .cell
 
@@ -131,6 +97,15 @@ module _ (s : List ℕ) (at : ℕ) (d : Cell) (full counted : Set) (r : Rest s a
     unfolding loadRecord
     ended q l = sym (rw (le-ltb (at + 1) (length s) l)) ∙ turn-is EndRecord q
 
+    -- the table with the row of those that came is that of the cell
+    pub finished : (u : Set) (row : List ℕ) → u ≡ removed (d .used) 0 → row ≡ filledRow (member u) came → putOrder d row ≡ tableOf c
+    unfolding tableOf
+    finished u row e f = λ j. putOrder (r .is j) (made j)
+      where
+        made : row ≡ c .land .order
+        made = f ∙ ap (λ (s : Set). filledRow (member s) came) e
+            ∙ came-end (r .listed) (member (removed (d .used) 0)) (λ q l. member-set _ q l ∙ ap (λ (b : Bool). not (eqb q 0) && b) (used-at q l))
+
     -- ---- one element of the table
 
     module _ (n i : ℕ) (l : n < 64) (e : i ≡ n % 64) where
@@ -163,15 +138,46 @@ module _ (s : List ℕ) (at : ℕ) (d : Cell) (full counted : Set) (r : Rest s a
     abbrev newPlace : ℕ → ℕ → ℕ → Set → Cell
     newPlace p m i u = putUsed (putPlaces d (set (d .places) i (linkedPlace m p))) u
 
-    pub rest-place : (n p m i : ℕ) (u : Set) → Reads (PlaceRecord n p m) → i ≡ n % 64 → u ≡ inserted (d .used) n → Rest s (at + 5) (newPlace p m i u) full counted
+    -- its number was not loaded before, and now it is
+    not-loaded : (n : ℕ) → n < 64 → member (d .used) n ≡ false → loadedAt c n ≡ false
+    not-loaded n l e = ap (λ (b : Bool). not (eqb n 0) && b) (sym (used-at n l) ∙ e) ∙ never (not (eqb n 0))
+      where
+        never : (b : Bool) → (b && false) ≡ false
+        never true = refl
+        never false = refl
+
+    also-loaded : (n : ℕ) → 1 ≤ n → (q : ℕ) → (not (eqb q 0) && (eqb q n || c .land .used q)) ≡ (loadedAt c q || eqb q n)
+    also-loaded n one q = go (told (eqb q n))
+      where
+        last : (b : Bool) → true ≡ (b || true)
+        last true = refl
+        last false = refl
+
+        plain : (b : Bool) → b ≡ (b || false)
+        plain true = refl
+        plain false = refl
+
+        go : Told (eqb q n) → (not (eqb q 0) && (eqb q n || c .land .used q)) ≡ (loadedAt c q || eqb q n)
+        go (yea e) = rw (e, ne-eqb q 0 (λ z. let y = eqb-true q n e in omega arith)) (last (c .land .used q))
+        go (nay e) = rw e (plain (loadedAt c q))
+
+    pub has-place : (n p m : ℕ) → Reads (PlaceRecord n p m) → many < 64
+    has-place n p m q = go (fits q)
+      where
+        go : Fits known (PlaceRecord n p m) → many < 64
+        go (place one l under new known named) = came-room (r .listed) n l (not-loaded n l new)
+
+    pub rest-place : (n p m i : ℕ) (u : Set) → Reads (PlaceRecord n p m) → i ≡ n % 64 → u ≡ inserted (d .used) n
+        → Rest s (at + 5) (newPlace p m i u) full counted (set came many n) (many + 1)
     unfolding tableOf addPlace loadRecord
     rest-place n p m i u q e f = go (fits q)
       where
-        go : Fits known (PlaceRecord n p m) → Rest s (at + 5) (newPlace p m i u) full counted
+        go : Fits known (PlaceRecord n p m) → Rest s (at + 5) (newPlace p m i u) full counted (set came many n) (many + 1)
         go (place one l under new known named) = record {
           made = withCell (r .made) (addPlace c n p m);
           turns = more .0;
           is = λ j. putUsed (putPlaces (r .is j) (place-put n i l e (linkedPlace m p) j)) (record { bits = one-more (c .land .used) (d .used) u n used-at f j });
+          listed = came-more (r .listed) n l (not-loaded n l new) (loadedAt (addPlace c n p m)) (also-loaded n one);
           filled = r .filled;
           numbered = r .numbered;
           enough = omega (arith, r .enough, more .1);
@@ -181,14 +187,15 @@ module _ (s : List ℕ) (at : ℕ) (d : Cell) (full counted : Set) (r : Rest s a
     -- ---- a touch record
 
     pub rest-touches : (n m i : ℕ) (u : Set) → Reads (TouchRecord n m) → i ≡ n % 64 → u ≡ inserted counted n
-        → Rest s (at + 6) (putTouches d (set (d .touches) i m)) full u
+        → Rest s (at + 6) (putTouches d (set (d .touches) i m)) full u came many
     unfolding tableOf giveTouches loadRecord
     rest-touches n m i u q e f = go (fits q)
       where
-        go : Fits known (TouchRecord n m) → Rest s (at + 6) (putTouches d (set (d .touches) i m)) full u
+        go : Fits known (TouchRecord n m) → Rest s (at + 6) (putTouches d (set (d .touches) i m)) full u came many
         go (touch l new given _) = record {
           made = withCounted (r .made) n m;
           turns = more .0;
+          listed = r .listed;
           is = λ j. putTouches (r .is j) (touches-put n i l e m j);
           filled = r .filled;
           numbered = set-eq (one-more (r .made .counted) counted u n counted-at f);
@@ -211,14 +218,15 @@ module _ (s : List ℕ) (at : ℕ) (d : Cell) (full counted : Set) (r : Rest s a
     newAgent i a u = putGiven (putAgents d (set (d .agents) i a)) u
 
     pub rest-agent : (n h i : ℕ) (a : Agent) (u : Set) → Reads (AgentRecord n h) → i ≡ n % 64 → a ≡ withHome (getD (d .agents) i noAgent) h
-        → u ≡ inserted (d .given) n → Rest s (at + 3) (newAgent i a u) full counted
+        → u ≡ inserted (d .given) n → Rest s (at + 3) (newAgent i a u) full counted came many
     unfolding tableOf addAgent loadRecord
     rest-agent n h i a u q e b f = go (fits q)
       where
-        go : Fits known (AgentRecord n h) → Rest s (at + 3) (newAgent i a u) full counted
+        go : Fits known (AgentRecord n h) → Rest s (at + 3) (newAgent i a u) full counted came many
         go (agent l under new known) = record {
           made = withCell (r .made) (addAgent c n h);
           turns = more .0;
+          listed = r .listed;
           is = λ j. putGiven (putAgents (r .is j)
               ((ap (set (d .agents) i) (b ∙ ap (λ (x : Agent). withHome x h) (agent-at n i l e)) ∙ agent-put n i l e (withHome (c .agent n) h)) j))
               (record { bits = one-more (c .given) (d .given) u n given-at f j });
@@ -264,11 +272,12 @@ module _ (s : List ℕ) (at : ℕ) (d : Cell) (full counted : Set) (r : Rest s a
           go j (inr t) = sym (full-else j t)
 
       pub rest-action : (a : Agent) (f : Set) → a ≡ withAction (getD (d .agents) i noAgent) k m → f ≡ insertedIf full n (ltb 15 (a .count))
-          → Rest s (at + 5) (newAgent i a (d .given)) f counted
+          → Rest s (at + 5) (newAgent i a (d .given)) f counted came many
       unfolding tableOf addAction loadRecord withAction
       rest-action a f b h = record {
         made = withCell (r .made) (addAction c n k m);
         turns = more .0;
+        listed = r .listed;
         is = λ j. putAgents (r .is j) ((ap (set (d .agents) i) new ∙ agent-put n i l e (withAction (c .agent n) k m)) j);
         filled = h ∙ filled-now (ltb 15 (a .count)) (ap (λ (x : Agent). ltb 15 (x .count)) new);
         numbered = r .numbered;
@@ -278,17 +287,3 @@ module _ (s : List ℕ) (at : ℕ) (d : Cell) (full counted : Set) (r : Rest s a
         where
           new : a ≡ withAction (c .agent n) k m
           new = b ∙ ap (λ (x : Agent). withAction x k m) (agent-at n i l e)
-
--- ---- the answers
-
-pub answer-refused : (t : Cell) (s : List ℕ) (n o : ℕ) → refused n o ≡ load s → record { cell = t; verdict = Rejected n o } ≡ loadOf t s
-unfolding loadOf loaded
-answer-refused t s n o e = ap (loaded t) e
-
-pub answer-accepted : (t d : Cell) (s : List ℕ) (c : State) → d ≡ tableOf c → accepted c ≡ load s → record { cell = d; verdict = Accepted } ≡ loadOf t s
-unfolding loadOf loaded
-answer-accepted t d s c q e = ap (λ (x : Cell). record { cell = x; verdict = Accepted }) q ∙ ap (loaded t) e
-
--- no bytes: the bare floor
-pub answer-empty : (t d : Cell) (s : List ℕ) → length s ≡ 0 → d ≡ bareTable → record { cell = d; verdict = Accepted } ≡ loadOf t s
-answer-empty t d s z e = answer-accepted t d s (cellOf bareTable) (e ∙ sym (back bareTable sized-bare)) (sym (load-empty s z))

@@ -3,3 +3,4 @@ pub mod WordLaws
 pub mod Set
 pub mod SetLaws
 pub mod WalkLaws
+pub mod ToldLaws

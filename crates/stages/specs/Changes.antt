@@ -2,10 +2,13 @@
 -- the steps of the meaning (ChangeLaws).
 use Prim.Native.Nat.{ℕ}
 use mathlib.Core.Bool.{Bool, _&&_, cond}
+use mathlib.Core.List.{List, []}
 use lib.Dec.{ltb, leb, eqb}
-use Rattle.table.specs.Cell.{Land, State, linked, linkedTo, kindOf, exitKind, openKind, looksHome}
+use Rattle.sets.specs.declared.Set.{Set}
+use Rattle.table.specs.Cell.{Land, State, landOf, linked, linkedTo, kindOf, exitKind, openKind, looksHome}
 use Rattle.table.specs.Cell.{looking, found, holding, holdingBoth, onWay, onWayOwn, onWayBoth, asleep}
 use Rattle.table.specs.Sound.{secondPlace}
+use Rattle.table.specs.declared.Place.{Place}
 use Rattle.table.specs.declared.Agent.{Agent}
 use Rattle.meaning.specs.declared.Word.the-variants.{Looked, Back, Slept, Asleep, Done}
 use Rattle.meaning.specs.Update.{atStage}
@@ -14,6 +17,10 @@ use Rattle.moves.specs.Motions.{shifted}
 use Rattle.moves.specs.declared.Motion.the-variants.{Leave, Arrive, Dissolve}
 use Rattle.stages.specs.declared.Change.{Change}
 use Rattle.stages.specs.declared.Change.the-variants.{Still, Turn, Take, Release, Move}
+
+-- the land of a table's places and the set of those in use, for whatever does not ask for their row
+abbrev pub rowless : List Place → Set → Land
+rowless ps used = landOf ps used []
 
 -- q is a place linked to p and named n
 abbrev pub childNamed : Land → ℕ → ℕ → ℕ → Bool

@@ -20,13 +20,14 @@ use Rattle.table.specs.declared.Action.{Action}
 use Rattle.table.specs.declared.Agent.{Agent}
 use Rattle.meaning.specs.Step.{named, awaited, entersAt, exitsFrom, opensAt, qualifies, chosenOf, choose, choice, fires, stays}
 use Rattle.updates.specs.GatherLaws.{member-upto}
-use Rattle.stages.specs.Changes.{childNamed}
+use Rattle.stages.specs.Changes.{rowless, childNamed}
+use Rattle.stages.specs.RowlessLaws.{qualifies-rowless}
 
 -- ---- reading a set
 
 -- the choice from a set is the choice from those that pass the test
-pub chosen-set : (f : ℕ → Bool) (w : ℕ) → chosenOf (member (setOf f)) w ≡ chosenOf (upto 64 f) w
-chosen-set f w = ap (λ (g : ℕ → Bool). chosenOf g w) (fun-ext (member-upto f))
+pub chosen-set : (row : List ℕ) (f : ℕ → Bool) (w : ℕ) → chosenOf row (member (setOf f)) w ≡ chosenOf row (upto 64 f) w
+chosen-set row f w = ap (λ (g : ℕ → Bool). chosenOf row g w) (fun-ext (member-upto f))
 
 -- ---- the set of each kind
 
@@ -101,20 +102,20 @@ module _ (l : Land) (kind n home p : ℕ) where
 module _ (ps : List Place) (used : Set) (a : Agent) (x : Action) (e : x ≡ nextAction a) where
   -- its place is still linked to p
   pub stays-test : (u : Bool) (h : Place) → u ≡ member used (a .home) → h ≡ getD ps (a .home) noPlace
-      → (looksHome (x .kind) || (u && (eqb (h .way) 0 && eqb (h .parent) (a .remembered)))) ≡ stays (landOf ps used) a
+      → (looksHome (x .kind) || (u && (eqb (h .way) 0 && eqb (h .parent) (a .remembered)))) ≡ stays (rowless ps used) a
   unfolding stays linkedTo
   stays-test u h f g = λ i. looksHome (e i .kind) || (f i && (eqb (g i .way) 0 && eqb (g i .parent) (a .remembered)))
 
-  module _ (s : Set) (f : s ≡ setOf (qualifies (landOf ps used) (x .kind) (x .name) (a .home) (a .remembered))) where
+  module _ (s : Set) (f : s ≡ setOf (qualifies (rowless ps used) (x .kind) (x .name) (a .home) (a .remembered))) where
     -- the choice
-    pub choice-test : (w q : ℕ) → q ≡ chosenOf (member s) w → q ≡ choice (landOf ps used) a w
+    pub choice-test : (row : List ℕ) (w q : ℕ) → q ≡ chosenOf row (member s) w → q ≡ choice (landOf ps used row) a w
     unfolding choose
-    choice-test w q g = g ∙ ap (λ (z : Set). chosenOf (member z) w) f ∙ chosen-set _ w
-        ∙ (λ i. chosenOf (upto 64 (qualifies (landOf ps used) (e i .kind) (e i .name) (a .home) (a .remembered))) w)
+    choice-test row w q g = g ∙ ap (λ (z : Set). chosenOf row (member z) w) f ∙ chosen-set row _ w
+        ∙ (λ i. chosenOf row (upto 64 (qualifies-rowless ps used row i (e i .kind) (e i .name) (a .home) (a .remembered))) w)
 
     -- the action fires
-    pub fires-test : used .bits < 2 ^ 64 → (t : ℕ) (b : Bool) → t ≡ cond (eqb (x .kind) exitKind) (a .remembered) (a .chosen) → b ≡ member s t → b ≡ fires (landOf ps used) a
+    pub fires-test : used .bits < 2 ^ 64 → (t : ℕ) (b : Bool) → t ≡ cond (eqb (x .kind) exitKind) (a .remembered) (a .chosen) → b ≡ member s t → b ≡ fires (rowless ps used) a
     unfolding fires
     fires-test h t b g k = k ∙ ap₂ (λ (z : Set) (n : ℕ). member z n) f g
-        ∙ fires-member (landOf ps used) (x .kind) (x .name) (a .home) (a .remembered) (cond (eqb (x .kind) exitKind) (a .remembered) (a .chosen)) (λ m. has-past 64 (used .bits) _ h m)
-        ∙ (λ i. qualifies (landOf ps used) (e i .kind) (e i .name) (a .home) (a .remembered) (cond (eqb (e i .kind) exitKind) (a .remembered) (a .chosen)))
+        ∙ fires-member (rowless ps used) (x .kind) (x .name) (a .home) (a .remembered) (cond (eqb (x .kind) exitKind) (a .remembered) (a .chosen)) (λ m. has-past 64 (used .bits) _ h m)
+        ∙ (λ i. qualifies (rowless ps used) (e i .kind) (e i .name) (a .home) (a .remembered) (cond (eqb (e i .kind) exitKind) (a .remembered) (a .chosen)))

@@ -1,4 +1,5 @@
 pub mod Changes
 pub mod ChangeLaws
+pub mod RowlessLaws
 pub mod ChooseLaws
 pub mod ChildLaws

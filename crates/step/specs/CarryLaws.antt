@@ -105,7 +105,7 @@ module _ (t : Cell) (z : Sized t) (x wish : ℕ) where
   a = seenOf t x .agent
 
   abbrev change : Change
-  change = changeAt (a .stage) (landOf (t .places) (t .used)) a wish
+  change = changeAt (a .stage) (landOf (t .places) (t .used) (t .order)) a wish
 
   -- a refused call leaves the table
   turned : (number : ℕ) → carriedOut t x (staying a (t .locks) (Refused number)) ≡ turnedAway t number

@@ -57,7 +57,7 @@ settling (Move m) x a ls = going m a ls
 unfoldable pub decided : Seen → Cell → ℕ → ℕ → Decision
 decided s t x wish =
     cond (s .sound)
-    (cond (member (t .given) x) (settling (changeAt (s .agent .stage) (landOf (t .places) (t .used)) (s .agent) wish) x (s .agent) (t .locks))
+    (cond (member (t .given) x) (settling (changeAt (s .agent .stage) (landOf (t .places) (t .used) (t .order)) (s .agent) wish) x (s .agent) (t .locks))
     (staying (s .agent) (t .locks) (Refused noSuchAgent)))
     (staying (s .agent) (t .locks) (Refused unsoundTable))
 

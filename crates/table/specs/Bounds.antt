@@ -6,7 +6,8 @@ use lib.ListN.{length, getD}
 use Rattle.table.specs.Cell.{noPlace, noAction, noAgent, State}
 use Rattle.table.specs.declared.Cell.{Cell}
 
--- a table's arrays have 64 elements and its sets are words: so it is of every value of the struct
+-- a table's arrays have 64 elements and its sets are words: so it is of every value of the struct. The row of places is a list in the cell as in
+-- the table, and nothing asks for its length
 pub record Sized (t : Cell) : Type 0 where
   pub places : length (t .places) ≡ 64
   pub locks : length (t .locks) ≡ 64

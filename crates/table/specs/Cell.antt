@@ -7,6 +7,7 @@ use lib.ListN.{getD, replicate}
 use Rattle.sets.specs.Word.{has, wordOf}
 use Rattle.sets.specs.Set.{member}
 use Rattle.sets.specs.declared.Set.{Set}
+use Rattle.order.specs.Row.{countingRow}
 use Rattle.table.specs.Base.{tab}
 use Rattle.table.specs.declared.Place.{Place}
 use Rattle.table.specs.declared.Action.{Action}
@@ -78,10 +79,12 @@ none = 64
 
 -- ---- the cell
 
--- the places without their locks: what each is, and which numbers are in use
+-- the places without their locks: what each is, which numbers are in use, and all numbers in a row, the place first that "has been under
+-- this parent longest" (document 02, W5)
 pub record Land : Type 0 where
   pub place : ℕ → Place
   pub used : ℕ → Bool
+  pub order : List ℕ
 
 -- places, "a lock, free or held by one agent" for each, the agents given, and for each place "a touch count" (document 02, W3)
 pub record State : Type 0 where
@@ -91,14 +94,14 @@ pub record State : Type 0 where
   pub given : ℕ → Bool
   pub touches : ℕ → ℕ
 
--- the land of a table's places and the set of those in use
-abbrev pub landOf : List Place → Set → Land
-landOf ps used = record { place = λ q. getD ps q noPlace; used = member used }
+-- the land of a table's places, the set of those in use and their row
+abbrev pub landOf : List Place → Set → List ℕ → Land
+landOf ps used row = record { place = λ q. getD ps q noPlace; used = member used; order = row }
 
 -- the cell that a table holds
 unfoldable pub cellOf : Cell → State
 cellOf t = record {
-  land = landOf (t .places) (t .used);
+  land = landOf (t .places) (t .used) (t .order);
   lock = λ q. getD (t .locks) q 0;
   agent = λ x. getD (t .agents) x noAgent;
   given = has (t .given .bits);
@@ -114,9 +117,11 @@ tableOf c = record {
   used = record { bits = wordOf 64 (c .land .used) };
   given = record { bits = wordOf 64 (c .given) };
   touches = tab (c .touches) 64 0;
+  order = c .land .order;
 }
 
--- "A load starts from a bare floor": one place, no lock held, no agents; a touch count, "starting at 0"
+-- "A load starts from a bare floor": one place, no lock held, no agents; a touch count, "starting at 0";
+-- the row as the numbers are counted
 unfoldable pub bareTable : Cell
 bareTable = record {
   places = floorPlace ∷ replicate 63 noPlace;
@@ -125,27 +130,31 @@ bareTable = record {
   used = record { bits = 1 };
   given = record { bits = 0 };
   touches = replicate 64 0;
+  order = countingRow;
 }
 
 -- ---- one array or set of a table written anew: besides tableOf and bareTable the only definitions that write a table out
 
 abbrev pub putPlaces : Cell → List Place → Cell
-putPlaces t ps = record { places = ps; locks = t .locks; agents = t .agents; used = t .used; given = t .given; touches = t .touches }
+putPlaces t ps = record { places = ps; locks = t .locks; agents = t .agents; used = t .used; given = t .given; touches = t .touches; order = t .order }
 
 abbrev pub putLocks : Cell → List ℕ → Cell
-putLocks t ls = record { places = t .places; locks = ls; agents = t .agents; used = t .used; given = t .given; touches = t .touches }
+putLocks t ls = record { places = t .places; locks = ls; agents = t .agents; used = t .used; given = t .given; touches = t .touches; order = t .order }
 
 abbrev pub putAgents : Cell → List Agent → Cell
-putAgents t s = record { places = t .places; locks = t .locks; agents = s; used = t .used; given = t .given; touches = t .touches }
+putAgents t s = record { places = t .places; locks = t .locks; agents = s; used = t .used; given = t .given; touches = t .touches; order = t .order }
 
 abbrev pub putUsed : Cell → Set → Cell
-putUsed t s = record { places = t .places; locks = t .locks; agents = t .agents; used = s; given = t .given; touches = t .touches }
+putUsed t s = record { places = t .places; locks = t .locks; agents = t .agents; used = s; given = t .given; touches = t .touches; order = t .order }
 
 abbrev pub putGiven : Cell → Set → Cell
-putGiven t s = record { places = t .places; locks = t .locks; agents = t .agents; used = t .used; given = s; touches = t .touches }
+putGiven t s = record { places = t .places; locks = t .locks; agents = t .agents; used = t .used; given = s; touches = t .touches; order = t .order }
 
 abbrev pub putTouches : Cell → List ℕ → Cell
-putTouches t ns = record { places = t .places; locks = t .locks; agents = t .agents; used = t .used; given = t .given; touches = ns }
+putTouches t ns = record { places = t .places; locks = t .locks; agents = t .agents; used = t .used; given = t .given; touches = ns; order = t .order }
+
+abbrev pub putOrder : Cell → List ℕ → Cell
+putOrder t row = record { places = t .places; locks = t .locks; agents = t .agents; used = t .used; given = t .given; touches = t .touches; order = row }
 
 -- ---- reading
 

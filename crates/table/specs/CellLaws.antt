@@ -20,19 +20,19 @@ use Rattle.table.specs.declared.Cell.{Cell}
 -- ---- equality, field by field
 
 pub table-eq : {x y : Cell} → x .places ≡ y .places → x .locks ≡ y .locks → x .agents ≡ y .agents → x .used .bits ≡ y .used .bits → x .given .bits ≡ y .given .bits
-    → x .touches ≡ y .touches → x ≡ y
-table-eq p l a u g n = λ i. record { places = p i; locks = l i; agents = a i; used = record { bits = u i }; given = record { bits = g i }; touches = n i }
+    → x .touches ≡ y .touches → x .order ≡ y .order → x ≡ y
+table-eq p l a u g n o = λ i. record { places = p i; locks = l i; agents = a i; used = record { bits = u i }; given = record { bits = g i }; touches = n i; order = o i }
 
 pub cell-eq : {x y : State} → x .land .place ≡ y .land .place → x .land .used ≡ y .land .used → x .lock ≡ y .lock → x .agent ≡ y .agent → x .given ≡ y .given
-    → x .touches ≡ y .touches → x ≡ y
-cell-eq p u l a g n = λ i. record { land = record { place = p i; used = u i }; lock = l i; agent = a i; given = g i; touches = n i }
+    → x .touches ≡ y .touches → x .land .order ≡ y .land .order → x ≡ y
+cell-eq p u l a g n o = λ i. record { land = record { place = p i; used = u i; order = o i }; lock = l i; agent = a i; given = g i; touches = n i }
 
 -- a table is that of a cell, field by field
 pub made : (t : Cell) (c : State) → t .places ≡ tab (c .land .place) 64 0 → t .locks ≡ tab (c .lock) 64 0 → t .agents ≡ tab (c .agent) 64 0
     → t .used .bits ≡ wordOf 64 (c .land .used) → t .given .bits ≡ wordOf 64 (c .given)
-    → t .touches ≡ tab (c .touches) 64 0 → t ≡ tableOf c
+    → t .touches ≡ tab (c .touches) 64 0 → t .order ≡ c .land .order → t ≡ tableOf c
 unfolding tableOf
-made t c p l a u g n = table-eq p l a u g n
+made t c p l a u g n o = table-eq p l a u g n o
 
 -- ---- back: from a table to its cell and to the table again
 
@@ -63,7 +63,8 @@ module _ (t : Cell) (z : Sized t) where
 
   -- a table is that of its cell
   pub back : tableOf (cellOf t) ≡ t
-  back = sym (made t (cellOf t) places-are locks-are agents-are used-are given-are touches-are)
+  unfolding cellOf
+  back = sym (made t (cellOf t) places-are locks-are agents-are used-are given-are touches-are refl)
 
   -- ---- the cell of a table reads nothing at and past 64
   pub bounded : Bounded (cellOf t)
@@ -131,6 +132,7 @@ forth c b = cell-eq
     (tab-forth noAgent (c .agent) (b .agent))
     (word-forth (c .given) (b .given))
     (tab-forth 0 (c .touches) (b .touches))
+    refl
 
 -- the table of a cell has the sizes of the struct
 pub sized-table : (c : State) → Sized (tableOf c)

@@ -9,6 +9,7 @@ use Prim.Native.Nat.{ℕ}
 use mathlib.Core.Bool.{Bool, true, false, not, _&&_, _||_, cond}
 use lib.Dec.{ltb, leb, eqb}
 use lib.ListN.{getD}
+use Rattle.order.specs.Row.{rowFits}
 use Rattle.table.specs.Base.{allBelow, anyBelow, countBelow, sumBelow, iter}
 use Rattle.table.specs.Cell.{looking, holding, holdingBoth, onWay, onWayOwn, onWayBoth, asleep, done}
 use Rattle.table.specs.Cell.{noAction, none, Land, State, hasAction, kindOf, linkedTo, enterKind, exitKind, openKind, lastKind, looksHome}
@@ -155,7 +156,13 @@ mostTouches = 1000000000000
 unfoldable pub coreSound : State → Bool
 coreSound c = c .land .used 0 && (allBelow (agentSound c) 64 && (allBelow (placeSound c) 64 && allBelow (leads c) 64))
 
+-- the rest of what soundness asks: the sum of the touches, and of the row that every number stands in it and no other, so that "In a sound
+-- table this order is strict under each parent" (document 02, W5)
+unfoldable pub booksSound : State → Bool
+unfolding touchSum rowFits
+booksSound c = leb (touchSum c) mostTouches && rowFits (c .land .order)
+
 -- "A table is sound when": the whole test
 unfoldable pub sound : State → Bool
-unfolding coreSound touchSum
-sound c = coreSound c && leb (touchSum c) mostTouches
+unfolding coreSound booksSound
+sound c = coreSound c && booksSound c

@@ -1,25 +1,34 @@
--- The test of soundness and its parts, on places, locks and agents and on touches: the only laws that open the whole test. Assumes nothing.
+-- The test of soundness and its parts, on places, locks and agents, on touches and on the row: the only laws that open the whole test. Assumes nothing.
 use mathlib.Core.Path.{_≡_, sym, ap, ap₂}
 use mathlib.Core.Bool.{Bool, true, false, _&&_}
 use Prim.Native.Nat.{_≤_}
 use lib.Dec.{leb}
 use borrow.Author.Tests.{leb-true, le-leb}
+use Rattle.order.specs.Row.{rowFits}
 use Rattle.table.specs.BaseLaws.{Told, yea, nay, told, clash, and-left, and-right}
 use Rattle.table.specs.Cell.{State}
-use Rattle.table.specs.Sound.{coreSound, touchSum, mostTouches, sound}
+use Rattle.table.specs.Sound.{coreSound, touchSum, mostTouches, booksSound, sound}
 
 module _ (c : State) where
   pub sound-core : sound c ≡ true → coreSound c ≡ true
   unfolding sound
-  sound-core e = and-left (coreSound c) (leb (touchSum c) mostTouches) e
+  sound-core e = and-left (coreSound c) (booksSound c) e
+
+  pub sound-books : sound c ≡ true → booksSound c ≡ true
+  unfolding sound
+  sound-books e = and-right (coreSound c) (booksSound c) e
 
   pub sound-touches : sound c ≡ true → touchSum c ≤ mostTouches
-  unfolding sound
-  sound-touches e = leb-true (touchSum c) mostTouches (and-right (coreSound c) (leb (touchSum c) mostTouches) e)
+  unfolding booksSound
+  sound-touches e = leb-true (touchSum c) mostTouches (and-left (leb (touchSum c) mostTouches) (rowFits (c .land .order)) (sound-books e))
 
-  pub parts-sound : coreSound c ≡ true → touchSum c ≤ mostTouches → sound c ≡ true
-  unfolding sound
-  parts-sound e l = ap₂ _&&_ e (le-leb (touchSum c) mostTouches l)
+  pub sound-order : sound c ≡ true → rowFits (c .land .order) ≡ true
+  unfolding booksSound
+  sound-order e = and-right (leb (touchSum c) mostTouches) (rowFits (c .land .order)) (sound-books e)
+
+  pub parts-sound : coreSound c ≡ true → touchSum c ≤ mostTouches → rowFits (c .land .order) ≡ true → sound c ≡ true
+  unfolding sound booksSound
+  parts-sound e l o = ap₂ _&&_ e (ap₂ _&&_ (le-leb (touchSum c) mostTouches l) o)
 
   -- where the first part fails the whole does
   pub core-fails : false ≡ coreSound c → false ≡ sound c
@@ -30,6 +39,6 @@ module _ (c : State) where
       go (nay s) = sym s
 
   -- where it holds the second decides
-  pub core-holds : coreSound c ≡ true → leb (touchSum c) mostTouches ≡ sound c
+  pub core-holds : coreSound c ≡ true → booksSound c ≡ sound c
   unfolding sound
-  core-holds e = sym (ap (λ (b : Bool). b && leb (touchSum c) mostTouches) e)
+  core-holds e = sym (ap (λ (b : Bool). b && booksSound c) e)

@@ -36,7 +36,8 @@ pub struct Agent {
 /// The most touches that the places in use may have together.
 pub const MOST_TOUCHES: u64 = 1_000_000_000_000;
 
-/// The cell: places and agents by number, the lock of each place, the numbers in use, and the touches of each place.
+/// The cell: places and agents by number, the lock of each place, the numbers in use, the touches of each place, and all place numbers in a
+/// row, first the one that has been where it stands longest.
 #[repr(C)]
 #[derive(Clone, Copy, PartialEq, Eq, Debug)]
 pub struct Cell {
@@ -46,9 +47,10 @@ pub struct Cell {
     pub used: u64,
     pub given: u64,
     pub touches: [u64; 64],
+    pub order: [u8; 64],
 }
 
-const _: () = assert!(size_of::<Place>() == 4 && size_of::<Agent>() == 70 && size_of::<Cell>() == 5328);
+const _: () = assert!(size_of::<Place>() == 4 && size_of::<Agent>() == 70 && size_of::<Cell>() == 5392);
 
 impl Cell {
     /// A bare floor: one place, no lock held, no agents.
@@ -57,7 +59,13 @@ impl Cell {
         places[0].way = 1;
         let actions = [Action { kind: 0, name: 0 }; 16];
         let agent = Agent { home: 0, stage: 8, remembered: 0, chosen: 0, next: 0, count: 0, actions };
-        Cell { places, locks: [NONE; 64], agents: [agent; 64], used: 1, given: 0, touches: [0; 64] }
+        let mut order = [0; 64];
+        let mut q = 0;
+        while q < 64 {
+            order[q] = q as u8;
+            q += 1;
+        }
+        Cell { places, locks: [NONE; 64], agents: [agent; 64], used: 1, given: 0, touches: [0; 64], order }
     };
 }
 

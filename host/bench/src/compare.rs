@@ -106,7 +106,7 @@ fn one_random(numbers: &mut Random, damaged: bool) -> Result<usize, String> {
     let names = 1 + numbers.below(6);
     let mut sketch = random(numbers, places, agents, actions, names, 6);
     sketch.touches = (0..=places).filter(|_| numbers.below(3) == 0).map(|place| (place as u8, place as u32 * 67_000_000)).collect();
-    let mut file = sketch.file();
+    let mut file = renumbered(numbers, sketch.file());
     let mut cells = load(&file)?;
     let mut touched = 0;
     for i in 0..300 {
@@ -130,6 +130,25 @@ fn one_random(numbers: &mut Random, damaged: bool) -> Result<usize, String> {
     Ok(300 + 2 * touched + 6 * 3 + 2)
 }
 
+/// The file with other numbers for its places, so that they stand in it in another order than that of their numbers.
+fn renumbered(numbers: &mut Random, mut file: Vec<u8>) -> Vec<u8> {
+    let mut other: [u8; 64] = std::array::from_fn(|q| q as u8);
+    (2..64).for_each(|q| other.swap(q, 1 + numbers.below(q)));
+    let mut at = 0;
+    while at < file.len() {
+        let (length, places) = match file[at] {
+            1 => (5, at + 1..at + 3),
+            2 => (3, at + 2..at + 3),
+            3 => (5, at..at),
+            5 => (6, at + 1..at + 2),
+            _ => (1, at..at),
+        };
+        file[places].iter_mut().for_each(|q| *q = other[*q as usize]);
+        at += length;
+    }
+    file
+}
+
 /// The touches of a place that a test looks at: at the most that is sound, past it, and so many that a sum of two wraps.
 fn many_touches(numbers: &mut Random, cell: &Cell) -> u64 {
     let others: u128 = members(cell.used).map(|q| cell.touches[q as usize] as u128).sum();
@@ -137,15 +156,18 @@ fn many_touches(numbers: &mut Random, cell: &Cell) -> u64 {
     numbers.one_of(&[0, left, left + 1, MOST_TOUCHES, MOST_TOUCHES + 1, 1 << 63, u64::MAX])
 }
 
-/// One byte or one count of all cells becomes another, mostly one that a test looks at.
+/// One byte or one count of all cells becomes another, mostly one that a test looks at, or two numbers in the row change places.
 fn damage(numbers: &mut Random, cells: &mut [Cell; 3]) {
     let (i, value) = (numbers.below(64), [numbers.below(10), numbers.below(66), numbers.below(256)][numbers.below(3)]);
-    let field = numbers.below(11);
+    let field = numbers.below(13);
+    let other = numbers.below(64);
     let touches = many_touches(numbers, &cells[0]);
     for cell in cells {
-        if field == 10 {
-            cell.touches[i] = touches;
-            continue;
+        match field {
+            10 => cell.touches[i] = touches,
+            11 => cell.order[i] = value as u8,
+            12 => cell.order.swap(i, other),
+            _ => {}
         }
         let (place, agent) = (&mut cell.places[i], &mut cell.agents[i]);
         let byte = match field {
@@ -158,6 +180,7 @@ fn damage(numbers: &mut Random, cells: &mut [Cell; 3]) {
             6 => &mut agent.chosen,
             7 => &mut agent.next,
             8 => &mut agent.count,
+            10.. => continue,
             _ => &mut agent.actions[i % 16].kind,
         };
         *byte = value as u8;

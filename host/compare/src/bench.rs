@@ -44,7 +44,7 @@ pub fn cases() -> Vec<Case> {
     let sixteen = [&[2, 0, 0][..], &[3, 0, 2, 9, 0].repeat(16), &[4]].concat();
     let seventeen = [&[2, 0, 0][..], &[3, 0, 2, 9, 0].repeat(17), &[4]].concat();
     let listed = ["exit 9"; 16].join(".");
-    vec![
+    let mut cases = vec![
         Case {
             file: vec![1, 1, 0, 7, 0, 1, 2, 0, 9, 0, 2, 0, 1, 3, 0, 1, 9, 0, 2, 1, 2, 3, 1, 2, 7, 0, 4],
             agents: vec![0, 1, 0, 1, 0, 0, 1, 1, 0, 0, 0, 0, 1],
@@ -89,6 +89,35 @@ pub fn cases() -> Vec<Case> {
         alone("open 7 | 7[8[]]", "looked took took opened done", "8[]"),
         Case { file: sixteen, agents: vec![0, 64], written: format!("start {listed}\n0 slept 0\n64 refused 11\nend {listed}\n") },
         refused(&seventeen, 8, 83),
+    ];
+    cases.extend(first_served());
+    cases
+}
+
+/// First in, first served: place 3 stands before place 2 in the file; place 1 comes back as the latest, so that place 2 is opened; and of
+/// the places that an opening frees, which come after place 4, place 3 is before place 2.
+fn first_served() -> [Case; 3] {
+    let goes = "0 looked 0\n0 took 0\n0 took 0\n0 left 0\n0 took 0\n0 took 0\n0 came 0\n";
+    let opens = "0 looked 0\n0 took 0\n0 took 0\n0 opened 0\n";
+    let opens_too = opens.replace('0', "1").replace(" 1\n", " 0\n");
+    let box_and_trays = [[1, 5, 0, 8, 0], [1, 3, 5, 9, 0], [1, 2, 5, 9, 0], [1, 4, 0, 9, 0], [1, 1, 3, 1, 0], [1, 6, 2, 6, 0]].concat();
+    let opener = [&[2, 0, 0][..], &[3, 0, 3, 8, 0], &[3, 0, 3, 9, 0], &[3, 0, 3, 9, 0], &[4]].concat();
+    [
+        Case {
+            file: vec![1, 1, 0, 7, 0, 1, 3, 0, 9, 0, 1, 2, 0, 9, 0, 2, 0, 1, 3, 0, 1, 9, 0, 4],
+            agents: vec![0; 7],
+            written: format!("start 7[enter 9] | 9[] | 9[]\n{goes}end 9[] | 9[7[]]\n"),
+        },
+        Case {
+            file: file_of("9[enter 8.exit 8] | 9[6[]] | 8[] | open 9"),
+            agents: [vec![0; 14], vec![1; 4]].concat(),
+            written: format!("start open 9 | 9[enter 8.exit 8] | 9[6[]] | 8[]\n{goes}{goes}{opens_too}end 9[] | 6[] | 8[]\n"),
+        },
+        Case {
+            file: [box_and_trays, opener].concat(),
+            agents: vec![0; 12],
+            written: format!("start open 8.open 9.open 9 | 9[] | 8[9[6[]] | 9[1[]]]\n{opens}{opens}{opens}end 1[] | 9[6[]]\n"),
+        },
     ]
 }
 

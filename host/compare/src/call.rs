@@ -46,6 +46,7 @@ fn field(at: usize) -> String {
         }
         4800..=4807 => "used".to_string(),
         4808..=4815 => "given".to_string(),
-        _ => format!("touches {}", (at - 4816) / 8),
+        4816..=5327 => format!("touches {}", (at - 4816) / 8),
+        _ => format!("row at {}", at - 5328),
     }
 }

@@ -9,6 +9,8 @@ pub struct Counts {
     pub steps: u64,
     pub steps_refused: u64,
     pub words: BTreeMap<&'static str, u64>,
+    pub choices: u64,
+    pub not_lowest: u64,
     pub pooled: u64,
     pub touches: u64,
     pub touches_refused: BTreeMap<u8, u64>,
@@ -30,6 +32,11 @@ impl fmt::Display for Counts {
         write!(out, "step calls      {:>9}   ({} refused", self.steps, self.steps_refused)?;
         self.words.iter().try_for_each(|(word, count)| write!(out, ", {count} {word}"))?;
         writeln!(out, ")")?;
+        writeln!(
+            out,
+            "choices         {:>9}   (among several, without a fitting wish; {} not the lowest number)",
+            self.choices, self.not_lowest
+        )?;
         let refused: u64 = self.touches_refused.values().sum();
         write!(out, "touch calls     {:>9}   ({} refused:", self.touches, refused)?;
         self.touches_refused.iter().try_for_each(|(number, count)| write!(out, " {count} with {number}"))?;

@@ -1,7 +1,9 @@
-//! What somebody else may write into a lent cell: any byte, a field of something in use, touch counts, or whole agents set to other stages.
+//! What somebody else may write into a lent cell: any byte, a field of something in use, touch counts, the row, or whole agents set to other
+//! stages.
 
 use crate::call::Call;
 use crate::random::Random;
+use crate::rows::ORDER;
 use crate::touches;
 use model::{holds, Kind, Table, SIZE};
 
@@ -14,7 +16,8 @@ const SETS: usize = 4800;
 /// Writes that change a few bytes of these.
 pub fn writes(random: &mut Random, bytes: &[u8; SIZE]) -> Vec<Call> {
     let mut after = *bytes;
-    match random.below(12) {
+    match random.below(14) {
+        12..=13 => row(random, &mut after),
         10..=11 => counts(random, &mut after),
         0..=2 => after[random.below(SIZE)] = random.byte(),
         3..=6 => {
@@ -161,5 +164,24 @@ fn counts(random: &mut Random, bytes: &mut [u8; SIZE]) {
         }
         4 => places.iter().for_each(|&place| touches::set(bytes, place, random.pick(&[1 << 58, 1 << 62, MOST / 64, 1]))),
         _ => touches::set(bytes, unused, random.pick(&[large, any])),
+    }
+}
+
+/// Changes the row: two numbers change places, or go to its end, and it is whole as before; or a number is written over by another, which
+/// then stands there twice, by one above 63, or by itself and 64, 128 or 192 more; numbers in use or not, the first and the last too.
+fn row(random: &mut Random, bytes: &mut [u8; SIZE]) {
+    let places = members(bytes, SETS);
+    let row = &mut bytes[ORDER..];
+    for _ in 0..1 + random.below(3) {
+        let place = if random.percent(70) { one_of(random, &places) } else { random.below(64) } as u8;
+        let at = row.iter().position(|&number| number == place).unwrap_or(0);
+        let at = random.pick(&[at, at, at, at, 0, 63]);
+        match random.below(9) {
+            0..=2 => row.swap(at, random.below(64)),
+            3..=5 => row[at..].rotate_left(1),
+            6 => row[at] = row[random.below(64)],
+            7 => row[at] = random.pick(&[64, 65, 127, 128, 255]),
+            _ => row[at] = row[at].wrapping_add(random.pick(&[64, 128, 192])),
+        }
     }
 }

@@ -32,13 +32,16 @@ pub fn follow(plain: &mut Plain, agent: u8, wish: u8, word: Word) -> Result<(), 
     Ok(())
 }
 
-/// "the cell is one tree and equal to document 01's plain tree".
+/// "the cell is one tree and equal to document 01's plain tree"; and document 02, W5: "The plain tree knows this order too".
 pub fn same_tree(plain: &Plain, cell: &Cell) -> Result<(), String> {
     if !cell.one_tree() {
         return Err("demand 3: the cell is not one tree".to_string());
     }
     if !plain.equals(cell) {
         return Err("demand 3: the cell does not equal the plain tree".to_string());
+    }
+    if !plain.same_order(cell) {
+        return Err("first in, first served: the plain tree has another order of the places under a parent".to_string());
     }
     Ok(())
 }

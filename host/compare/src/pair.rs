@@ -4,9 +4,11 @@ use crate::answer;
 use crate::call::Call;
 use crate::counts::Counts;
 use crate::demands;
+use crate::differing::{differing, forgotten};
+use crate::rows;
 use crate::touches;
 use keeper::lent::Lent;
-use model::{listing, load, permitted, step, touch, Cell, Plain, Stepped, Table, Tree, LISTING_TOO_LONG, UNSOUND};
+use model::{listing, load, permitted, step, touch, Cell, Plain, Stepped, Table, Tree, Word, LISTING_TOO_LONG, UNSOUND};
 
 /// A byte that no listing has, with which buffers are filled before they are lent.
 const FILL: u8 = 0xAA;
@@ -44,6 +46,7 @@ impl Pair {
         let cell = Some(Cell::bare());
         let mut pair = Pair { lent, cell, plain: None, total: 0, text: vec![FILL; ROOM], thorough, counts: Counts::default() };
         same("bare", answer, 0, answer::value_text)?;
+        rows::same("bare", pair.bytes(), &rows::loaded(&[]))?;
         pair.agree()?;
         Ok(pair)
     }
@@ -92,6 +95,7 @@ impl Pair {
                 self.counts.accepted += 1;
                 self.plain = Some(Plain::of_load(&cell));
                 self.total = touches::loaded(file);
+                rows::same("a load", self.bytes(), &rows::loaded(file))?;
                 self.cell = Some(cell);
                 self.agree()
             }
@@ -101,6 +105,7 @@ impl Pair {
     /// A step: refused with 10 on an unsound table, with 11 for no such agent, else as the model says.
     fn step(&mut self, agent: u8, wish: u8) -> Result<(), String> {
         let before = self.lent.clone();
+        let several = self.cell.as_ref().and_then(|cell| rows::several(cell, agent, wish));
         let stepped = match &mut self.cell {
             None => Err(UNSOUND),
             Some(cell) => step(cell, agent, wish),
@@ -116,6 +121,11 @@ impl Pair {
             Ok(Stepped { word, .. }) => {
                 *self.counts.words.entry(word.text()).or_default() += 1;
                 self.counts.pooled += touches::pooled(before.bytes(), self.lent.bytes())? as u64;
+                rows::same(word.text(), self.bytes(), &rows::stepped(before.bytes(), agent, word))?;
+                if let (Word::Took, Some(found), Some(cell)) = (word, several, &self.cell) {
+                    self.counts.choices += 1;
+                    self.counts.not_lowest += (cell.agents[&agent].chosen != Some(found[0])) as u64;
+                }
                 if let Some(plain) = &mut self.plain {
                     demands::follow(plain, agent, wish, word)?;
                 }
@@ -258,34 +268,4 @@ fn same(call: &str, library: u64, model: u64, text: fn(u64) -> String) -> Result
     } else {
         Err(format!("{call}: the library answers {}, the model {}", text(library), text(model)))
     }
-}
-
-/// "a step that forgets a place writes the same empty value always": in a cell that came from a load, a field that the stage does not use
-/// is 0.
-fn forgotten(table: &Table) -> Result<(), String> {
-    for (number, agent) in table.agents_in_use() {
-        if agent.remembered_place().is_none() && agent.remembered != 0 || agent.chosen_place().is_none() && agent.chosen != 0 {
-            return Err(format!("agent {number} still remembers a place at stage {}", agent.stage));
-        }
-    }
-    Ok(())
-}
-
-/// The first place, lock or agent in which two cells differ.
-fn differing(library: &Cell, model: &Cell) -> String {
-    for number in 0..64 {
-        let (mine, other) = (library.places.get(&number), model.places.get(&number));
-        if mine != other {
-            return format!("place {number} is {mine:?}, in the model {other:?}");
-        }
-        let (mine, other) = (library.locks.get(&number), model.locks.get(&number));
-        if mine != other {
-            return format!("the lock of place {number} is held by {mine:?}, in the model by {other:?}");
-        }
-        let (mine, other) = (library.agents.get(&number), model.agents.get(&number));
-        if mine != other {
-            return format!("agent {number} is {mine:?}, in the model {other:?}");
-        }
-    }
-    "the cells differ".to_string()
 }

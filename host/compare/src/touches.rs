@@ -1,6 +1,7 @@
 //! Touches, seen on the library's own cells and files.
 
 use crate::files::records;
+use crate::rows::ORDER;
 use model::{Table, MOST_TOUCHES, SIZE};
 
 /// Where the touch counts start.
@@ -52,7 +53,7 @@ pub fn set(bytes: &mut [u8; SIZE], place: usize, count: u64) {
 /// Whether a step pooled touches: a number that went out of use had some. Whatever the counts of unused numbers are, a step leaves them
 /// alone, and a number that goes out of use has none.
 pub fn pooled(before: &[u8; SIZE], after: &[u8; SIZE]) -> Result<bool, String> {
-    if before[TOUCHES..] == after[TOUCHES..] {
+    if before[TOUCHES..ORDER] == after[TOUCHES..ORDER] {
         return Ok(false);
     }
     let (before, after) = (Table::read(before), Table::read(after));

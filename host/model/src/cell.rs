@@ -1,5 +1,6 @@
 //! What a cell is: "The cell" of document 01.
 
+use crate::children::Children;
 use std::collections::BTreeMap;
 
 /// "An action is a kind (1 enter, 2 exit, 3 open)".
@@ -47,10 +48,11 @@ pub struct Agent {
     pub unused: Vec<Action>,
 }
 
-/// The places, for each held lock its holder, and the agents.
+/// The places, for each the ones linked to it in the order in which they came, for each held lock its holder, and the agents.
 #[derive(Clone, PartialEq, Eq, Debug)]
 pub struct Cell {
     pub places: Places,
+    pub children: Children,
     pub locks: BTreeMap<u8, u8>,
     pub agents: BTreeMap<u8, Agent>,
 }
@@ -103,7 +105,8 @@ impl Cell {
     /// "A load starts from a bare floor": "Place 0 is the floor: name 0, no parent".
     pub fn bare() -> Cell {
         let floor = Place { name: 0, stands: Stands::TheFloor, touches: 0 };
-        Cell { places: BTreeMap::from([(0, floor)]), locks: BTreeMap::new(), agents: BTreeMap::new() }
+        let places = BTreeMap::from([(0, floor)]);
+        Cell { places, children: Children::default(), locks: BTreeMap::new(), agents: BTreeMap::new() }
     }
 
     /// "A cell is settled when no lock is held and nothing is on its way."

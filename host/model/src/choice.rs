@@ -22,13 +22,15 @@ pub fn qualifying(places: &Places, home: u8, p: u8, action: Action) -> Vec<u8> {
     found
 }
 
-/// "Enter and open choose the wished place if it qualifies, else the lowest qualifying number. Other wishes are passed over."
-pub fn choose(places: &Places, home: u8, p: u8, action: Action, wish: u8) -> Option<u8> {
+/// "Enter and open choose the wished place if it qualifies .. Other wishes are passed over." Document 02, W5: "Where no fitting wish is
+/// given, enter and open choose the qualifying place that has been under this parent longest." `under` are the places under p, the one
+/// first that has been there longest.
+pub fn choose(places: &Places, under: &[u8], home: u8, p: u8, action: Action, wish: u8) -> Option<u8> {
     let found = qualifying(places, home, p, action);
     if found.contains(&wish) {
         Some(wish)
     } else {
-        found.first().copied()
+        under.iter().copied().find(|place| found.contains(place))
     }
 }
 

@@ -92,6 +92,7 @@ fn place(cell: &mut Cell, body: &[u8]) -> Result<(), u8> {
         return Err(NAME_ZERO);
     }
     cell.places.insert(number, Place { name, stands: Stands::Linked(parent), touches: 0 });
+    cell.children.comes(number, parent);
     Ok(())
 }
 

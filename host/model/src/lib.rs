@@ -6,6 +6,7 @@
 
 mod calculus;
 mod cell;
+mod children;
 mod choice;
 mod file;
 mod listing;
@@ -19,6 +20,7 @@ mod walk;
 
 pub use calculus::{make, permitted, Move, Tree};
 pub use cell::{Action, Agent, Cell, Kind, Place, Places, Stands};
+pub use children::Children;
 pub use choice::{can_exit, choose, qualifying};
 pub use file::{load, Refused};
 pub use listing::listing;

@@ -8,12 +8,15 @@ use std::collections::BTreeMap;
 
 /// "It knows each place's name and where it stands, each agent's home and unused actions, which places travel, and a pick for each
 /// agent." A travelling place is kept as on its way to where it stands, any other as linked there. It knows of no touches (document 02, W3:
-/// "touch calls .., which the plain tree passes over"): each place's count is 0 here.
+/// "touch calls .., which the plain tree passes over"): each place's count is 0 here. W5: it "knows this order too, from the file and the
+/// words came and opened, and picks by it": `arrived` says for each place at which of all arrivals it came, `arrivals` how many there were.
 #[derive(Clone, PartialEq, Eq, Debug)]
 pub struct Plain {
     pub places: Places,
     pub agents: BTreeMap<u8, (u8, Vec<Action>)>,
     pub picks: BTreeMap<u8, u8>,
+    arrived: BTreeMap<u8, usize>,
+    arrivals: usize,
 }
 
 impl Plain {
@@ -21,7 +24,22 @@ impl Plain {
     pub fn of_load(cell: &Cell) -> Plain {
         let agents = cell.agents.iter().map(|(&number, agent)| (number, (agent.home, agent.unused.clone()))).collect();
         let places = cell.places.iter().map(|(&number, &place)| (number, Place { touches: 0, ..place })).collect();
-        Plain { places, agents, picks: BTreeMap::new() }
+        let mut plain = Plain { places, agents, picks: BTreeMap::new(), arrived: BTreeMap::new(), arrivals: 0 };
+        cell.children.lists().flat_map(|(_, list)| list).for_each(|&place| plain.arrives(place));
+        plain
+    }
+
+    /// The place is the latest of all.
+    fn arrives(&mut self, place: u8) {
+        self.arrivals += 1;
+        self.arrived.insert(place, self.arrivals);
+    }
+
+    /// The places that stand in this one, travelling ones too, by when they came.
+    fn standing_in(&self, parent: u8) -> Vec<u8> {
+        let mut found: Vec<u8> = self.places.keys().copied().filter(|number| self.places[number].around() == Some(parent)).collect();
+        found.sort_by_key(|number| self.arrived[number]);
+        found
     }
 
     /// One step call that was not refused; "Any other word, or a refusal: nothing."
@@ -52,7 +70,7 @@ impl Plain {
             Kind::Open => *home,
             Kind::Enter | Kind::Exit => self.places[home].around()?,
         };
-        choose(&self.places, *home, p, action, wish)
+        choose(&self.places, &self.standing_in(p), *home, p, action, wish)
     }
 
     /// "left: its own place now stands in the pick (enter), or where the place around it stands (exit), and travels; the action is used
@@ -70,11 +88,13 @@ impl Plain {
         self.places.get_mut(&home).expect("a home is in use").stands = Stands::OnItsWay(stands);
     }
 
-    /// "opened: places and agents in the pick go to its own place, the pick's number becomes unused; the action is used up."
+    /// "opened: places and agents in the pick go to its own place, the pick's number becomes unused; the action is used up." Document 02,
+    /// W5: "children freed by an opening become the latest and keep their order among themselves."
     fn opened(&mut self, agent: u8) {
         let own = self.agents[&agent].0;
         let pick = self.picks[&agent];
         self.use_up(agent);
+        self.standing_in(pick).into_iter().for_each(|freed| self.arrives(freed));
         for place in self.places.values_mut() {
             place.stands = match place.stands {
                 Stands::Linked(parent) if parent == pick => Stands::Linked(own),
@@ -88,13 +108,15 @@ impl Plain {
             }
         }
         self.places.remove(&pick);
+        self.arrived.remove(&pick);
     }
 
-    /// "came: its own place travels no more."
+    /// "came: its own place travels no more." Document 02, W5: "A place that comes is the latest".
     fn came(&mut self, agent: u8) {
         let home = self.agents[&agent].0;
         let place = self.places.get_mut(&home).expect("a home is in use");
         place.stands = Stands::Linked(place.around().expect("the floor does not travel"));
+        self.arrives(home);
     }
 
     /// "the action is used up".
@@ -122,5 +144,14 @@ impl Plain {
                 .iter()
                 .zip(&cell.agents)
                 .all(|((mine, (home, unused)), (theirs, agent))| mine == theirs && *home == agent.home && *unused == agent.unused)
+    }
+
+    /// Document 02, W5: the cell has the places linked to each parent in the order that the plain tree knows.
+    pub fn same_order(&self, cell: &Cell) -> bool {
+        self.places.keys().all(|&parent| {
+            let linked = |number: &u8| self.places[number].linked_to() == Some(parent);
+            let known: Vec<u8> = self.standing_in(parent).into_iter().filter(linked).collect();
+            known == cell.children.under(parent)
+        })
     }
 }

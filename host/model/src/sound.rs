@@ -17,6 +17,7 @@ pub fn sound(table: &Table) -> bool {
         && actions_left(table)
         && openers(table)
         && few_touches(table)
+        && whole_row(table)
 }
 
 /// "the floor is as above": "Place 0 is the floor: name 0, no parent, never moves." Its way is not 0, since it is linked to nothing.
@@ -129,4 +130,10 @@ fn openers(table: &Table) -> bool {
 /// Document 02, W3: "A table whose sum passes 1,000,000,000,000 is unsound": the sum over places in use, whatever the counts are.
 fn few_touches(table: &Table) -> bool {
     table.places_in_use().map(|(number, _)| table.touches[number as usize] as u128).sum::<u128>() <= MOST_TOUCHES
+}
+
+/// Document 02, W5: "In a sound table this order is strict under each parent." The table keeps it as one row of all numbers, the longest
+/// standing first; it is strict where every number, in use or not, has a position in it, and then none is above 63.
+fn whole_row(table: &Table) -> bool {
+    (0..64).all(|number| table.order.contains(&number))
 }

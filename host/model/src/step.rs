@@ -107,7 +107,7 @@ fn holding_one(cell: &mut Cell, agent: u8, wish: u8) -> Stepped {
         go_to(cell, agent, 0, None, None);
         return Word::Back.alone();
     }
-    let chosen = choose(&cell.places, home, p, action, wish);
+    let chosen = choose(&cell.places, cell.children.under(p), home, p, action, wish);
     let fires = match action.kind {
         Kind::Exit => can_exit(&cell.places, p, action.name),
         Kind::Enter | Kind::Open => chosen.is_some(),
@@ -158,6 +158,7 @@ fn holding_both(cell: &mut Cell, agent: u8) -> Stepped {
 fn leave(cell: &mut Cell, agent: u8, p: u8, destination: u8) -> Stepped {
     let home = cell.agents[&agent].home;
     cell.places.get_mut(&home).expect("a home is in use").stands = Stands::OnItsWay(destination);
+    cell.children.leaves(home, p);
     use_up(cell, agent);
     go_to(cell, agent, 4, None, None);
     let woken = wake(cell, &[p, home]);
@@ -167,13 +168,14 @@ fn leave(cell: &mut Cell, agent: u8, p: u8, destination: u8) -> Stepped {
 /// "Open: children and agents of the chosen place go to p, its number becomes unused, the moved agents that aren't done go to stage 0,
 /// a lock that one of them held at stage 2 being released; wake all asleep on p or on it, and set to stage 0 all that remembered it at
 /// stage 1; the action is used up; release both; opened." "The count of woken agents is of those that were at stage 7." Document 02, W3:
-/// "When a place is opened, its count is pooled into the place of the agent that opened it."
+/// "When a place is opened, its count is pooled into the place of the agent that opened it." W5: children freed "become the latest".
 fn open(cell: &mut Cell, agent: u8, p: u8, chosen: u8) -> Stepped {
     for place in cell.places.values_mut() {
         if place.stands == Stands::Linked(chosen) {
             place.stands = Stands::Linked(p);
         }
     }
+    cell.children.opened(chosen, p);
     let pooled = cell.places.remove(&chosen).map_or(0, |opened| opened.touches);
     let home = cell.agents[&agent].home;
     cell.places.get_mut(&home).expect("a home is in use").touches += pooled;
@@ -223,11 +225,12 @@ fn arriving(cell: &mut Cell, agent: u8) -> Stepped {
 }
 
 /// "6. Link; release both; wake all asleep on its own place, the destination, or the place that the destination is linked to, if any;
-/// came."
+/// came." Document 02, W5: "A place that comes is the latest".
 fn linking(cell: &mut Cell, agent: u8) -> Stepped {
     let home = cell.agents[&agent].home;
     let destination = destination(cell, agent);
     cell.places.get_mut(&home).expect("a home is in use").stands = Stands::Linked(destination);
+    cell.children.comes(home, destination);
     release(cell, agent);
     let mut places = vec![home, destination];
     places.extend(cell.places[&destination].linked_to());

@@ -1,11 +1,13 @@
 //! The table as a host lends it: numbers in a struct of C, any of which may be wrong.
 
 use crate::cell::{Action, Agent, Cell, Kind, Place, Stands};
+use crate::children::Children;
 use crate::sound::sound;
 use std::collections::BTreeMap;
 
-/// The size of the struct in bytes: places 4 bytes each, locks 1, agents 70, two sets of 8 bytes, and a count of 8 bytes for each place.
-pub const SIZE: usize = TOUCHES + 64 * 8;
+/// The size of the struct in bytes: places 4 bytes each, locks 1, agents 70, two sets of 8 bytes, a count of 8 bytes for each place, and a row
+/// of 64 numbers.
+pub const SIZE: usize = ORDER + 64;
 /// Where the locks start.
 const LOCKS: usize = 64 * 4;
 /// Where the agents start.
@@ -16,6 +18,8 @@ const AGENT: usize = 6 + 16 * 4;
 const SETS: usize = AGENTS + 64 * AGENT;
 /// Where the touch counts start.
 const TOUCHES: usize = SETS + 8 + 8;
+/// Where the row starts.
+const ORDER: usize = TOUCHES + 64 * 8;
 
 /// A place's record: way 0 is linked to the parent, any other way is on its way to it; the floor has
 /// name 0, parent 0 and a way other than 0.
@@ -45,7 +49,8 @@ pub struct AgentRecord {
     pub actions: [ActionRecord; 16],
 }
 
-/// All records, in use or not; a lock of 64 is free; a number is in use where its set says so.
+/// All records, in use or not; a lock of 64 is free; a number is in use where its set says so; the row of all place numbers has first the
+/// one that has been where it stands longest.
 #[derive(Clone, PartialEq, Eq, Debug)]
 pub struct Table {
     pub places: Vec<PlaceRecord>,
@@ -54,6 +59,7 @@ pub struct Table {
     pub used: Vec<bool>,
     pub given: Vec<bool>,
     pub touches: Vec<u64>,
+    pub order: Vec<u8>,
 }
 
 impl AgentRecord {
@@ -108,6 +114,7 @@ impl Table {
             used: set(SETS),
             given: set(SETS + 8),
             touches: (0..64).map(|number| eight(TOUCHES + 8 * number)).collect(),
+            order: bytes[ORDER..].to_vec(),
         }
     }
 
@@ -131,7 +138,7 @@ impl Table {
         if !sound(self) {
             return None;
         }
-        let mut cell = Cell { places: BTreeMap::new(), locks: BTreeMap::new(), agents: BTreeMap::new() };
+        let mut cell = Cell { places: BTreeMap::new(), children: Children::default(), locks: BTreeMap::new(), agents: BTreeMap::new() };
         for (number, record) in self.places_in_use() {
             let stands = match (number, record.way) {
                 (0, _) => Stands::TheFloor,
@@ -141,6 +148,11 @@ impl Table {
             cell.places.insert(number, Place { name: record.name, stands, touches: self.touches[number as usize] });
             if self.locks[number as usize] != 64 {
                 cell.locks.insert(number, self.locks[number as usize]);
+            }
+        }
+        for &number in &self.order {
+            if let Some(parent) = cell.places.get(&number).and_then(Place::linked_to) {
+                cell.children.comes(number, parent);
             }
         }
         for (number, record) in self.agents_in_use() {

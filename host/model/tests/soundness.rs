@@ -26,6 +26,9 @@ fn table(cell: &Cell) -> Table {
         table.agents[number as usize] = AgentRecord { home: agent.home, stage: agent.stage, remembered, chosen, next: 0, count, actions };
         table.given[number as usize] = true;
     }
+    let linked: Vec<u8> = cell.children.lists().flat_map(|(_, list)| list).copied().collect();
+    table.order = (0..64).filter(|number| !linked.contains(number)).collect();
+    table.order.extend(linked);
     table
 }
 
@@ -154,6 +157,38 @@ fn touches() {
 }
 
 #[test]
+fn the_row() {
+    let last = |t: &mut Table, number: u8| {
+        t.order.retain(|&other| other != number);
+        t.order.push(number);
+    };
+    assert!(!stays(CELL, &[], |t| t.order = vec![0; 64]), "every other number is missing");
+    assert!(stays(CELL, &[], |t| t.order = (0..64).rev().collect()), "any order is one");
+    for at in 0..64 {
+        // another number in its place stands there twice, and its own number is missing; also where no place has it
+        assert!(!stays(CELL, &[], |t| t.order[at] = t.order[(at + 1) % 64]));
+        for number in [64, 65, 127, 128, 255] {
+            assert!(!stays(CELL, &[], |t| t.order[at] = number));
+        }
+        assert!(!stays(CELL, &[], |t| t.order[at] += 64));
+        assert!(stays(CELL, &[], |t| t.order.swap(at, 63)));
+    }
+    // the order under a parent is the row's, whatever stands between
+    let under = |change: &dyn Fn(&mut Table)| {
+        let mut table = after(CELL, &[]);
+        change(&mut table);
+        table.cell().expect("sound").children.under(0).to_vec()
+    };
+    assert_eq!(under(&|_| ()), [1, 3]);
+    assert_eq!(under(&|t| last(t, 3)), [1, 3]);
+    assert_eq!(under(&|t| last(t, 1)), [3, 1]);
+    for number in [0, 2, 4, 63] {
+        assert_eq!(under(&|t| last(t, number)), [1, 3], "the floor, one under another parent, unused ones");
+    }
+    assert_eq!(under(&|t| t.order.reverse()), [3, 1]);
+}
+
+#[test]
 fn what_is_not_asked() {
     assert!(stays(CELL, &[], |t| t.places[9] = PlaceRecord { name: 0, parent: 200, way: 3 }));
     assert!(stays(CELL, &[], |t| t.locks[9] = 200));
@@ -177,6 +212,7 @@ fn reading_bytes() {
     bytes[4808..4816].copy_from_slice(&(1u64 << 63).to_ne_bytes());
     bytes[252..254].copy_from_slice(&513u16.to_ne_bytes());
     bytes[5320..5328].copy_from_slice(&70_000u64.to_ne_bytes());
+    (0..64).for_each(|number| bytes[5391 - number] = number as u8);
     let agent = 320 + 63 * 70;
     bytes[agent..agent + 6].copy_from_slice(&[63, 0, 0, 0, 15, 16]);
     bytes[agent + 66] = 2;
@@ -184,4 +220,7 @@ fn reading_bytes() {
     let cell = Table::read(&bytes).cell().expect("sound");
     assert_eq!(model::listing(&cell), "513[exit 7]");
     assert_eq!((cell.places[&0].touches, cell.places[&63].touches), (0, 70_000));
+    assert_eq!(cell.children.under(0), [63]);
+    bytes[5328] = 62;
+    assert_eq!(Table::read(&bytes).cell(), None);
 }

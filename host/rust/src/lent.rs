@@ -8,7 +8,7 @@ use crate::VERSION;
 use core::mem::{offset_of, size_of};
 
 /// The size of a cell in bytes.
-pub const SIZE: usize = 5_328;
+pub const SIZE: usize = 5_392;
 
 /// The number of places that a cell has room for; place 0 is the floor.
 pub const PLACES: usize = 64;
@@ -82,6 +82,8 @@ pub struct Lent {
     pub given: u64,
     /// For each place its touch count.
     pub touches: [u64; PLACES],
+    /// All place numbers, 0 to 63, each once: of places linked to one parent the one that has been there longest comes first.
+    pub order: [u8; PLACES],
 }
 
 const _: () = assert!(size_of::<Place>() == 4 && offset_of!(Place, parent) == 2 && offset_of!(Place, way) == 3);
@@ -91,6 +93,7 @@ const _: () = assert!(offset_of!(Agent, chosen) == 3 && offset_of!(Agent, next) 
 const _: () = assert!(offset_of!(Agent, actions) == 6 && size_of::<Lent>() == SIZE);
 const _: () = assert!(offset_of!(Lent, locks) == 256 && offset_of!(Lent, agents) == 320);
 const _: () = assert!(offset_of!(Lent, used) == 4800 && offset_of!(Lent, given) == 4808 && offset_of!(Lent, touches) == 4816);
+const _: () = assert!(offset_of!(Lent, order) == 5328);
 
 extern "C" {
     fn keeper_version() -> u64;
@@ -147,7 +150,7 @@ impl Lent {
         let action = Action { kind: 0, padding: 0, name: 0 };
         let agent = Agent { home: 0, stage: 0, remembered: 0, chosen: 0, next: 0, count: 0, actions: [action; ACTIONS] };
         let places = [Place { name: 0, parent: 0, way: 0 }; PLACES];
-        Lent { places, locks: [0; PLACES], agents: [agent; AGENTS], used: 0, given: 0, touches: [0; PLACES] }
+        Lent { places, locks: [0; PLACES], agents: [agent; AGENTS], used: 0, given: 0, touches: [0; PLACES], order: [0; PLACES] }
     }
 
     /// Makes the cell a bare floor.

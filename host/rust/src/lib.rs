@@ -61,7 +61,7 @@ use lent::Lent;
 
 /// The version of the library that this crate was made for: the major number from bit 16 on, the minor one in bits 8 to 15, the patch in
 /// bits 0 to 7.
-pub const VERSION: u64 = 131_072;
+pub const VERSION: u64 = 196_608;
 
 /// The longest cell file that can be accepted.
 pub const FILE_LONGEST: usize = 6_012;
@@ -125,7 +125,8 @@ impl Cell {
 
     /// One lock step of an agent. `wish` is the number of the place that an enter or open should choose where several qualify. It counts
     /// in the call in which the agent, holding its first lock, chooses. A wish for a place that does not qualify, or for none, such as 255,
-    /// is passed over, and the lowest qualifying number is chosen.
+    /// is passed over, and the qualifying place is chosen that has been under its parent longest: first in, first served. Loaded places count in
+    /// file order; a place that comes is the latest, and so are those that an opening frees, in the order in which they stood.
     ///
     /// # Errors
     ///

@@ -83,7 +83,8 @@ fn which_number_was_too_large() {
 
 #[test]
 fn a_file_of_length_0_is_a_bare_floor() {
-    let floor = |cell: &Cell| (cell.lent().places, cell.lent().locks, cell.lent().used, cell.lent().given, cell.lent().touches);
+    let floor =
+        |cell: &Cell| (cell.lent().places, cell.lent().locks, cell.lent().used, cell.lent().given, cell.lent().touches, cell.lent().order);
     let bare = floor(&Cell::bare());
     let mut cell = Cell::load(&[]).unwrap();
     assert_eq!([floor(&cell), floor(&Cell::load(&[4]).unwrap())], [bare, bare]);
@@ -184,6 +185,56 @@ fn refused_touches() {
     for count in [TOUCHES_MOST - 8, u64::MAX - 8, u64::MAX] {
         lent.touches[1] = count;
         assert_eq!(Cell::from_lent(lent.clone()).check(), refused(Refusal::Unsound).map(|_: u64| ()));
+    }
+}
+
+/// The row of a cell without the numbers that are not in use.
+fn row(cell: &Cell) -> Vec<u8> {
+    cell.lent().order.into_iter().filter(|&place| cell.lent().used >> place & 1 == 1).collect()
+}
+
+#[test]
+fn first_in_first_served() {
+    // on the floor a holder, place 1, and trays 4 and 3, in this order; a bonder, place 2, with places 7 and 5 in it. Agent 0 takes the holder
+    // into a tray, agent 1 takes tray 4 into the bonder and out again, agent 2, on the floor, opens the bonder
+    let mut file = vec![1, 1, 0, 30, 0, 1, 4, 0, 50, 0, 1, 3, 0, 50, 0, 1, 2, 0, 20, 0, 1, 7, 2, 60, 0, 1, 5, 2, 61, 0];
+    file.extend([2, 0, 1, 3, 0, 1, 50, 0, 2, 1, 4, 3, 1, 1, 20, 0, 3, 1, 2, 20, 0, 2, 2, 0, 3, 2, 3, 20, 0, 4]);
+    let run = |agents: &[(u8, usize)], wish: u8| {
+        let mut cell = Cell::load(&file).unwrap();
+        for &(agent, steps) in agents {
+            (0..steps).for_each(|_| assert!(cell.step(agent, wish).is_ok()));
+            cell.check().unwrap();
+        }
+        (row(&cell), cell.listing().unwrap())
+    };
+    let start = Cell::load(&file).unwrap();
+    assert_eq!(row(&start), [0, 1, 4, 3, 2, 7, 5]);
+    assert_eq!(start.lent().order[63], 5);
+    assert_eq!(Cell::bare().lent().order, std::array::from_fn(|place| place as u8));
+    let listed = |rest: &str| format!("{rest} | 50[enter 20.exit 20 | 30[]]");
+    assert_eq!(run(&[(0, 7)], 255), (vec![0, 4, 3, 2, 7, 5, 1], listed("open 20 | 20[61[] | 60[]] | 50[]")));
+    let younger = "open 20 | 20[61[] | 60[]] | 50[30[]] | 50[enter 20.exit 20]".to_string();
+    assert_eq!(run(&[(0, 7)], 3), (vec![0, 4, 3, 2, 7, 5, 1], younger));
+    let came_back = "open 20 | 20[61[] | 60[]] | 50[30[]] | 50[]".to_string();
+    assert_eq!(run(&[(1, 14), (0, 7)], 255), (vec![0, 3, 2, 7, 5, 4, 1], came_back));
+    let freed = "30[enter 50] | 50[] | 50[enter 20.exit 20] | 61[] | 60[]".to_string();
+    assert_eq!(run(&[(2, 4)], 255), (vec![0, 1, 4, 3, 7, 5], freed));
+}
+
+#[test]
+fn unsound_rows() {
+    let whole = Cell::load(&FILE).unwrap().lent().clone();
+    let checked = |order: [u8; 64]| Cell::from_lent(Lent { order, ..whole.clone() }).check();
+    let unsound = Err(Refused { refusal: Refusal::Unsound, offset: None });
+    for at in 0..64 {
+        let mut order = whole.order;
+        order.swap(at, 0);
+        assert_eq!(checked(order), Ok(()));
+        for number in [order[(at + 1) % 64], 64, order[at] + 64, order[at] + 128, 255] {
+            let mut order = order;
+            order[at] = number;
+            assert_eq!(checked(order), unsound);
+        }
     }
 }
 

@@ -2,18 +2,19 @@
 use native.Mathlib.Omega.{arith}
 use borrow.Author.Needs.{needs}
 use mathlib.Core.Path.{refl, _∙_, sym}
-use Prim.Native.Nat.{_-_}
+use Prim.Native.Nat.{_-_, _<_}
 use lib.ListN.{length}
-use Rattle.reader.specs.LoadLaws.{Rest, rest-all, stopped, past-end, ended, rest-place, rest-touches, rest-agent, rest-action, has-room, short, answer-refused, answer-accepted, answer-empty}
+use Rattle.reader.specs.LoadRest.{Rest, rest-all, answer-refused, answer-accepted, answer-empty}
+use Rattle.reader.specs.LoadLaws.{stopped, past-end, ended, finished, has-place, rest-place, rest-touches, rest-agent, rest-action, has-room, short}
 use Rattle.reader.proofs.Tags.{is-end}
 use Rattle.reader.proofs.load.Statement.{statement}
 use Rattle.reader.proofs.load.Tie as tie
 
 abbrev Inv-loop : tie.InvT-loop
-Inv-loop c s d₀ full₀ counted₀ at₀ d full counted at = Rest s at d full counted
+Inv-loop c s d₀ full₀ counted₀ came₀ many₀ at₀ d full counted came many at = Rest s at d full counted came many
 
 abbrev μ-loop : tie.MeasureT-loop
-μ-loop c s d₀ full₀ counted₀ at₀ d full counted at = length s - at
+μ-loop c s d₀ full₀ counted₀ came₀ many₀ at₀ d full counted came many at = length s - at
 
 returns : tie.Need-returns Inv-loop μ-loop
 returns c = let a = c .before .before .before .args in answer-empty (a .c) _ (a .s .now) (c .if1 .taken) (c .before .bare .ensures)
@@ -25,31 +26,34 @@ returns-2 c =
     let t = m .before .before .before .loop-test .taken in
     let e = sym (is-end _ (c .before .before .before .before .before .match .keys2) (c .before .before .before .before .match2 .keys2)
     (c .before .before .before .match3 .keys2) (c .before .before .match4 .keys2) (c .before .match5 .keys2)) in
-    answer-refused _ _ 9 _ (past-end _ (l .at) (l .d) (l .full) (l .counted) (l .inv) t (e ∙ m .record-at .ensures) (c .if2 .taken))
+    answer-refused _ _ 9 _ (past-end _ (l .at) (l .d) (l .full) (l .counted) (l .came) (l .many) (l .inv) t (e ∙ m .record-at .ensures) (c .if2 .taken))
 
 returns-3 : tie.Need-returns-3 Inv-loop μ-loop
 returns-3 c =
-    let m = c .before .before .before .before .before .before in
+    let f = c .before .before in
+    let m = f .before .before .before .before .before .before in
     let l = m .before .before .before .before .loop in
     let t = m .before .before .before .loop-test .taken in
-    let e = sym (is-end _ (c .before .before .before .before .before .match .keys2) (c .before .before .before .before .match2 .keys2)
-    (c .before .before .before .match3 .keys2) (c .before .before .match4 .keys2) (c .before .match5 .keys2)) in
+    let e = sym (is-end _ (f .before .before .before .before .before .match .keys2) (f .before .before .before .before .match2 .keys2)
+    (f .before .before .before .match3 .keys2) (f .before .before .match4 .keys2) (f .before .match5 .keys2)) in
     let a = m .before .before .before .before .before .before .before .before .args in
-    answer-accepted (a .c) _ _ _ (l .inv .is) (ended _ (l .at) (l .d) (l .full) (l .counted) (l .inv) t (e ∙ m .record-at .ensures) (c .if2 .left))
+    answer-accepted (a .c) _ _ _
+    (finished _ (l .at) (l .d) (l .full) (l .counted) (l .came) (l .many) (l .inv) t _ _ (c .before .remove .ensures) (c .loaded-row .ensures))
+    (ended _ (l .at) (l .d) (l .full) (l .counted) (l .came) (l .many) (l .inv) t (e ∙ m .record-at .ensures) (f .if2 .left))
 
 returns-4 : tie.Need-returns-4 Inv-loop μ-loop
 returns-4 c =
     let m = c .before .before .before .before .before .before .before in
     let l = m .before .before .before .before .loop in
     let t = m .before .before .before .loop-test .taken in
-    answer-refused _ _ _ _ (stopped _ (l .at) (l .d) (l .full) (l .counted) (l .inv) t _ (sym (c .before .r5 .given .1) ∙ m .record-at .ensures))
+    answer-refused _ _ _ _ (stopped _ (l .at) (l .d) (l .full) (l .counted) (l .came) (l .many) (l .inv) t _ (sym (c .before .r5 .given .1) ∙ m .record-at .ensures))
 
 with-action-requires : tie.Need-with-action-requires Inv-loop μ-loop
 with-action-requires c κs =
     let m = c .before .before .before .before .before .before .before in
     let l = m .before .before .before .before .loop in
     let t = m .before .before .before .loop-test .taken in
-    has-room _ (l .at) (l .d) (l .full) (l .counted) (l .inv) t _ _ _ _ (sym (c .before .before .before .r3 .given .1) ∙ m .record-at .ensures)
+    has-room _ (l .at) (l .d) (l .full) (l .counted) (l .came) (l .many) (l .inv) t _ _ _ _ (sym (c .before .before .before .r3 .given .1) ∙ m .record-at .ensures)
     (c .before .at2 .ensures)
 
 -- touches
@@ -58,7 +62,7 @@ loop-again c =
     let m = c .before .before .before .before .before .before .before .before in
     let l = m .before .before .before .before .loop in
     let t = m .before .before .before .loop-test .taken in
-    rest-touches _ (l .at) (l .d) (l .full) (l .counted) (l .inv) t _ _ _ _ (sym (c .before .before .before .r4 .given .1) ∙ m .record-at .ensures)
+    rest-touches _ (l .at) (l .d) (l .full) (l .counted) (l .came) (l .many) (l .inv) t _ _ _ _ (sym (c .before .before .before .r4 .given .1) ∙ m .record-at .ensures)
     (c .before .at .ensures) (c .insert .ensures)
 
 loop-again-2 : tie.Need-loop-again-2 Inv-loop μ-loop
@@ -68,7 +72,7 @@ loop-again-2 c =
     let m = r .before .before .before .before in
     let l = m .before .before .before .before .loop in
     let t = m .before .before .before .loop-test .taken in
-    rest-action _ (l .at) (l .d) (l .full) (l .counted) (l .inv) t _ _ _ _ (sym (r .r3 .given .1) ∙ m .record-at .ensures) (g .at2 .ensures) _ _
+    rest-action _ (l .at) (l .d) (l .full) (l .counted) (l .came) (l .many) (l .inv) t _ _ _ _ (sym (r .r3 .given .1) ∙ m .record-at .ensures) (g .at2 .ensures) _ _
     (c .before .before .with-action .ensures) (c .insert-if .ensures)
 
 loop-again-3 : tie.Need-loop-again-3 Inv-loop μ-loop
@@ -77,15 +81,23 @@ loop-again-3 c =
     let m = r .before .before .before in
     let l = m .before .before .before .before .loop in
     let t = m .before .before .before .loop-test .taken in
-    rest-agent _ (l .at) (l .d) (l .full) (l .counted) (l .inv) t _ _ _ _ _ (sym (r .r2 .given .1) ∙ m .record-at .ensures)
+    rest-agent _ (l .at) (l .d) (l .full) (l .counted) (l .came) (l .many) (l .inv) t _ _ _ _ _ (sym (r .r2 .given .1) ∙ m .record-at .ensures)
     (c .before .before .before .at3 .ensures) (c .before .with-home .ensures) (c .insert2 .ensures)
+
+-- there is room for the number of a place
+room : (c : tie.After-insert3 Inv-loop μ-loop) → c .before .before .before .before .before .before .before .before .before .loop .many < 64
+room c =
+    let m = c .before .before .before .before .before in
+    let l = m .before .before .before .before .loop in
+    let t = m .before .before .before .loop-test .taken in
+    has-place _ (l .at) (l .d) (l .full) (l .counted) (l .came) (l .many) (l .inv) t _ _ _ (sym (c .before .before .before .r .given .1) ∙ m .record-at .ensures)
 
 loop-again-4 : tie.Need-loop-again-4 Inv-loop μ-loop
 loop-again-4 c =
     let m = c .before .before .before .before .before in
     let l = m .before .before .before .before .loop in
     let t = m .before .before .before .loop-test .taken in
-    rest-place _ (l .at) (l .d) (l .full) (l .counted) (l .inv) t _ _ _ _ _ (sym (c .before .before .before .r .given .1) ∙ m .record-at .ensures)
+    rest-place _ (l .at) (l .d) (l .full) (l .counted) (l .came) (l .many) (l .inv) t _ _ _ _ _ (sym (c .before .before .before .r .given .1) ∙ m .record-at .ensures)
     (c .before .at4 .ensures) (c .insert3 .ensures)
 
 pub load-spec : {M : Type 1} → statement M
@@ -93,9 +105,9 @@ load-spec =
     tie.close
     (tie.spec Inv-loop μ-loop
     (λ c κs. tt) returns
-    (λ c. rest-all _ _ _ _ (omega (arith, c .if1 .left)) (c .before .bare .ensures) refl refl) (λ c κs. search needs)
+    (λ c. rest-all _ _ _ _ _ (omega (arith, c .if1 .left)) (c .before .bare .ensures) refl refl refl) (λ c κs. search needs)
     (λ c. c .match .keys1) (λ c. c .match2 .keys1) (λ c. c .match3 .keys1) (λ c. c .match4 .keys1) (λ c. c .match5 .keys1)
-    (λ c. search needs) (λ c. search needs) returns-2 returns-3 returns-4
+    (λ c. search needs) (λ c. search needs) returns-2 (λ c κs. search needs) (λ c κs. search needs) returns-3 returns-4
     -- touches
     (λ c κs. search needs) (λ c. search needs) (λ c. search needs) (λ c. search needs) (λ c κs. search needs)
     (λ c. let t = c .before .before .before .before .before .before .before .before .before .before .before in
@@ -110,6 +122,7 @@ load-spec =
     (λ c κs. search needs) (λ c. search needs) (λ c. search needs) (λ c κs. search needs) (λ c. search needs) (λ c. search needs)
     (λ c κs. search needs) (λ c. search needs) (λ c. search needs) loop-again-3
     -- a place
-    (λ c κs. search needs) (λ c. search needs) (λ c. search needs) (λ c κs. search needs) (λ c. search needs) (λ c. search needs) loop-again-4
+    (λ c κs. search needs) (λ c. search needs) (λ c. search needs) (λ c κs. search needs) room (λ c. let r = room c in omega arith) (λ c. search needs) (λ c. search needs)
+    loop-again-4
     -- the file ends without an end record
-    (λ c. let l = c .before .loop in answer-refused _ _ 1 _ (short _ (l .at) (l .d) (l .full) (l .counted) (l .inv) (c .loop-test .left))))
+    (λ c. let l = c .before .loop in answer-refused _ _ 1 _ (short _ (l .at) (l .d) (l .full) (l .counted) (l .came) (l .many) (l .inv) (c .loop-test .left))))

@@ -7,6 +7,7 @@ use Rattle.table.specs.BaseLaws.{under}
 use Rattle.table.specs.Cell.{Land}
 use Rattle.table.specs.declared.Agent.{Agent}
 use Rattle.stages.specs.Changes.{changeAt}
+use Rattle.stages.specs.RowlessLaws.{looks-rowless, acts-rowless, travels-rowless}
 use Rattle.stages.proofs.stage_step.Statement.{statement}
 use Rattle.stages.proofs.stage_step.Tie as tie
 
@@ -19,7 +20,7 @@ unfolding changeAt
 returns-5 c =
     let r = c .before .before .match .rest in
     rw (ne-eqb _ 0 (r .0 .0 .0 .1), ne-eqb _ 1 (r .0 .0 .1), ne-eqb _ 2 (r .0 .1), ne-eqb _ 3 (r .1), le-leb _ 6 (under _ 6 (c .before .if1 .taken)))
-    (c .travel .ensures)
+    (let a = c .before .before .before .args in c .travel .ensures ∙ travels-rowless (a .ps) (a .used) (a .row) (a .a))
 
 returns-6 : tie.Need-returns-6
 unfolding changeAt
@@ -34,8 +35,8 @@ stage-step-spec =
     tie.close
     (tie.spec
     (λ c κs. search needs) (λ c κs. search needs) (λ c κs. search needs) (λ c κs. search needs) (λ c κs. search needs) (λ c κs. search needs)
-    (λ c. c .look .ensures ∙ at-stage _ _ _ (c .before .match .keys1))
+    (λ c. let a = c .before .before .args in c .look .ensures ∙ looks-rowless (a .ps) (a .used) (a .row) (a .a) ∙ at-stage _ _ _ (c .before .match .keys1))
     (λ c. c .lock-first .ensures ∙ at-stage _ _ _ (c .before .match .keys2))
     (λ c. c .hold .ensures ∙ at-stage _ _ _ (c .before .match .keys3))
-    (λ c. c .act .ensures ∙ at-stage _ _ _ (c .before .match .keys4))
+    (λ c. let a = c .before .before .args in c .act .ensures ∙ acts-rowless (a .ps) (a .used) (a .row) (a .a) ∙ at-stage _ _ _ (c .before .match .keys4))
     returns-5 returns-6)

@@ -9,9 +9,9 @@ use Rattle.step.proofs.decide.Tie as tie
 returns : tie.Need-returns
 unfolding decided
 returns c =
-    let has = c .before .before .before .before .before in
+    let has = c .before .before .before .before .before .before in
     let a = has .before .before .before .before .before .args in
-    rw (has .before .before .if1 .taken, sym (has .has .ensures) ∙ c .before .before .before .before .if2 .taken)
+    rw (has .before .before .if1 .taken, sym (has .has .ensures) ∙ c .before .before .before .before .before .if2 .taken)
     (c .settled .ensures ∙ ap (λ (k : Change). settling k (a .agent) (a .seen .agent) (a .c .locks)) (c .before .stage-step .ensures))
 
 returns-2 : tie.Need-returns-2

@@ -1,4 +1,4 @@
-//! Whether a table is sound: a pass over the agents, one over the places, from each place the way to the floor, and the touches.
+//! Whether a table is sound: a pass over the agents, one over the places, from each place the way to the floor, the touches, and the row.
 
 use crate::cell::{has, Action, Agent, Cell, MOST_TOUCHES, NONE};
 
@@ -52,7 +52,19 @@ pub fn sound(cell: &Cell) -> bool {
             return false;
         }
     }
-    few_touches(cell, 0)
+    few_touches(cell, 0) && whole(cell)
+}
+
+/// Whether every number stands in the row once.
+fn whole(cell: &Cell) -> bool {
+    let mut seen = [false; 64];
+    for q in cell.order {
+        if q > 63 || seen[q as usize] {
+            return false;
+        }
+        seen[q as usize] = true;
+    }
+    true
 }
 
 /// Whether the places in use have few enough touches, with so many more.

@@ -110,14 +110,14 @@ fn exits(cell: &Cell, name: u16, p: u8) -> bool {
     linked(cell, p) && cell.places[p as usize].name == name
 }
 
-/// The wished place if the action fires on it, else the lowest number on which it does; p for exit.
+/// The wished place if the action fires on it, else the one on which it does that has been there longest; p for exit.
 fn choose(cell: &Cell, action: Action, home: u8, p: u8, wish: u8) -> Option<u8> {
     if action.kind == EXIT {
         exits(cell, action.name, p).then_some(p)
     } else if fires(cell, action, home, p, wish) {
         Some(wish)
     } else {
-        (0..64).find(|&q| fires(cell, action, home, p, q))
+        cell.order.into_iter().find(|&q| fires(cell, action, home, p, q))
     }
 }
 
@@ -167,7 +167,7 @@ fn leave(cell: &mut Cell, x: u8, home: u8, p: u8, destination: u8) -> Answer {
     (LEFT, woken)
 }
 
-/// Dissolves place t into p, which is the agent's own; its touches are pooled there.
+/// Dissolves place t into p, which is the agent's own; its touches are pooled there, and the places in it go to the end of the row.
 fn open(cell: &mut Cell, x: u8, p: u8, t: u8) -> Answer {
     for q in 0..64 {
         let lock = cell.locks[q as usize];
@@ -194,6 +194,14 @@ fn open(cell: &mut Cell, x: u8, p: u8, t: u8) -> Answer {
             woken += 1;
         }
     }
+    let row = cell.order;
+    let freed = |q: u8| has(cell.used, q) && cell.places[q as usize].parent == t;
+    let (mut stay, mut go) = (0, row.iter().filter(|&&q| !freed(q)).count());
+    for q in row {
+        let at = if freed(q) { &mut go } else { &mut stay };
+        cell.order[*at] = q;
+        *at += 1;
+    }
     for q in 0..64 {
         if has(cell.used, q) && cell.places[q as usize].parent == t {
             cell.places[q as usize].parent = p;
@@ -214,6 +222,11 @@ fn arrive(cell: &mut Cell, x: u8, home: u8) -> Answer {
     let destination = cell.places[home as usize].parent;
     let beyond = if linked(cell, destination) { cell.places[destination as usize].parent } else { destination };
     cell.places[home as usize].way = 0;
+    for at in 0..63 {
+        if cell.order[at] == home {
+            cell.order.swap(at, at + 1);
+        }
+    }
     cell.locks[home as usize] = NONE;
     cell.locks[destination as usize] = NONE;
     let woken = wake(cell, [home, destination, beyond]);

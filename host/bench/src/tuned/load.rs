@@ -1,6 +1,6 @@
 //! The cell of a cell file: one record after another, from a bare floor.
 
-use crate::cell::{has, Action, Cell, Place};
+use crate::cell::{has, members, Action, Cell, Place};
 
 /// A refused file: the number and the byte offset.
 pub struct Refused {
@@ -17,12 +17,14 @@ enum Record {
     End,
 }
 
-/// The cell of a whole file, or the first refusal. A file of length 0 is a bare floor.
+/// The cell of a whole file, or the first refusal. A file of length 0 is a bare floor. The places stand at the end of the row, as they come in
+/// the file; `came` keeps them until the file's end.
 pub fn load(file: &[u8]) -> Result<Cell, Refused> {
     let mut cell = Cell::BARE;
     if file.is_empty() {
         return Ok(cell);
     }
+    let (mut came, mut count) = ([0; 63], 0);
     let mut touched = 0;
     let mut at = 0;
     while at < file.len() {
@@ -31,6 +33,8 @@ pub fn load(file: &[u8]) -> Result<Cell, Refused> {
             Record::Place { number, parent, name } => {
                 cell.places[number as usize] = Place { name, parent, way: 0 };
                 cell.used |= 1 << number;
+                came[count] = number;
+                count += 1;
                 at += 5;
             }
             Record::Agent { number, home } => {
@@ -51,7 +55,12 @@ pub fn load(file: &[u8]) -> Result<Cell, Refused> {
                 at += 6;
             }
             Record::End if at + 1 < file.len() => return Err(Refused { number: 9, offset: at + 1 }),
-            Record::End => return Ok(cell),
+            Record::End => {
+                let (others, latest) = cell.order.split_at_mut(64 - count);
+                others.iter_mut().zip(members(!cell.used | 1)).for_each(|(number, unused)| *number = unused);
+                latest.copy_from_slice(&came[..count]);
+                return Ok(cell);
+            }
         }
     }
     Err(Refused { number: 1, offset: file.len() })

@@ -1,4 +1,4 @@
-//! Whether a table is sound: one pass over the agents, one over the places, and the way to the floor.
+//! Whether a table is sound: one pass over the agents, one over the places, the way to the floor, and one pass over the row.
 
 use crate::cell::{has, members, Agent, Cell, MOST_TOUCHES, NONE};
 
@@ -13,7 +13,8 @@ pub fn sound_touches(cell: &Cell) -> Option<u64> {
     let sound = has(cell.used, 0)
         && members(cell.given).all(|x| seen.agent_fits(cell, x, &cell.agents[x as usize]))
         && members(cell.used).all(|q| seen.place_fits(cell, q))
-        && all_lead_to_the_floor(cell);
+        && all_lead_to_the_floor(cell)
+        && whole(&cell.order);
     sound.then_some(seen.touches)
 }
 
@@ -90,6 +91,20 @@ impl Seen {
                 place.name != 0 && has(cell.used, place.parent) && going == (place.way != 0)
             }
     }
+}
+
+/// Whether every number stands in the row, and so none twice and none above 63: eight numbers at a time.
+fn whole(order: &[u8; 64]) -> bool {
+    let (mut seen, mut all) = (0u64, 0);
+    for eight in order.chunks_exact(8) {
+        let mut word = u64::from_le_bytes([eight[0], eight[1], eight[2], eight[3], eight[4], eight[5], eight[6], eight[7]]);
+        all |= word;
+        for _ in 0..8 {
+            seen |= 1 << (word & 63);
+            word >>= 8;
+        }
+    }
+    seen == u64::MAX && all & 0xC0C0_C0C0_C0C0_C0C0 == 0
 }
 
 /// Whether q is in use and linked to p.

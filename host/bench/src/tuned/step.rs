@@ -129,7 +129,7 @@ fn awaited(cell: &Cell, q: u8) -> bool {
     members(cell.used & !1).any(|r| cell.places[r as usize].way != 0 && cell.places[r as usize].parent == q)
 }
 
-/// The wished place if the action fires on it, else the lowest number on which it does.
+/// The wished place if the action fires on it, else the one on which it does that has been there longest.
 fn choose(cell: &Cell, action: Action, home: u8, p: u8, wish: u8) -> Option<u8> {
     let fits = |q: u8| fires(cell, action, home, p, q);
     if action.kind == EXIT {
@@ -137,7 +137,7 @@ fn choose(cell: &Cell, action: Action, home: u8, p: u8, wish: u8) -> Option<u8> 
     } else if fits(wish) {
         Some(wish)
     } else {
-        members(cell.used).find(|&q| fits(q))
+        cell.order.iter().copied().find(|&q| fits(q))
     }
 }
 
@@ -192,6 +192,19 @@ fn leave(cell: &mut Cell, x: u8, p: u8, destination: u8) -> Answer {
     (Word::Left, woken)
 }
 
+/// Those of a set go to the end of the row, in the order in which they stand in it.
+fn later(order: &mut [u8; 64], set: u64) {
+    if set == 0 {
+        return;
+    }
+    let (mut stays, mut goes) = (0, 64 - set.count_ones() as usize);
+    for q in *order {
+        let at = if set >> q & 1 == 1 { &mut goes } else { &mut stays };
+        order[*at] = q;
+        *at += 1;
+    }
+}
+
 /// Dissolves place t into p, which is the agent's own; its touches are pooled there.
 fn open(cell: &mut Cell, x: u8, p: u8, t: u8) -> Answer {
     for q in members(cell.used) {
@@ -215,12 +228,15 @@ fn open(cell: &mut Cell, x: u8, p: u8, t: u8) -> Answer {
             agent.stand(0, 0, 0);
         }
     }
+    let mut freed = 0u64;
     for q in members(cell.used) {
         let place = &mut cell.places[q as usize];
         if place.parent == t {
             place.parent = p;
+            freed |= 1 << q;
         }
     }
+    later(&mut cell.order, freed);
     cell.places[t as usize] = Place { name: 0, parent: 0, way: 0 };
     cell.touches[p as usize] += std::mem::take(&mut cell.touches[t as usize]);
     cell.used &= !(1 << t);
@@ -235,6 +251,10 @@ fn arrive(cell: &mut Cell, x: u8) -> Answer {
     let destination = cell.places[home as usize].parent;
     let beyond = if linked(cell, destination) { cell.places[destination as usize].parent } else { destination };
     cell.places[home as usize].way = 0;
+    if let Some(at) = cell.order.iter().position(|&q| q == home) {
+        cell.order.copy_within(at + 1.., at);
+        cell.order[63] = home;
+    }
     release(cell, home);
     release(cell, destination);
     let woken = wake(cell, |agent| agent.asleep_on(home) || agent.asleep_on(destination) || agent.asleep_on(beyond));

@@ -1,20 +1,21 @@
 -- Each turn takes the lowest agent that is left; what holds before it is `Passed`. An agent that does not fit, or the second
--- that moves a place, makes the table unsound; once nobody is left, the places and then the touches decide. The agent that is
--- handed out was read before the walk.
+-- that moves a place, makes the table unsound; once nobody is left, the places decide, and then the touches and the row. The agent
+-- that is handed out was read before the walk.
 use Prim.Native.Nat.{ℕ}
 use mathlib.Core.Path.{_≡_, sym, ap, ap₂, _∙_, subst}
-use mathlib.Core.Bool.{true}
+use mathlib.Core.Bool.{true, _&&_}
 use native.Mathlib.Omega.{arith}
 use borrow.Author.Tests.{not-true}
 use Rattle.sets.specs.Set.{inserted}
 use Rattle.sets.specs.declared.Set.{Set}
 use Rattle.table.specs.Cell.{cellOf}
 use Rattle.table.specs.SoundParts.{core-fails, core-holds}
-use Rattle.table.specs.Sound.{firstHeld, secondHeldIn, goingFrom, agentFits, coreSound, touchSum}
+use Rattle.table.specs.Sound.{firstHeld, secondHeldIn, goingFrom, agentFits, coreSound, booksSound, touchSum}
 use Rattle.soundness.specs.Pass.{quiet}
 use Rattle.soundness.specs.AgentLaws.{home-out, row-out}
 use Rattle.soundness.specs.PassLaws.{Passed, passed-are, passed-start, passed-twice, passed-quiet, passed-busy}
 use Rattle.soundness.specs.SoundLaws.{lands-same}
+use Rattle.order.specs.Row.{rowFits}
 use Rattle.soundness.specs.Left.{leftOf}
 use Rattle.soundness.specs.declared.touches.Left.{Left}
 use Rattle.table.proofs.Facts.{sized}
@@ -93,14 +94,15 @@ returns-6 c =
     c .unsound6 .ensures
     ∙ seen-as s _ (core-fails (cellOf (s .before .args .t1)) (sym (sym (placed (c .before .before)) ∙ not-true _ (c .before .if8 .taken))))
 
--- and then the touches
+-- and then the touches and the row
 returns-7 : tie.Need-returns-7 Inv-loop μ-loop
-unfolding leftOf touchSum cellOf
+unfolding booksSound leftOf touchSum cellOf
 returns-7 c =
-    let p = c .before .before .before .before in
+    let t = c .before .before in
+    let p = t .before .before .before .before in
     let s = p .before .before .before .before .before .before .before .before .before in
-    seen-as s _ (ap (λ (l : Left). l .fits) (c .touches-left .ensures)
-    ∙ core-holds (cellOf (s .before .args .t1)) (sym (placed p) ∙ kept _ (c .before .before .before .if8 .left)))
+    seen-as s _ (c .books-fit .ensures ∙ ap (λ (l : Left). l .fits && rowFits (s .before .args .t1 .order)) (t .touches-left .ensures)
+    ∙ core-holds (cellOf (s .before .args .t1)) (sym (placed p) ∙ kept _ (t .before .before .before .if8 .left)))
 
 pub see-spec : {M : Type 1} → statement M
 see-spec =
@@ -134,4 +136,4 @@ see-spec =
     let second = c .before .before .before .before .before .before .before .before .before .before .before .before in
     fewer (second .before .before .before .before .before .before .before .before .before .before .before .before .before)) loop-again-2
     -- nobody is left
-    (λ c κs. tt) (λ c κs. tt) returns-6 (λ c κs. tt) returns-7)
+    (λ c κs. tt) (λ c κs. tt) returns-6 (λ c κs. tt) (λ c κs. tt) returns-7)

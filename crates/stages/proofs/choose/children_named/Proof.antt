@@ -11,8 +11,8 @@ use Rattle.sets.specs.Set.{member}
 use Rattle.sets.specs.WalkLaws.{rest-lt, removed-less}
 use Rattle.sets.specs.declared.Set.{Set}
 use Rattle.table.specs.Cell.{noPlace}
-use Rattle.table.specs.Cell.{landOf}
 use Rattle.updates.specs.GatherLaws.{Gathered, gathered-start, gathered-end, gathered-more}
+use Rattle.stages.specs.Changes.{rowless}
 use Rattle.stages.specs.ChildLaws.{child-split}
 use Rattle.stages.proofs.choose.children_named.Statement.{statement}
 use Rattle.stages.proofs.choose.children_named.Tie as tie
@@ -47,7 +47,7 @@ loop-again c =
 
 returns : tie.Need-returns Inv-loop μ-loop
 returns c = let a = c .before .before .before .args in
-    gathered-end (c .before .before .loop .inv) (c .if1 .left) ∙ child-split (landOf (a .t1) (a .used)) (a .p) (a .n)
+    gathered-end (c .before .before .loop .inv) (c .if1 .left) ∙ child-split (rowless (a .t1) (a .used)) (a .p) (a .n)
 
 pub children-named-spec : {M : Type 1} → statement M
 children-named-spec =

@@ -10,13 +10,13 @@ use borrow.Author.Needs.{needs}
 use Rattle.sets.specs.WalkLaws.{rest-lt, removed-less, rest-start}
 use Rattle.sets.specs.declared.Set.{Set}
 use Rattle.table.specs.Cell.{noPlace}
-use Rattle.table.specs.Cell.{landOf}
+use Rattle.stages.specs.Changes.{rowless}
 use Rattle.stages.specs.ChildLaws.{Unmet, unmet-start, unmet-end, unmet-more}
 use Rattle.stages.proofs.choose.unawaited.Statement.{statement}
 use Rattle.stages.proofs.choose.unawaited.Tie as tie
 
 abbrev Inv-loop : tie.InvT-loop
-Inv-loop ps left₀ rest₀ left rest = Unmet (landOf ps rest₀) left₀ left rest
+Inv-loop ps left₀ rest₀ left rest = Unmet (rowless ps rest₀) left₀ left rest
 
 abbrev μ-loop : tie.MeasureT-loop
 μ-loop ps left₀ rest₀ left rest = rest .bits
@@ -27,7 +27,7 @@ small c = let l = c .before .before .before .before in
     subst (λ (n : ℕ). n < 64) (sym (c .before .first .ensures)) (rest-lt (l .loop .inv .left) (pos-of-ne-zero (c .before .before .if1 .taken)))
 
 loop-holds : tie.Need-loop-holds Inv-loop μ-loop
-loop-holds c = unmet-start (landOf (c .args .t1) (c .args .used)) (c .args .among) (c .args .used) (search needs)
+loop-holds c = unmet-start (rowless (c .args .t1) (c .args .used)) (c .args .among) (c .args .used) (search needs)
     (rest-start (c .args .used) (search needs))
 
 loop-less : tie.Need-loop-less Inv-loop μ-loop
@@ -41,12 +41,12 @@ loop-again c =
     let l = q .before .before .before in
     let a = l .before .args in
     rw (c .remove .ensures, c .before .before .before .rest .ensures)
-    (unmet-more (landOf (a .t1) (a .used)) (a .among) (l .loop .inv) (pos-of-ne-zero (q .before .if1 .taken)) (c .before .way-out .result)
+    (unmet-more (rowless (a .t1) (a .used)) (a .among) (l .loop .inv) (pos-of-ne-zero (q .before .if1 .taken)) (c .before .way-out .result)
     (c .before .way-out .ensures
     ∙ ap (λ (i : ℕ). cond (not (eqb i 0) && not (eqb (getD (a .t1) i noPlace .way) 0)) (getD (a .t1) i noPlace .parent) 64) (q .first .ensures)))
 
 returns : tie.Need-returns Inv-loop μ-loop
-returns c = let a = c .before .before .before .args in unmet-end (landOf (a .t1) (a .used)) (a .among) (c .before .before .loop .inv) (c .if1 .left)
+returns c = let a = c .before .before .before .args in unmet-end (rowless (a .t1) (a .used)) (a .among) (c .before .before .loop .inv) (c .if1 .left)
 
 pub unawaited-spec : {M : Type 1} → statement M
 unawaited-spec =

@@ -7,8 +7,7 @@ use borrow.Author.Needs.{needs}
 use borrow.Author.Tests.{eq-eqb, ne-eqb}
 use Rattle.table.specs.Cell.{nextAction}
 use Rattle.meaning.specs.Step.{fires}
-use Rattle.table.specs.Cell.{landOf}
-use Rattle.stages.specs.Changes.{acts}
+use Rattle.stages.specs.Changes.{rowless, acts}
 use Rattle.stages.specs.ChooseLaws.{fires-test}
 use Rattle.updates.specs.UpdateLaws.{kind-test}
 use Rattle.stages.proofs.rules.act.Statement.{statement}
@@ -16,7 +15,7 @@ use Rattle.stages.proofs.rules.act.Tie as tie
 
 -- whether the action fires, as the set and the target tell it
 fired : (m : tie.After-has) → m .has .result
-    ≡ fires (landOf (m .before .before .before .before .args .ps) (m .before .before .before .before .args .used))
+    ≡ fires (rowless (m .before .before .before .before .args .ps) (m .before .before .before .before .args .used))
     (m .before .before .before .before .args .a)
 fired m =
     let a = m .before .before .before .before .args in

@@ -5,17 +5,19 @@ use Rattle.meaning.specs.Step.{stays}
 use Rattle.table.specs.Cell.{landOf}
 use Rattle.stages.specs.Changes.{locksSecond, holds}
 use Rattle.stages.specs.ChooseLaws.{stays-test, choice-test}
+use Rattle.stages.specs.RowlessLaws.{stays-rowless}
 use Rattle.stages.proofs.rules.hold.Statement.{statement}
 use Rattle.stages.proofs.rules.hold.Tie as tie
 
 -- whether its place stays linked, as read
 stayed : (m : tie.After-stays) → m .stays .result
-    ≡ stays (landOf (m .before .before .before .before .args .ps) (m .before .before .before .before .args .used))
+    ≡ stays (landOf (m .before .before .before .before .args .ps) (m .before .before .before .before .args .used) (m .before .before .before .before .args .row))
     (m .before .before .before .before .args .a)
 stayed m =
     let a = m .before .before .before .before .args in
     m .stays .ensures ∙ stays-test (a .ps) (a .used) (a .a) _ (m .before .before .before .next-action .ensures) _ _ (m .before .has .ensures)
     (m .before .before .place-at .ensures)
+    ∙ stays-rowless (a .ps) (a .used) (a .row) (a .a)
 
 returns : tie.Need-returns
 unfolding holds
@@ -25,7 +27,7 @@ returns c =
     rw (sym (stayed m) ∙ c .before .before .before .if1 .taken)
     (c .lock-second .ensures
     ∙ ap (locksSecond (a .a)) (choice-test (a .ps) (a .used) (a .a) _ (m .before .before .before .next-action .ensures) _
-    (c .before .before .qualifying .ensures) (a .wish) _ (c .before .chosen .ensures)))
+    (c .before .before .qualifying .ensures) (a .row) (a .wish) _ (c .before .chosen .ensures)))
 
 pub hold-spec : {M : Type 1} → statement M
 unfolding holds
