@@ -81,7 +81,7 @@ extern "C" {
 #define KEEPER_LISTING_LONGEST 13043
 
 /* The stack that a call uses, in bytes, at most. This is measured and not proved: host/c/stack.c measures it on the library at hand and
-** fails where it is more. It found 34 KB for keeper_list on 63 nested places, 15 KB or less for the others. */
+** fails where it is more. It found 31 KB for keeper_list on 63 nested places, 17 KB or less for the others. */
 #define KEEPER_STACK 65536
 
 /*
