@@ -16,6 +16,11 @@ def place(number, parent, name):
     return bytes([1, number, parent, name % 256, name // 256])
 
 
+def keyed(number, parent, name, *keys):
+    """A place with its three keys, for entering, exiting and opening; 0: nobody may."""
+    return bytes([6, number, parent]) + b"".join(n.to_bytes(2, "little") for n in (name, *keys))
+
+
 def agent(number, home, *actions):
     """An agent and its row of actions, each a pair of kind and name."""
     row = b"".join(bytes([3, number, kind, name % 256, name // 256]) for kind, name in actions)
@@ -71,6 +76,12 @@ EXAMPLES = {
         place(1, 0, 30) + place(2, 0, 31) + place(4, 0, 50) + place(3, 0, 50) + place(5, 0, 20)
         + agent(0, 1, (ENTER, 50)) + agent(1, 2, (ENTER, 50)) + agent(2, 4, (ENTER, 20), (EXIT, 20)) + END,
         calls([0] * 8 + [2] * 15 + [1] * 8)),
+    # our bonder 20, with holder 30 in it, may be entered and left with 20, and nobody may open it; a supplier's magazine 40 goes in and
+    # out. Then the magazine is opened, so that its agent lives on the floor, and would open the bonder there
+    "suppliers-magazine": (
+        keyed(1, 0, 20, 20, 20, 0) + place(2, 1, 30) + place(3, 0, 40)
+        + agent(0, 3, (ENTER, 20), (EXIT, 20), (OPEN, 20)) + agent(1, 0, (OPEN, 40)) + END,
+        calls([0] * 17 + [1] * 4 + [0] * 4)),
     # a line on which nothing is defined yet: a file of length 0, and a dispatcher that calls agents that are not there
     "empty-line": (
         b"",
@@ -94,6 +105,13 @@ def full_floor():
     return places + agent(0, 0, *[(OPEN, 1 + j // 2 % 2) for j in range(16)]) + b"".join(agent(x, x, *row) for x in range(1, 64)) + END
 
 
+def full_keys():
+    """63 places with few names and keys, 0 among them, in five parents; an agent in each and on the floor, those of the parents open."""
+    places = b"".join(keyed(q, q % 5 * (q > 5), 1 + q % 3, q % 4, 1 + q // 4 % 3, q // 3 % 4) for q in range(1, 64))
+    rows = [[(OPEN if x < 5 else ENTER + j % 2, 1 + (x + j // 2) % 3) for j in range(16)] for x in range(64)]
+    return places + b"".join(agent(x, x, *row) for x, row in enumerate(rows)) + END
+
+
 def deep_cell():
     """63 places, each in the one before, and an agent that walks the innermost one out."""
     places = b"".join(place(q, q - 1, q) for q in range(1, 64))
@@ -109,9 +127,10 @@ def mixed(seed, count):
     return row
 
 
-# 63 places and 64 agents with sixteen actions each on the floor, names of five digits, the touches of every place: without its end, the
-# longest cell file and listing
-LONGEST = (b"".join(place(q, 0, 65535) for q in range(1, 64)) + b"".join(agent(x, 0, *[(ENTER, 65535)] * 16) for x in range(64))
+# 63 places and 64 agents with sixteen actions each on the floor, names and keys of five digits, the touches of every place: without its
+# end, the longest cell file and listing
+LONGEST = (b"".join(keyed(q, 0, 65535, 65535, 65535, 10000) for q in range(1, 64))
+           + b"".join(agent(x, 0, *[(ENTER, 65535)] * 16) for x in range(64))
            + b"".join(touches(q, 0xFFFFFFFF) for q in range(64)))
 TWO = place(1, 0, 7) + place(2, 0, 7) + agent(0, 1, (ENTER, 7)) + END
 NONE = b""
@@ -147,6 +166,34 @@ CASES = {
     "touches-before-their-place": (touches(1, 1) + place(1, 0, 7) + END, NONE),
     "touches-cut": (place(1, 0, 7) + touches(0x40, 1)[:5], NONE),
     "touches-and-no-end": (touches(0, 1), NONE),
+    # a place with keys is checked as one without; 6 is for its name alone
+    "keys-of-a-place-too-large": (keyed(0x40, 0x40, 0, 0, 0, 0) + END, NONE),
+    "keys-of-a-parent-too-large": (place(1, 0, 7) + keyed(1, 0x40, 0, 7, 7, 7) + END, NONE),
+    "keys-given-twice": (keyed(1, 0, 7, 1, 2, 3) + keyed(1, 5, 0, 1, 2, 3) + END, NONE),
+    "keys-before-their-parent": (keyed(1, 2, 0, 1, 2, 3) + place(2, 0, 7) + END, NONE),
+    "keys-and-name-zero": (keyed(1, 0, 7, 0, 0, 0) + keyed(2, 1, 0, 7, 7, 7) + END, NONE),
+    "keys-cut": (place(1, 0, 7) + keyed(0x40, 0, 7, 7, 7, 7)[:10], NONE),
+    "keys-and-no-end": (keyed(1, 0, 7, 7, 7, 7), NONE),
+    # listed with its keys where one of them is not the name
+    "keys-listed": (
+        keyed(1, 0, 7, 7, 7, 7) + keyed(2, 0, 7, 8, 7, 7) + keyed(3, 0, 7, 7, 8, 7) + keyed(4, 0, 7, 7, 7, 8)
+        + keyed(5, 4, 65535, 300, 256, 0) + keyed(6, 5, 1, 0, 0, 0) + place(7, 6, 65535) + agent(0, 6, (OPEN, 65535)) + END,
+        calls([0] * 5)),
+    # place 1, named 9, is entered with 5, left with 6 and opened with 8: agents 4 and 7 have these numbers, the others those for another
+    # kind or the name
+    "keys-by-kind": (
+        keyed(1, 0, 9, 5, 6, 8) + place(2, 0, 7)
+        + agent(0, 2, (ENTER, 6)) + agent(1, 2, (ENTER, 9)) + agent(2, 0, (OPEN, 5)) + agent(3, 0, (OPEN, 9))
+        + agent(4, 2, (ENTER, 5), (EXIT, 6)) + agent(5, 2, (EXIT, 5)) + agent(6, 2, (EXIT, 9)) + agent(7, 0, (OPEN, 8)) + END,
+        calls([x for y in (0, 1, 2, 3) for x in [y] * 3] + [4] * 7 + [5] * 3 + [6] * 3 + [4] * 7 + [7] * 4
+              + [x for y in (0, 1, 2, 3, 5, 6) for x in [y] * 4])),
+    # place 4 is named 7 and nobody may enter it; places 2 and 1 have other names and are entered with 7: first the one that stands first in
+    # the file, then the other one, by a wish
+    "keys-first-served": (
+        keyed(4, 0, 7, 0, 0, 0) + keyed(2, 0, 9, 7, 9, 9) + keyed(1, 0, 8, 7, 8, 8) + place(3, 0, 6)
+        + agent(0, 3, (ENTER, 7), (EXIT, 9), (ENTER, 7)) + END,
+        calls([0] * 14) + calls([0] * 7, 1)),
+    "full-keys": (full_keys(), calls([x for y in mixed(11, 180) for x in [y] * 14 + [y % 5] * 4])),
     "given-twice": (place(1, 0, 7) + place(1, 0, 8) + END, NONE),
     "not-yet-given": (place(5, 5, 7) + END, NONE),
     "name-zero": (place(1, 0, 0) + END, NONE),
@@ -201,6 +248,7 @@ CASES = {
     "past-the-limit": (TWO, calls([0] * 16383 + [1, 2])),
     "one-record-more": (LONGEST + place(63, 0, 65535) + END, NONE),
     "one-touch-record-more": (LONGEST + touches(63, 0xFFFFFFFF) + END, NONE),
+    "one-record-with-keys-more": (LONGEST + keyed(63, 0, 65535, 65535, 65535, 10000) + END, NONE),
     "longest-report": (LONGEST + END, calls([255] * 16383 + [254])),
 }
 

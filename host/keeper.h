@@ -53,7 +53,7 @@ extern "C" {
 ** anew: another layout of a cell, other arguments, another meaning of an answer. The minor number changes when something is added: a
 ** call, a word, a refusal. The patch number changes with anything else.
 */
-#define KEEPER_MAJOR 3
+#define KEEPER_MAJOR 4
 #define KEEPER_MINOR 0
 #define KEEPER_PATCH 0
 #define KEEPER_VERSION (KEEPER_MAJOR * 65536 + KEEPER_MINOR * 256 + KEEPER_PATCH)
@@ -70,18 +70,18 @@ extern "C" {
 #define KEEPER_TOUCHES_MOST 1000000000000
 
 /* The size of a cell in bytes. */
-#define KEEPER_CELL_BYTES 5392
+#define KEEPER_CELL_BYTES 5776
 
 /* The longest cell file that can be accepted; and how many bytes of a file, at its start, always decide the answer to it: a host may
 ** read that many of a longer file and lend those. Both are proved (crates/lengths, `accepted-longest` and `prefix`). */
-#define KEEPER_FILE_LONGEST 6012
-#define KEEPER_FILE_DECIDING 6017
+#define KEEPER_FILE_LONGEST 6390
+#define KEEPER_FILE_DECIDING 6400
 
 /* The longest listing: with a buffer of this size, keeper_list never answers 12 (proved: crates/lengths, `listing-longest`, `enough-room`). */
-#define KEEPER_LISTING_LONGEST 13043
+#define KEEPER_LISTING_LONGEST 14177
 
 /* The stack that a call uses, in bytes, at most. This is measured and not proved: host/c/stack.c measures it on the library at hand and
-** fails where it is more. It found 31 KB for keeper_list on 63 nested places, 17 KB or less for the others. */
+** fails where it is more. It found 32 KB for keeper_list on 63 nested places, 18 KB or less for the others. */
 #define KEEPER_STACK 65536
 
 /*
@@ -90,14 +90,27 @@ extern "C" {
 ** use mean nothing, nor does the byte between an action's kind and its name; but every place number stands in `order`.
 */
 
-/* A place: `way` is 0 where it is linked to `parent`, else it is on its way to `parent`. The floor has name 0, parent 0 and way 1. */
-typedef struct keeper_place {
+/* A name with its three keys, which say who may enter, leave and open the place: `enter n` acts on a place whose `entering` is n, `exit n`
+** on one whose `exiting` is n, `open n` on one whose `opening` is n. A key of 0 fits no action: nobody may. `name` is what the place is
+** called and listed by, and decides nothing of this. In a cell file a place record of kind 1 sets all three keys to the name, one of kind 6
+** gives each of them. Steps and touch calls change no name and no key of a place that stays in use. */
+typedef struct keeper_name {
     uint16_t name;
+    uint16_t entering;
+    uint16_t exiting;
+    uint16_t opening;
+} keeper_name;
+
+/* A place: its name with its keys, and `way` is 0 where it is linked to `parent`, else it is on its way to `parent`. The floor has name 0,
+** keys 0, parent 0 and way 1; a table whose floor has another name or key is unsound. */
+typedef struct keeper_place {
+    keeper_name name;
     uint8_t parent;
     uint8_t way;
 } keeper_place;
 
-/* An action: 1 enter, 2 exit, 3 open; and the name of the place that it acts on. */
+/* An action: 1 enter, 2 exit, 3 open; and in `name` the number that the key of that kind must be on the place that it acts on. Where a
+** place has no keys of its own (kind 1), that is its name. */
 typedef struct keeper_action {
     uint8_t kind;
     uint16_t name;
@@ -129,21 +142,24 @@ typedef struct keeper_cell {
     uint8_t order[KEEPER_PLACES];
 } keeper_cell;
 
-KEEPER_ASSERT(sizeof(keeper_place) == 4, "keeper_place has 4 bytes");
-KEEPER_ASSERT(offsetof(keeper_place, parent) == 2 && offsetof(keeper_place, way) == 3, "keeper_place");
+KEEPER_ASSERT(sizeof(keeper_name) == 8 && offsetof(keeper_name, entering) == 2, "keeper_name has 8 bytes");
+KEEPER_ASSERT(offsetof(keeper_name, exiting) == 4 && offsetof(keeper_name, opening) == 6, "keeper_name");
+KEEPER_ASSERT(sizeof(keeper_place) == 10, "keeper_place has 10 bytes");
+KEEPER_ASSERT(offsetof(keeper_place, parent) == 8 && offsetof(keeper_place, way) == 9, "keeper_place");
 KEEPER_ASSERT(sizeof(keeper_action) == 4 && offsetof(keeper_action, name) == 2, "keeper_action has 4 bytes");
 KEEPER_ASSERT(sizeof(keeper_agent) == 70, "keeper_agent has 70 bytes");
 KEEPER_ASSERT(offsetof(keeper_agent, stage) == 1 && offsetof(keeper_agent, remembered) == 2, "keeper_agent");
 KEEPER_ASSERT(offsetof(keeper_agent, chosen) == 3 && offsetof(keeper_agent, next) == 4, "keeper_agent");
 KEEPER_ASSERT(offsetof(keeper_agent, count) == 5 && offsetof(keeper_agent, actions) == 6, "keeper_agent");
-KEEPER_ASSERT(sizeof(keeper_cell) == KEEPER_CELL_BYTES, "keeper_cell has 5392 bytes");
-KEEPER_ASSERT(offsetof(keeper_cell, locks) == 256 && offsetof(keeper_cell, agents) == 320, "keeper_cell");
-KEEPER_ASSERT(offsetof(keeper_cell, used) == 4800 && offsetof(keeper_cell, given) == 4808, "keeper_cell");
-KEEPER_ASSERT(offsetof(keeper_cell, touches) == 4816 && offsetof(keeper_cell, order) == 5328, "keeper_cell");
+KEEPER_ASSERT(sizeof(keeper_cell) == KEEPER_CELL_BYTES, "keeper_cell has 5776 bytes");
+KEEPER_ASSERT(offsetof(keeper_cell, locks) == 640 && offsetof(keeper_cell, agents) == 704, "keeper_cell");
+KEEPER_ASSERT(offsetof(keeper_cell, used) == 5184 && offsetof(keeper_cell, given) == 5192, "keeper_cell");
+KEEPER_ASSERT(offsetof(keeper_cell, touches) == 5200 && offsetof(keeper_cell, order) == 5712, "keeper_cell");
 
 /* The numbers with which a call is refused. Of a cell file, 3 is for the number that a place record gives, 13 for a parent (of a place) or
 ** home (of an agent), 14 for the number of an agent, in an agent or an action record; of the three the earlier byte in the record decides. A
-** step for an agent above 63 is 11. Of touches, in a record and in a call, 3 is for a place above 63, and 5 for one that is not there. */
+** step for an agent above 63 is 11. Of touches, in a record and in a call, 3 is for a place above 63, and 5 for one that is not there. A
+** place record with keys (kind 6) is tested as one without (kind 1); 6 is for its name alone, and its keys may be any numbers. */
 enum {
     KEEPER_CUT_SHORT = 1,
     KEEPER_UNKNOWN_KIND = 2,
@@ -215,7 +231,7 @@ keeper_answer keeper_bare(keeper_cell *cell);
 ** offset of the first faulty record (for a missing end record, the file's length; for 9, the first byte after the end record), and the cell
 ** is as it was. Within a record the order of the tests is 2, 1, then 3, 13 and 14 by the place of the byte, then 4, 5, 7, 6, 8. What the
 ** cell held before plays no part in the answer, so it is never 10. The file is only read. A place for which the file has no touch record
-** has the count 0.
+** has the count 0; one whose record has no keys (kind 1) has its name as each of them.
 */
 keeper_answer keeper_load(keeper_cell *cell, const uint8_t *file, size_t len);
 
@@ -224,6 +240,7 @@ keeper_answer keeper_load(keeper_cell *cell, const uint8_t *file, size_t len);
 ** counts in the call in which the agent, holding its first lock, chooses. A wish for a place that does not qualify, or for none, such as
 ** 255, is passed over, and of the places that qualify the one is chosen that has been under its parent longest: first in, first served.
 ** Loaded places count in file order. A place that comes is the latest, and so are those that an opening frees, which keep their order.
+** Which places qualify, their keys say (keeper_name).
 **
 ** Answers, in keeper_word(answer), what the agent did, and in keeper_woken(answer) how many sleeping agents that woke:
 **
@@ -245,7 +262,8 @@ keeper_answer keeper_step(keeper_cell *cell, uint8_t agent, uint8_t wish);
 
 /*
 ** keeper_list: writes the listing of the cell, in ASCII and without a closing zero byte, to text[0] and on. `room` is how many bytes may
-** be written there.
+** be written there. A place whose three keys are its name is written as `7[]`, any other with its keys for entering, exiting and opening
+** after the name, as `7/8/9/0[]`.
 **
 ** Answers the listing's length in keeper_length(answer); bytes past it are as they were. Refused with 10 where the table is unsound, else
 ** with 12 where the listing is longer than `room`; then the whole text is as it was. The cell is only read.
@@ -329,7 +347,7 @@ static inline const char *keeper_refusal_text(unsigned refusal)
 {
     switch (refusal) {
     case KEEPER_CUT_SHORT: return "cut short: a body incomplete, or no end record";
-    case KEEPER_UNKNOWN_KIND: return "unknown kind, not 1 to 5";
+    case KEEPER_UNKNOWN_KIND: return "unknown kind, not 1 to 6";
     case KEEPER_TOO_LARGE: return "place number above 63, or 0 in a place record";
     case KEEPER_GIVEN_TWICE: return "number or touches given twice";
     case KEEPER_NOT_YET_GIVEN: return "not yet given, or not in use";

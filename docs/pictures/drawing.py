@@ -1,6 +1,7 @@
 """How the pictures are drawn: text, lines and arrows, and places as boxes in boxes.
 
-Agents are yellow labels, a held lock is a dark label, a touch count is a green one, a place on its way has a dashed edge.
+Agents are yellow labels, a held lock is a dark label, a touch count is a green one, a place on its way has a dashed edge. The keys of a
+place are three doors: open where somebody may, shut where nobody may.
 """
 
 from html import escape
@@ -16,6 +17,8 @@ WAY_EDGE, WAY_FILL = "#b0461a", "#fdf1ea"
 AGENT_EDGE, AGENT_FILL = "#8a6d00", "#fff3c4"
 LOCK_0, LOCK_1 = "#1b3a57", "#7a2e0e"
 TOUCH_EDGE, TOUCH_FILL = "#2f6b3a", "#e2f3e4"
+KEY_EDGE, KEY_FILL = "#5b3a8a", "#f1ebfa"
+SHUT_EDGE, SHUT_FILL = "#8f1d1d", "#f8e4e4"
 LINE = "#333333"
 
 
@@ -79,11 +82,11 @@ def width_of(words, size, bold=False):
 PAD, GAP, TITLE, NOTE, CHIP, STEP = 12, 12, 18, 14, 26, 8
 
 
-def place(title, number, *contents, away=False, lock=None, touches=None):
+def place(title, number, *contents, away=False, lock=None, touches=None, keys=None):
     """A place: its title, its number, and in it agents and places; lock is the number of the agent that holds its lock, touches its touch
-    count, where it is shown."""
+    count, keys its three keys, where they are shown."""
     return {"title": title, "number": f"place {number}", "agents": [c for c in contents if "label" in c],
-            "places": [c for c in contents if "title" in c], "away": away, "lock": lock, "touches": touches}
+            "places": [c for c in contents if "title" in c], "away": away, "lock": lock, "touches": touches, "keys": keys}
 
 
 def agent(number, row):
@@ -104,6 +107,15 @@ def touch_words(box):
     return f"{box['touches']:,} touches"
 
 
+def doors(box):
+    """The words on the three doors, each with whether it is shut."""
+    return [(f"{kind} {key}" if key else f"{kind}: nobody", key == 0) for kind, key in zip(("enter", "exit", "open"), box["keys"])]
+
+
+def door_width(words):
+    return width_of(words, 13, True) + 34
+
+
 def head_width(box):
     return width_of(box["title"], 16, True) + 14 + width_of(box["number"], 12)
 
@@ -122,10 +134,23 @@ def size_of(box):
     if box["touches"] is not None:
         widths.append(width_of(touch_words(box), 13, True) + 16)
         heights.append(CHIP)
+    if box["keys"] is not None:
+        widths.append(sum(door_width(words) for words, _ in doors(box)) + 2 * STEP)
+        heights.append(CHIP)
     if inner:
         widths.append(sum(w for w, _ in inner) + GAP * (len(inner) - 1))
         heights.append(max(h for _, h in inner))
     return max(widths) + 2 * PAD, sum(heights) + STEP * (len(heights) - 1) + 2 * PAD
+
+
+def draw_door(svg, x, y, words, shut):
+    """A label with a door: its frame, and the leaf ajar or closed."""
+    edge, fill = (SHUT_EDGE, SHUT_FILL) if shut else (KEY_EDGE, KEY_FILL)
+    svg.rect(x, y, door_width(words), CHIP, fill, edge, round_by=4)
+    svg.rect(x + 8, y + 5, 11, 16, edge if shut else "#ffffff", edge, round_by=0)
+    if not shut:
+        svg.path([(x + 8, y + 5), (x + 14, y + 9), (x + 14, y + 23), (x + 8, y + 21)], edge, head=False)
+    svg.text(x + 26, y + 18, words, 13, edge, bold=True)
 
 
 def draw_box(svg, box, x, y, h=0):
@@ -148,6 +173,12 @@ def draw_box(svg, box, x, y, h=0):
         words = touch_words(box)
         svg.rect(x + PAD, at, width_of(words, 13, True) + 16, CHIP, TOUCH_FILL, TOUCH_EDGE, round_by=4)
         svg.text(x + PAD + 8, at + 18, words, 13, TOUCH_EDGE, bold=True)
+        at += CHIP + STEP
+    if box["keys"] is not None:
+        across = x + PAD
+        for words, shut in doors(box):
+            draw_door(svg, across, at, words, shut)
+            across += door_width(words) + STEP
         at += CHIP + STEP
     for a in box["agents"]:
         svg.rect(x + PAD, at, width_of(a["label"], 14) + 16, CHIP, AGENT_FILL, AGENT_EDGE, round_by=12)

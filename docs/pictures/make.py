@@ -132,6 +132,21 @@ def served():
                ("After came", place("floor", 0, place("50, 2nd", 3), place("50, 1st", 4, place("30", 1, spent(0)))), "50[] | 50[30[]]")])
 
 
+def rights():
+    """A supplier's magazine at a bonder that it may enter and leave and that nobody may open."""
+    keys = (20, 20, 0)
+    panels("rights.svg", "Three keys: who may enter, leave and open",
+           "Bonder 20 has three doors: enter 20 and exit 20 are open, open is shut. Magazine 40 goes into the bonder and may leave it. "
+           "Agent 1, on the floor, sleeps: its open 20 does not fire on the bonder.", [
+               ("Start",
+                place("floor", 0, agent(1, "open 20"), place("20 bonder", 1, keys=keys),
+                      place("40 magazine", 2, agent(0, "enter 20.exit 20"))),
+                "open 20 | 20/20/20/0[] | 40[enter 20.exit 20]"),
+               ("After came; agent 1 sleeps",
+                place("floor", 0, agent(1, "open 20"), place("20 bonder", 1, place("40 magazine", 2, agent(0, "exit 20")), keys=keys)),
+                "open 20 | 20/20/20/0[40[exit 20]]")])
+
+
 def slips():
     """Opening while something is on its way: the start, and the moment at which the opener must step back."""
     panels("slips.svg", "Opening a place that something is on its way to",
@@ -232,5 +247,5 @@ def stages():
 
 
 if __name__ == "__main__":
-    for draw in (cell, stages, enter, exit_, open_, touches, served, example_trees, example_held, example_locks, slips):
+    for draw in (cell, stages, enter, exit_, open_, touches, served, rights, example_trees, example_held, example_locks, slips):
         draw()

@@ -4,21 +4,6 @@
 /* The worked example's cell, `7[enter 9] | 9[exit 7]`. */
 static const uint8_t example[27] = {1, 1, 0, 7, 0, 1, 2, 0, 9, 0, 2, 0, 1, 3, 0, 1, 9, 0, 2, 1, 2, 3, 1, 2, 7, 0, 4};
 
-/* The answer to a file that must be refused, after which the cell must be as it was. */
-static keeper_answer refused(keeper_cell *cell, const uint8_t *bytes, size_t length)
-{
-    keeper_cell *before = (keeper_cell *)(void *)exactly(cell, sizeof *cell);
-    uint8_t *file = exactly(bytes, length);
-    keeper_answer answer = keeper_load(cell, file, length);
-
-    HOLDS(keeper_refusal(answer) != 0);
-    HOLDS(memcmp(cell, before, sizeof *cell) == 0);
-    HOLDS(memcmp(file, bytes, length) == 0);
-    free(before);
-    free(file);
-    return answer;
-}
-
 static void loads(keeper_cell *cell)
 {
     static const uint8_t after_the_end[2] = {4, 4};
@@ -38,7 +23,7 @@ static void loads(keeper_cell *cell)
     answer = refused(cell, no_parent, 6);
     HOLDS(keeper_refusal(answer) == KEEPER_NOT_YET_GIVEN && keeper_offset(answer) == 0);
     HOLDS(keeper_load(cell, largest, 6) == 0);
-    HOLDS(cell->places[63].name == 7 && cell->places[63].parent == 0 && cell->places[63].way == 0);
+    HOLDS(cell->places[63].name.name == 7 && cell->places[63].parent == 0 && cell->places[63].way == 0);
     HOLDS(cell->used == (1 | (uint64_t)1 << 63) && cell->given == 0 && cell->locks[63] == KEEPER_FREE);
 }
 
@@ -177,7 +162,7 @@ static void touch_records(keeper_cell *cell)
     } rows[] = {
         {{5, 64, 1, 0, 0, 0}, 6, KEEPER_TOO_LARGE},    {{5, 255, 1, 0, 0, 0}, 6, KEEPER_TOO_LARGE},
         {{5, 1, 0, 0, 0, 0}, 6, KEEPER_GIVEN_TWICE},   {{5, 2, 1, 0, 0, 0}, 6, KEEPER_NOT_YET_GIVEN},
-        {{5, 64, 1, 0, 0, 0}, 5, KEEPER_CUT_SHORT},    {{6, 0, 0, 0, 0, 0}, 6, KEEPER_UNKNOWN_KIND},
+        {{5, 64, 1, 0, 0, 0}, 5, KEEPER_CUT_SHORT},    {{7, 0, 0, 0, 0, 0}, 6, KEEPER_UNKNOWN_KIND},
     };
 
     for (size_t at = 0; at < sizeof rows / sizeof rows[0]; at++) {

@@ -18,6 +18,9 @@ int main()
     const keeper_answer answer = keeper_list(&cell, text, sizeof text);
     if (keeper_refusal(answer) != 0 || keeper_length(answer) != 3 || std::memcmp(text, "7[]", 3) != 0)
         return 1;
+    const keeper_name &name = cell.places[1].name;
+    if (name.name != 7 || name.entering != 7 || name.exiting != 7 || name.opening != 7)
+        return 1;
     if (!keeper_all_rest(keeper_idle(&cell)) || keeper_refusal(keeper_step(&cell, 0, 0)) != KEEPER_NO_SUCH_AGENT)
         return 1;
     if (keeper_count(keeper_touch(&cell, 1, 5)) != 5 || keeper_count(keeper_touches(&cell, 1)) != 5)

@@ -1,4 +1,4 @@
-/* What the tests of keeper.h share: a test that ends the program, and copies of bytes in memory of exactly their size. */
+/* What the tests of keeper.h share: a test that ends the program, copies of bytes in memory of exactly their size, and refused loads. */
 #ifndef HOLDS_H
 #define HOLDS_H
 
@@ -32,6 +32,21 @@ static inline uint8_t *exactly(const void *bytes, size_t length)
         exit(1);
     memcpy(copy, bytes, length);
     return copy;
+}
+
+/* The answer to a file that must be refused, after which the cell must be as it was. */
+static inline keeper_answer refused(keeper_cell *cell, const uint8_t *bytes, size_t length)
+{
+    keeper_cell *before = (keeper_cell *)(void *)exactly(cell, sizeof *cell);
+    uint8_t *file = exactly(bytes, length);
+    keeper_answer answer = keeper_load(cell, file, length);
+
+    HOLDS(keeper_refusal(answer) != 0);
+    HOLDS(memcmp(cell, before, sizeof *cell) == 0);
+    HOLDS(memcmp(file, bytes, length) == 0);
+    free(before);
+    free(file);
+    return answer;
 }
 
 #endif

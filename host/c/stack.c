@@ -76,16 +76,17 @@ static void record(const uint8_t *bytes, size_t length)
     file_length += length;
 }
 
-/* A full cell: places in each other or side by side, an agent in each, with sixteen actions of this kind, and touches of each place. */
+/* A full cell: places in each other or side by side, with keys, an agent in each, with sixteen actions of this kind, and touches of each
+** place. */
 static void make_file(int nested, uint8_t kind)
 {
     file_length = 0;
     for (uint8_t place = 1; place < 64; place++)
-        record((uint8_t[]){1, place, (uint8_t)(nested ? place - 1 : 0), 255, 255}, 5);
+        record((uint8_t[]){6, place, (uint8_t)(nested ? place - 1 : 0), 255, 255, 255, 255, 255, 255, 254, 255}, 11);
     for (uint8_t number = 0; number < 64; number++) {
         record((uint8_t[]){2, number, number}, 3);
         for (int action = 0; action < 16; action++)
-            record((uint8_t[]){3, number, kind, 255, 255}, 5);
+            record((uint8_t[]){3, number, kind, kind == 3 ? 254 : 255, 255}, 5);
         record((uint8_t[]){5, number, 255, 255, 255, 255}, 6);
     }
     record((uint8_t[]){4}, 1);

@@ -12,6 +12,7 @@ use Rattle.table.specs.BaseLaws.{Told, yea, nay, told}
 use Rattle.meaning.specs.Text.{overlay}
 use Rattle.meaning.specs.Report.{report}
 use Rattle.text.specs.Wrote.{Wrote, least}
+use Rattle.lengths.specs.Longest.{decidingBytes, longestReport}
 use Rattle.lengths.specs.ReportLength.{report-longest, report-whole}
 use Rattle.lengths.specs.Prefix.{report-prefix}
 use Rattle.buffers.specs.Held.{Bytes, Holds, Whole}
@@ -48,8 +49,8 @@ over-fits [] b l = refl
 over-fits (x ∷ t) [] l = absurd (not-suc-le-zero l)
 over-fits (x ∷ t) (y ∷ b) l = ap (λ (s : List ℕ). x ∷ s) (over-fits t b (le-of-suc-le-suc l))
 
--- with room for 304,468 bytes the report of what was read is written whole
-pub read-whole : (cell order before after : List ℕ) (n m answer : ℕ) → Bytes order → 304468 ≤ length before
+-- with room for the longest report the report of what was read is written whole
+pub read-whole : (cell order before after : List ℕ) (n m answer : ℕ) → Bytes order → longestReport ≤ length before
     → Wrote (report (take n cell) (take m order)) 0 before after answer → Whole (report (take n cell) (take m order)) before after answer
 read-whole cell order before after n m answer bytes room w = record {
   count = count;
@@ -59,14 +60,14 @@ read-whole cell order before after n m answer bytes room w = record {
     text : List ℕ
     text = report (take n cell) (take m order)
 
-    short : length text ≤ 304468
+    short : length text ≤ longestReport
     short = report-longest (take n cell) (take m order) (bytes-taken order m bytes)
 
     count : answer ≡ length text
     count = report-whole (take n cell) (take m order) before after answer (bytes-taken order m bytes) room w .0
 
 -- and it is the report of every cell file and every order of which the buffers hold the first bytes
-pub files-whole : (cell order before after : List ℕ) (n m answer : ℕ) → 6017 ≤ length cell → 32768 ≤ length order
+pub files-whole : (cell order before after : List ℕ) (n m answer : ℕ) → decidingBytes ≤ length cell → 32768 ≤ length order
     → Whole (report (take n cell) (take m order)) before after answer
     → (file pairs : List ℕ) → Holds file cell n → Holds pairs order m → take answer after ≡ report file pairs
 files-whole cell order before after n m answer wide long w file pairs h k =

@@ -8,13 +8,13 @@ ghost use Rattle.text.specs.Wrote.{Wrote};
 ghost use Rattle.meaning.specs.Report.{report as reportOf};
 ghost use Rattle.buffers.specs.Held.{Bytes, Holds, Whole};
 
-// How many bytes walk reads of a cell file. The first 6,017 decide its answer.
+// How many bytes walk reads of a cell file. The first 6,400 decide its answer.
 pub const CELL_BYTES: usize = 8192;
 
 // How many bytes walk reads of an order: its 16,384 pairs.
 pub const ORDER_BYTES: usize = 32768;
 
-// How much room walk has for a report. None is longer than 304,468 bytes.
+// How much room walk has for a report. None is longer than 312,406 bytes.
 pub const TEXT_BYTES: usize = 524288;
 
 // The report of the first n bytes of a cell file's buffer and the first m of an order's, or of all where there are fewer.

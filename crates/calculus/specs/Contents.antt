@@ -58,11 +58,11 @@ upd-drop f g i q z h = go (eq? q i)
 
 -- ---- agents
 
--- a row begins with its first action
-pub row-is : (l : List Action) (k : ℕ) → firstOf l .kind ≡ suc k → row l ≡ prefix (suc k) (firstOf l .name) (row (restOf l))
+-- a row begins with its first action, of kind suc k and number n
+pub row-is : (l : List Action) (k : ℕ) {n : ℕ} → firstOf l .kind ≡ suc k → n ≡ firstOf l .name → row l ≡ prefix (suc k) n (row (restOf l))
 unfolding row
-row-is [] k e = absurd (omega arith)
-row-is (x ∷ l) k e = rw e
+row-is [] k e f = absurd (omega arith)
+row-is (x ∷ l) k e f = rw (e, f)
 
 -- an agent that lives in p adds its row there, any other nothing
 pub agent-is : (t : Tree) (p x : ℕ) → t .home x ≡ p → agentAt t p x ≡ row (t .unused x)

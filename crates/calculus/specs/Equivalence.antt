@@ -1,13 +1,14 @@
 -- Equivalent terms have the same parts at the top, up to equivalence within the parts and of what is left beside them.
 -- Idea: "part L stands at the top of P, and P′ is left" is an inductive relation; each rule of equivalence carries it across both ways.
 use Prim.Native.Nat.{ℕ}
+use Rattle.table.specs.declared.Name.{Name}
 use Rattle.calculus.specs.Terms.{Term, amb, nil, _∣_, enter, exit, «open», _≅_, struct-refl, struct-symm, struct-trans}
 use Rattle.calculus.specs.Terms.{struct-par-zero, struct-par-comm, struct-par-assoc, struct-amb, struct-par, struct-enter}
 use Rattle.calculus.specs.Terms.{struct-exit, struct-open}
 
 -- the part L stands at the top of P, and P′ is left
 pub data Takes : Term → Term → Term → Type 0 where
-  take-amb : {n : ℕ} {P : Term} → Takes (amb n P) (amb n P) nil
+  take-amb : {n : Name} {P : Term} → Takes (amb n P) (amb n P) nil
   take-enter : {n : ℕ} {P : Term} → Takes (enter n P) (enter n P) nil
   take-exit : {n : ℕ} {P : Term} → Takes (exit n P) (exit n P) nil
   take-open : {n : ℕ} {P : Term} → Takes («open» n P) («open» n P) nil
@@ -16,7 +17,7 @@ pub data Takes : Term → Term → Term → Type 0 where
 
 -- two parts with the same head and equivalent bodies
 pub data Like : Term → Term → Type 0 where
-  like-amb : {n : ℕ} {P Q : Term} → P ≅ Q → Like (amb n P) (amb n Q)
+  like-amb : {n : Name} {P Q : Term} → P ≅ Q → Like (amb n P) (amb n Q)
   like-enter : {n : ℕ} {P Q : Term} → P ≅ Q → Like (enter n P) (enter n Q)
   like-exit : {n : ℕ} {P Q : Term} → P ≅ Q → Like (exit n P) (exit n Q)
   like-open : {n : ℕ} {P Q : Term} → P ≅ Q → Like («open» n P) («open» n Q)

@@ -3,7 +3,7 @@ use mathlib.Core.Path.{_≡_}
 use mathlib.Core.List.{List, [], _∷_}
 use mathlib.Core.Bool.{true}
 use Prim.Native.Nat.{ℕ, _≤_, _<_}
-use Rattle.table.specs.Cell.{lastKind}
+use Rattle.table.specs.Cell.{noName, lastKind}
 use Rattle.table.specs.declared.Action.{Action}
 use Rattle.meaning.specs.Calculus.{Tree}
 use Rattle.calculus.specs.Up.{Up}
@@ -15,9 +15,9 @@ pub data Good : List Action → Type 0 where
 
 -- what a sound cell says of its tree (document 01, "A table is sound when")
 pub record Formed (t : Tree) : Type 0 where
-  -- "Place 0 is the floor: name 0, no parent"
+  -- "Place 0 is the floor: name 0, no parent"; of its keys, "the floor's are 0" (document 02, W6)
   pub floor-parent : t .parent 0 ≡ 0
-  pub floor-name : t .name 0 ≡ 0
+  pub floor-name : t .name 0 ≡ noName
   pub floor-used : t .used 0 ≡ true
   -- "following parents or destinations leads each place to the floor"
   pub tree : (q : ℕ) → Up (t .parent) q

@@ -18,3 +18,4 @@ pub mod MovesReduce
 pub mod PartsHeld
 pub mod ReductionsMove
 pub mod Published
+pub mod Rights

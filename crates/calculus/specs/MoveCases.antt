@@ -8,7 +8,7 @@ use native.Mathlib.Omega.{arith}
 use lib.Dec.{eqb}
 use borrow.Author.Tests.{eqb-true, eqb-false, eq-eqb, ne-eqb, not-true}
 use Rattle.table.specs.BaseLaws.{Told, yea, nay, told, clash, and-left, and-right}
-use Rattle.table.specs.Cell.{enterKind, exitKind, openKind, answersTo}
+use Rattle.table.specs.Cell.{enterKind, exitKind, openKind, keyOf}
 use Rattle.meaning.specs.Calculus.{Tree, nextOf, standsAt, mayEnter, mayExit, mayOpen, permits, putInto, openUp, move, Move}
 
 -- place m stands in p; the floor stands in none
@@ -21,13 +21,13 @@ pub record Stands (t : Tree) (m p : ℕ) : Type 0 where
 pub data MoveCase (t : Tree) (a : ℕ) : Tree → Type 0 where
   -- its own place goes into another place m that stands beside it
   by-enter : (m : ℕ) → nextOf t a .kind ≡ enterKind → t .home a ≢ 0 → Stands t m (t .parent (t .home a)) → m ≢ t .home a
-      → answersTo enterKind (t .name m) ≡ nextOf t a .name
+      → keyOf enterKind (t .name m) ≡ nextOf t a .name
       → MoveCase t a (putInto t a m)
   -- its own place goes out of the place around it
-  by-exit : nextOf t a .kind ≡ exitKind → t .home a ≢ 0 → answersTo exitKind (t .name (t .parent (t .home a))) ≡ nextOf t a .name
+  by-exit : nextOf t a .kind ≡ exitKind → t .home a ≢ 0 → keyOf exitKind (t .name (t .parent (t .home a))) ≡ nextOf t a .name
       → MoveCase t a (putInto t a (t .parent (t .parent (t .home a))))
   -- a place m that stands in its own is opened
-  by-open : (m : ℕ) → nextOf t a .kind ≡ openKind → Stands t m (t .home a) → answersTo openKind (t .name m) ≡ nextOf t a .name
+  by-open : (m : ℕ) → nextOf t a .kind ≡ openKind → Stands t m (t .home a) → keyOf openKind (t .name m) ≡ nextOf t a .name
       → MoveCase t a (openUp t a m)
 
 -- ---- tests and facts
@@ -62,10 +62,10 @@ module _ (t : Tree) (a m : ℕ) where
   off-floor = not (eqb (t .home a) 0)
 
   abbrev named : ℕ → Bool
-  named kind = eqb (answersTo kind (t .name m)) (nextOf t a .name)
+  named kind = eqb (keyOf kind (t .name m)) (nextOf t a .name)
 
-  name-is : (kind : ℕ) → named kind ≡ true → answersTo kind (t .name m) ≡ nextOf t a .name
-  name-is kind e = eqb-true (answersTo kind (t .name m)) (nextOf t a .name) e
+  name-is : (kind : ℕ) → named kind ≡ true → keyOf kind (t .name m) ≡ nextOf t a .name
+  name-is kind e = eqb-true (keyOf kind (t .name m)) (nextOf t a .name) e
 
   enter-case : nextOf t a .kind ≡ enterKind → mayEnter t a m ≡ true → MoveCase t a (putInto t a m)
   unfolding mayEnter
@@ -80,7 +80,7 @@ module _ (t : Tree) (a m : ℕ) where
   exit-case k e =
       let x = both off-floor (eqb m (t .parent (t .home a)) && named exitKind) e in
       let y = both (eqb m (t .parent (t .home a))) (named exitKind) (x .1) in
-      by-exit k (differ (t .home a) 0 (x .0)) (ap (λ q. answersTo exitKind (t .name q)) (sym (eqb-true m (t .parent (t .home a)) (y .0))) ∙ name-is exitKind (y .1))
+      by-exit k (differ (t .home a) 0 (x .0)) (ap (λ q. keyOf exitKind (t .name q)) (sym (eqb-true m (t .parent (t .home a)) (y .0))) ∙ name-is exitKind (y .1))
 
   open-case : nextOf t a .kind ≡ openKind → mayOpen t a m ≡ true → MoveCase t a (openUp t a m)
   unfolding mayOpen
@@ -114,7 +114,7 @@ case-move {t} {a} (by-enter m k h s d n) = record {
     ne-eqb (t .home a) 0 h,
     in-stands t m (t .parent (t .home a)) s,
     ne-eqb m (t .home a) d,
-    eq-eqb (answersTo enterKind (t .name m)) (nextOf t a .name) n,
+    eq-eqb (keyOf enterKind (t .name m)) (nextOf t a .name) n,
   );
   result = rw k;
 }
@@ -124,13 +124,13 @@ case-move {t} {a} (by-exit k h n) = record {
     k,
     ne-eqb (t .home a) 0 h,
     eq-eqb (t .parent (t .home a)) (t .parent (t .home a)) refl,
-    eq-eqb (answersTo exitKind (t .name (t .parent (t .home a)))) (nextOf t a .name) n,
+    eq-eqb (keyOf exitKind (t .name (t .parent (t .home a)))) (nextOf t a .name) n,
   );
   result = rw k;
 }
 case-move {t} {a} (by-open m k s n) = record {
   place = m;
-  permitted = rw (k, in-stands t m (t .home a) s, eq-eqb (answersTo openKind (t .name m)) (nextOf t a .name) n);
+  permitted = rw (k, in-stands t m (t .home a) s, eq-eqb (keyOf openKind (t .name m)) (nextOf t a .name) n);
   result = rw k;
 }
 

@@ -11,7 +11,7 @@ use lib.Dec.{ltb, eqb}
 use borrow.Author.Tests.{eqb-false, ne-eqb, ltb-true, ltb-false}
 use Rattle.table.specs.Base.{upd}
 use Rattle.table.specs.BaseLaws.{Told, yea, nay, told, clash, upd-other, upd-all}
-use Rattle.table.specs.Cell.{exitKind}
+use Rattle.table.specs.Cell.{noName, exitKind, keyOf}
 use Rattle.table.specs.declared.Action.{Action}
 use Rattle.meaning.specs.Calculus.{Tree, firstOf, restOf, nextOf, putInto, openUp, Move}
 use Rattle.calculus.specs.Up.{Up, enter-up, exit-up, opened-up}
@@ -45,11 +45,11 @@ module _ (t : Tree) (w : Formed t) (a : ℕ) where
       go (yea e) = ltb-true a 64 e
       go (nay e) = absurd (first-none (t .unused a) (w .few a (ltb-false a 64 e)) k)
 
-  -- the place around an exit's place is not the floor, for the floor has no name
-  pub exit-placed : nextOf t a .kind ≡ exitKind → t .name (t .parent (t .home a)) ≡ nextOf t a .name → t .parent (t .home a) ≢ 0
+  -- the place around an exit's place is not the floor, for the floor has no keys
+  pub exit-placed : nextOf t a .kind ≡ exitKind → keyOf exitKind (t .name (t .parent (t .home a))) ≡ nextOf t a .name → t .parent (t .home a) ≢ 0
   exit-placed k n e =
-      let y : t .name 0 ≡ nextOf t a .name = ap (t .name) (sym e) ∙ n in
-      omega (arith, good-first (w .good a) (omega arith), w .floor-name)
+      let y : keyOf exitKind (t .name 0) ≡ nextOf t a .name = ap (λ q. keyOf exitKind (t .name q)) (sym e) ∙ n in
+      omega (arith, good-first (w .good a) (omega arith), ap (keyOf exitKind) (w .floor-name))
 
   spent-good : (x : ℕ) → Good (upd (t .unused) a (restOf (t .unused a)) x)
   spent-good = upd-all (t .unused) a _ (λ x l. Good l) (good-rest (w .good a)) (λ x _. w .good x)
@@ -111,7 +111,7 @@ module _ (t : Tree) (w : Formed t) (a : ℕ) where
     unfolding openUp
     open-formed = record {
       floor-parent = rw (ne-eqb 0 m floor-not, w .floor-parent, ne-eqb 0 m floor-not);
-      floor-name = upd-other (t .name) m 0 0 floor-not ∙ w .floor-name;
+      floor-name = upd-other (t .name) m 0 noName floor-not ∙ w .floor-name;
       floor-used = still-used 0 floor-not (w .floor-used);
       tree = opened-up (t .parent) (w .floor-parent) m (t .home a) (s .parent) (w .tree);
       parent-used = λ q. go q (told (eqb q m));

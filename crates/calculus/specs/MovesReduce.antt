@@ -5,14 +5,14 @@ use mathlib.Core.Path.{_≡_, refl, sym}
 use mathlib.Core.Logic.{_≢_, inl, inr}
 use Prim.Native.Nat.{ℕ}
 use native.Mathlib.Omega.{arith}
-use Rattle.table.specs.Cell.{enterKind, exitKind, openKind}
+use Rattle.table.specs.Cell.{enterKind, exitKind, openKind, keyOf}
 use Rattle.meaning.specs.Calculus.{Tree, nextOf, putInto, openUp, Move}
 use Rattle.calculus.specs.Formed.{Formed}
 use Rattle.calculus.specs.MoveCases.{Stands, MoveCase, by-enter, by-exit, by-open, move-case}
 use Rattle.calculus.specs.MoveFormed.{enter-formed, exit-formed, open-formed, exit-placed, acting-few}
 use Rattle.calculus.specs.Above.{above-self, below-one, below-not}
 use Rattle.calculus.specs.Terms.{struct-symm, struct-par-assoc, struct-amb, struct-par, _⟶_}
-use Rattle.calculus.specs.TermLaws.{_⨾_, of-path, renamed, pars, struct-par-right}
+use Rattle.calculus.specs.TermLaws.{_⨾_, of-path}
 use Rattle.calculus.specs.Spots.{rule-enter, rule-exit, rule-open, Spot, at-top, reduces}
 use Rattle.calculus.specs.TermOf.{prefix, term}
 use Rattle.calculus.specs.Contents.{row-is}
@@ -21,7 +21,8 @@ use Rattle.calculus.specs.EnterExit.{Two, Travel, travel-local, enter-be
 use Rattle.calculus.specs.OpenUp.{open-local, open-before, open-after}
 
 module _ (t : Tree) (w : Formed t) (a : ℕ) where
-  enter-reduces : (m : ℕ) → nextOf t a .kind ≡ enterKind → t .home a ≢ 0 → Stands t m (t .parent (t .home a)) → m ≢ t .home a → t .name m ≡ nextOf t a .name
+  enter-reduces : (m : ℕ) → nextOf t a .kind ≡ enterKind → t .home a ≢ 0 → Stands t m (t .parent (t .home a)) → m ≢ t .home a
+      → keyOf enterKind (t .name m) ≡ nextOf t a .name
       → Spot (term t) (term (putInto t a m))
   unfolding term prefix
   enter-reduces m k h s d n =
@@ -31,11 +32,10 @@ module _ (t : Tree) (w : Formed t) (a : ℕ) where
       let y : Travel t a m m p = record { own = h; other = s; apart = d; from = inl refl; to = inr refl } in
       ascends t (putInto t a m) w v p (Two (t .home a) m) (travel-local t w a m m p v y) (w .tree p) (w .parent-used _) (above-self (t .parent) p)
       (at-top rule-enter
-      (enter-before t w a m p v y refl l ⨾ pars (struct-amb (struct-par (of-path (row-is (t .unused a) 0 k)))) (struct-par (renamed n))
-      ⨾ struct-symm struct-par-assoc)
-      (enter-after t w a m p v y refl l ⨾ struct-par (renamed n)))
+      (enter-before t w a m p v y refl l ⨾ struct-par (struct-amb (struct-par (of-path (row-is (t .unused a) 0 k n)))) ⨾ struct-symm struct-par-assoc)
+      (enter-after t w a m p v y refl l))
 
-  exit-reduces : nextOf t a .kind ≡ exitKind → t .home a ≢ 0 → t .name (t .parent (t .home a)) ≡ nextOf t a .name
+  exit-reduces : nextOf t a .kind ≡ exitKind → t .home a ≢ 0 → keyOf exitKind (t .name (t .parent (t .home a))) ≡ nextOf t a .name
       → Spot (term t) (term (putInto t a (t .parent (t .parent (t .home a)))))
   unfolding term prefix
   exit-reduces k h n =
@@ -53,18 +53,18 @@ module _ (t : Tree) (w : Formed t) (a : ℕ) where
       } in
       ascends t (putInto t a p) w v p (Two (t .home a) m) (travel-local t w a p m p v y) (w .tree p) (w .parent-used _) (above-self (t .parent) p)
       (at-top rule-exit
-      (exit-before t w a m p v y refl l ⨾ struct-par
-      (renamed n ⨾ struct-amb (struct-par (struct-amb (struct-par (of-path (row-is (t .unused a) 1 k)))))))
-      (exit-after t w a m p v y refl l ⨾ struct-par-right (struct-par (renamed n)) ⨾ struct-symm struct-par-assoc))
+      (exit-before t w a m p v y refl l ⨾ struct-par (struct-amb (struct-par (struct-amb (struct-par (of-path (row-is (t .unused a) 1 k n)))))))
+      (exit-after t w a m p v y refl l ⨾ struct-symm struct-par-assoc))
 
-  open-reduces : (m : ℕ) → nextOf t a .kind ≡ openKind → Stands t m (t .home a) → t .name m ≡ nextOf t a .name → Spot (term t) (term (openUp t a m))
+  open-reduces : (m : ℕ) → nextOf t a .kind ≡ openKind → Stands t m (t .home a) → keyOf openKind (t .name m) ≡ nextOf t a .name
+      → Spot (term t) (term (openUp t a m))
   unfolding term prefix
   open-reduces m k s n =
       let v = open-formed t w a m s in
       let l = acting-few t w a (omega arith) in
       ascends t (openUp t a m) w v (t .home a) (λ r. r ≡ m) (open-local t w a m v s) (w .tree _) (w .homes a) (above-self (t .parent) (t .home a))
       (at-top rule-open
-      (open-before t w a m v s l ⨾ pars (of-path (row-is (t .unused a) 2 k)) (struct-par (renamed n)) ⨾ struct-symm struct-par-assoc)
+      (open-before t w a m v s l ⨾ struct-par (of-path (row-is (t .unused a) 2 k n)) ⨾ struct-symm struct-par-assoc)
       (open-after t w a m v s l ⨾ struct-symm struct-par-assoc))
 
 case-reduces : {t u : Tree} {a : ℕ} → Formed t → MoveCase t a u → Spot (term t) (term u)

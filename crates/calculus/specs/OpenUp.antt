@@ -8,6 +8,7 @@ use lib.Dec.{eqb}
 use borrow.Author.Tests.{eq-eqb, ne-eqb}
 use Rattle.table.specs.Base.{upd}
 use Rattle.table.specs.BaseLaws.{clash, eq?, upd-same, upd-at, upd-other}
+use Rattle.table.specs.Cell.{noName}
 use Rattle.meaning.specs.Calculus.{Tree, restOf, standsAt, openUp}
 use Rattle.calculus.specs.Formed.{Formed}
 use Rattle.calculus.specs.MoveCases.{Stands, and-no}
@@ -46,7 +47,7 @@ module _ (t : Tree) (w : Formed t) (a m : ℕ) (v : Formed (openUp t a m)) (mp :
 
   name-stays : (q : ℕ) → q ≢ m → t .name q ≡ openUp t a m .name q
   unfolding openUp
-  name-stays q n = sym (upd-other (t .name) m q 0 n)
+  name-stays q n = sym (upd-other (t .name) m q noName n)
 
   -- the opened place is no more
   opened-gone : (s : ℕ) → Stands (openUp t a m) m s → ⊥

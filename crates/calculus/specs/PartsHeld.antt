@@ -10,6 +10,7 @@ use borrow.Author.Tests.{eqb-true}
 use Rattle.table.specs.Base.{upd}
 use Rattle.table.specs.BaseLaws.{Told, yea, nay, told, eq?, upd-at, upd-other}
 use Rattle.table.specs.Cell.{enterKind, exitKind, openKind, lastKind}
+use Rattle.table.specs.declared.Name.{Name}
 use Rattle.table.specs.declared.Action.{Action}
 use Rattle.meaning.specs.Calculus.{Tree, firstOf, restOf, standsAt}
 use Rattle.calculus.specs.Formed.{Good, none, more, Formed}
@@ -90,7 +91,7 @@ take-place : (t : Tree) (g : ℕ → Term) (p q : ℕ) {L Z : Term} → Takes (p
 unfolding placeAt
 take-place t g p q {L} {Z} o = go (told (standsAt t q p))
   where
-    one : {n : ℕ} {P M W : Term} → Takes (amb n P) M W → (M ≡ amb n P) × (W ≡ nil)
+    one : {n : Name} {P M W : Term} → Takes (amb n P) M W → (M ≡ amb n P) × (W ≡ nil)
     one take-amb = (refl, refl)
 
     go : Told (standsAt t q p) → PlacePart t g p q L Z
@@ -121,7 +122,7 @@ acting-head (act-enter k) = omega arith
 acting-head (act-exit k) = omega arith
 acting-head (act-open k) = omega arith
 
-like-place : {n m : ℕ} {P Q : Term} → Like (amb n P) (amb m Q) → (n ≡ m) × (P ≅ Q)
+like-place : {n m : Name} {P Q : Term} → Like (amb n P) (amb m Q) → (n ≡ m) × (P ≅ Q)
 like-place (like-amb e) = (refl, e)
 
 -- a row like `enter n. P`, `exit n. P` or `open n. P` has that action first
@@ -163,7 +164,7 @@ pub some-agents : {t : Tree} {p : ℕ} {f g : ℕ → Term} (x : ℕ) → Some t
 some-agents {f} x r = record { agents = λ y o. r .agents y (drop-takes f x y o); places = λ q o. r .places q o }
 
 -- a place named n that holds P, beside R
-pub record FoundPlace (t : Tree) (p : ℕ) (f g : ℕ → Term) (n : ℕ) (P R : Term) : Type 0 where
+pub record FoundPlace (t : Tree) (p : ℕ) (f g : ℕ → Term) (n : Name) (P R : Term) : Type 0 where
   pub which : ℕ
   pub stands : Stands t which p
   pub name : t .name which ≡ n
@@ -183,7 +184,7 @@ pub record FoundAgent (t : Tree) (p : ℕ) (f g : ℕ → Term) (L R : Term) : T
 
 module _ (t : Tree) (w : Formed t) (p : ℕ) (f g : ℕ → Term) (r : Some t p f g) where
   -- an ambient found is a place
-  pub found-place : {n : ℕ} {P R : Term} → parallel f 64 ∣ parallel g 64 ≅ amb n P ∣ R → FoundPlace t p f g n P R
+  pub found-place : {n : Name} {P R : Term} → parallel f 64 ∣ parallel g 64 ≅ amb n P ∣ R → FoundPlace t p f g n P R
   unfolding head
   found-place {n} {P} {R} e = go (found f g take-amb e)
     where

@@ -8,7 +8,8 @@ use mathlib.Core.Bool.{true}
 use native.Mathlib.Omega.{arith}
 use Rattle.table.specs.Base.{upd}
 use Rattle.table.specs.BaseLaws.{upd-at}
-use Rattle.table.specs.Cell.{enterKind, exitKind, openKind}
+use Rattle.table.specs.Cell.{enterKind, exitKind, openKind, keyOf}
+use Rattle.table.specs.declared.Name.{Name}
 use Rattle.meaning.specs.Calculus.{Tree, nextOf, restOf, putInto, openUp, Move}
 use Rattle.calculus.specs.Formed.{Formed}
 use Rattle.calculus.specs.MoveCases.{Stands, by-enter, by-exit, by-open, case-move}
@@ -39,21 +40,21 @@ record Answer (t : Tree) (s : ℕ) (Q : Term) : Type 1 where
   holds : held after s ≅ Q
 
 -- a place in s and an agent in s, with the rest of s
-abbrev PlaceIn : Tree → ℕ → ℕ → Term → Term → Type 0
+abbrev PlaceIn : Tree → ℕ → Name → Term → Term → Type 0
 PlaceIn t s n P R = FoundPlace t s (agentAt t s) (placeAt t (held t) s) n P R
 
 abbrev AgentIn : Tree → ℕ → Term → Term → Type 0
 AgentIn t s L R = FoundAgent t s (agentAt t s) (placeAt t (held t) s) L R
 
 -- agent a's own place h, named n, stands in s beside X and holds Q beside the agent
-record EnterAt (t : Tree) (a s h n : ℕ) (X Q : Term) : Type 0 where
+record EnterAt (t : Tree) (a s h : ℕ) (n : Name) (X Q : Term) : Type 0 where
   stands : Stands t h s
   name : t .name h ≡ n
   left : agentsOf t s ∣ placesBut t s h ≅ X
   inner : agentsBut t h a ∣ placesOf t h ≅ Q
 
 -- agent a's own place h, named n, stands in m, named o, beside R, and m stands in s beside R₀
-record ExitAt (t : Tree) (a n o : ℕ) (Q R R₀ : Term) (h m s : ℕ) : Type 0 where
+record ExitAt (t : Tree) (a : ℕ) (n o : Name) (Q R R₀ : Term) (h m s : ℕ) : Type 0 where
   outer : Stands t m s
   stands : Stands t h m
   name : t .name h ≡ n
@@ -69,7 +70,7 @@ module _ (t : Tree) (w : Formed t) where
   look s us e = of-path (sym (unfolds t w s us)) ⨾ e
 
   -- an ambient in what s holds is a place in s; an action in it is the next of an agent in s
-  place-in : (s : ℕ) {n : ℕ} {P R : Term} → t .used s ≡ true → held t s ≅ amb n P ∣ R → PlaceIn t s n P R
+  place-in : (s : ℕ) {n : Name} {P R : Term} → t .used s ≡ true → held t s ≅ amb n P ∣ R → PlaceIn t s n P R
   place-in s us e = found-place t w s (agentAt t s) (placeAt t (held t) s) (some-all t s) (look s us e)
 
   agent-in : (s : ℕ) {L R : Term} → t .used s ≡ true → Takes L L nil → 1 ≤ head L → held t s ≅ L ∣ R → AgentIn t s L R
@@ -77,8 +78,8 @@ module _ (t : Tree) (w : Formed t) where
 
   -- ---- Red Enter
 
-  enter-at : (a s : ℕ) {n m : ℕ} {P Q R R₀ : Term} → a < 64 → nextOf t a .kind ≡ enterKind → nextOf t a .name ≡ m → row (restOf (t .unused a)) ≅ P
-      → EnterAt t a s (t .home a) n (amb m R ∣ R₀) Q → Answer t s (amb m (amb n (P ∣ Q) ∣ R) ∣ R₀)
+  enter-at : (a s : ℕ) {n m : Name} {P Q R R₀ : Term} → a < 64 → nextOf t a .kind ≡ enterKind → nextOf t a .name ≡ keyOf enterKind m
+      → row (restOf (t .unused a)) ≅ P → EnterAt t a s (t .home a) n (amb m R ∣ R₀) Q → Answer t s (amb m (amb n (P ∣ Q) ∣ R) ∣ R₀)
   enter-at a s {n} {m} {P} {Q} {R} {R₀} l k c r x =
       go (found-place t w s (agentAt t s) (upd (placeAt t (held t) s) (t .home a) nil) (some-places (t .home a) (some-all t s)) (x .left))
     where
@@ -86,7 +87,7 @@ module _ (t : Tree) (w : Formed t) where
       go y = record {
         who = a;
         after = putInto t a (y .which);
-        move = case-move (by-enter (y .which) k (x .stands .placed) other apart (y .name ∙ sym c));
+        move = case-move (by-enter (y .which) k (x .stands .placed) other apart (ap (keyOf enterKind) (y .name) ∙ sym c));
         place = s;
         touched = Two (t .home a) (y .which);
         change = travel-local t w a (y .which) (y .which) s v travel;
@@ -107,15 +108,15 @@ module _ (t : Tree) (w : Formed t) where
           travel : Travel t a (y .which) (y .which) s
           travel = record { own = x .stands .placed; other = y .stands; apart = apart; from = inl (x .stands .parent); to = inr refl }
 
-  enter-answer : (s : ℕ) {n m : ℕ} {P Q R R₀ : Term} → t .used s ≡ true → held t s ≅ (amb n (enter m P ∣ Q) ∣ amb m R) ∣ R₀
+  enter-answer : (s : ℕ) {n m : Name} {P Q R R₀ : Term} → t .used s ≡ true → held t s ≅ (amb n (enter (keyOf enterKind m) P ∣ Q) ∣ amb m R) ∣ R₀
       → Answer t s (amb m (amb n (P ∣ Q) ∣ R) ∣ R₀)
   unfolding head
   enter-answer s {n} {m} {P} {Q} {R} {R₀} us e = go (place-in s us (e ⨾ struct-par-assoc))
     where
-      go : PlaceIn t s n (enter m P ∣ Q) (amb m R ∣ R₀) → Answer t s (amb m (amb n (P ∣ Q) ∣ R) ∣ R₀)
+      go : PlaceIn t s n (enter (keyOf enterKind m) P ∣ Q) (amb m R ∣ R₀) → Answer t s (amb m (amb n (P ∣ Q) ∣ R) ∣ R₀)
       go y = at (agent-in (y .which) (y .stands .used) take-enter (omega arith) (y .holds))
         where
-          at : AgentIn t (y .which) (enter m P) Q → Answer t s (amb m (amb n (P ∣ Q) ∣ R) ∣ R₀)
+          at : AgentIn t (y .which) (enter (keyOf enterKind m) P) Q → Answer t s (amb m (amb n (P ∣ Q) ∣ R) ∣ R₀)
           at z =
               let k = acting-enter (z .acting) (z .like) in
               enter-at (z .who) s (z .less) (k .0) (k .1) (k .2)
@@ -124,13 +125,13 @@ module _ (t : Tree) (w : Formed t) where
 
   -- ---- Red Exit
 
-  exit-at : (a : ℕ) {n m : ℕ} {P Q R R₀ : Term} → a < 64 → nextOf t a .kind ≡ exitKind → nextOf t a .name ≡ m → row (restOf (t .unused a)) ≅ P
-      → ExitAt t a n m Q R R₀ (t .home a) (t .parent (t .home a)) (t .parent (t .parent (t .home a)))
+  exit-at : (a : ℕ) {n m : Name} {P Q R R₀ : Term} → a < 64 → nextOf t a .kind ≡ exitKind → nextOf t a .name ≡ keyOf exitKind m
+      → row (restOf (t .unused a)) ≅ P → ExitAt t a n m Q R R₀ (t .home a) (t .parent (t .home a)) (t .parent (t .parent (t .home a)))
       → Answer t (t .parent (t .parent (t .home a))) ((amb n (P ∣ Q) ∣ amb m R) ∣ R₀)
   exit-at a l k c r x = record {
     who = a;
     after = putInto t a p;
-    move = case-move (by-exit k (x .stands .placed) (x .outer-name ∙ sym c));
+    move = case-move (by-exit k (x .stands .placed) (ap (keyOf exitKind) (x .outer-name) ∙ sym c));
     place = p;
     touched = Two (t .home a) m;
     change = travel-local t w a p m p v travel;
@@ -158,18 +159,18 @@ module _ (t : Tree) (w : Formed t) where
         to = inl refl;
       }
 
-  exit-answer : (s : ℕ) {n m : ℕ} {P Q R R₀ : Term} → t .used s ≡ true → held t s ≅ amb m (amb n (exit m P ∣ Q) ∣ R) ∣ R₀
+  exit-answer : (s : ℕ) {n m : Name} {P Q R R₀ : Term} → t .used s ≡ true → held t s ≅ amb m (amb n (exit (keyOf exitKind m) P ∣ Q) ∣ R) ∣ R₀
       → Answer t s ((amb n (P ∣ Q) ∣ amb m R) ∣ R₀)
   unfolding head
   exit-answer s {n} {m} {P} {Q} {R} {R₀} us e = go (place-in s us e)
     where
-      go : PlaceIn t s m (amb n (exit m P ∣ Q) ∣ R) R₀ → Answer t s ((amb n (P ∣ Q) ∣ amb m R) ∣ R₀)
+      go : PlaceIn t s m (amb n (exit (keyOf exitKind m) P ∣ Q) ∣ R) R₀ → Answer t s ((amb n (P ∣ Q) ∣ amb m R) ∣ R₀)
       go y = on (place-in (y .which) (y .stands .used) (y .holds))
         where
-          on : PlaceIn t (y .which) n (exit m P ∣ Q) R → Answer t s ((amb n (P ∣ Q) ∣ amb m R) ∣ R₀)
+          on : PlaceIn t (y .which) n (exit (keyOf exitKind m) P ∣ Q) R → Answer t s ((amb n (P ∣ Q) ∣ amb m R) ∣ R₀)
           on i = at (agent-in (i .which) (i .stands .used) take-exit (omega arith) (i .holds))
             where
-              at : AgentIn t (i .which) (exit m P) Q → Answer t s ((amb n (P ∣ Q) ∣ amb m R) ∣ R₀)
+              at : AgentIn t (i .which) (exit (keyOf exitKind m) P) Q → Answer t s ((amb n (P ∣ Q) ∣ amb m R) ∣ R₀)
               at z =
                   let k = acting-exit (z .acting) (z .like) in
                   let e₂ : t .parent (t .home (z .who)) ≡ y .which = ap (t .parent) (z .home) ∙ i .stands .parent in
@@ -188,8 +189,8 @@ module _ (t : Tree) (w : Formed t) where
 
   -- ---- Red Open
 
-  open-at : (a : ℕ) {n : ℕ} {P Q R₀ : Term} → a < 64 → nextOf t a .kind ≡ openKind → nextOf t a .name ≡ n → row (restOf (t .unused a)) ≅ P
-      → agentsBut t (t .home a) a ∣ placesOf t (t .home a) ≅ amb n Q ∣ R₀ → Answer t (t .home a) ((P ∣ Q) ∣ R₀)
+  open-at : (a : ℕ) {n : Name} {P Q R₀ : Term} → a < 64 → nextOf t a .kind ≡ openKind → nextOf t a .name ≡ keyOf openKind n
+      → row (restOf (t .unused a)) ≅ P → agentsBut t (t .home a) a ∣ placesOf t (t .home a) ≅ amb n Q ∣ R₀ → Answer t (t .home a) ((P ∣ Q) ∣ R₀)
   open-at a {n} {P} {Q} {R₀} l k c r e =
       go (found-place t w (t .home a) (upd (agentAt t (t .home a)) a nil) (placeAt t (held t) (t .home a)) (some-agents a (some-all t (t .home a))) e)
     where
@@ -199,7 +200,7 @@ module _ (t : Tree) (w : Formed t) where
           record {
             who = a;
             after = openUp t a (y .which);
-            move = case-move (by-open (y .which) k (y .stands) (y .name ∙ sym c));
+            move = case-move (by-open (y .which) k (y .stands) (ap (keyOf openKind) (y .name) ∙ sym c));
             place = t .home a;
             touched = λ r. r ≡ y .which;
             change = open-local t w a (y .which) v (y .stands);
@@ -207,11 +208,12 @@ module _ (t : Tree) (w : Formed t) where
             holds = open-after t w a (y .which) v (y .stands) l ⨾ pars r (pars (y .holds) (y .left)) ⨾ struct-symm struct-par-assoc;
           }
 
-  open-answer : (s : ℕ) {n : ℕ} {P Q R₀ : Term} → t .used s ≡ true → held t s ≅ («open» n P ∣ amb n Q) ∣ R₀ → Answer t s ((P ∣ Q) ∣ R₀)
+  open-answer : (s : ℕ) {n : Name} {P Q R₀ : Term} → t .used s ≡ true → held t s ≅ («open» (keyOf openKind n) P ∣ amb n Q) ∣ R₀
+      → Answer t s ((P ∣ Q) ∣ R₀)
   unfolding head
   open-answer s {n} {P} {Q} {R₀} us e = at (agent-in s us take-open (omega arith) (e ⨾ struct-par-assoc))
     where
-      at : AgentIn t s («open» n P) (amb n Q ∣ R₀) → Answer t s ((P ∣ Q) ∣ R₀)
+      at : AgentIn t s («open» (keyOf openKind n) P) (amb n Q ∣ R₀) → Answer t s ((P ∣ Q) ∣ R₀)
       at z =
           let k = acting-open (z .acting) (z .like) in
           subst (λ r. Answer t r ((P ∣ Q) ∣ R₀)) (z .home) (open-at (z .who) (z .less) (k .0) (k .1) (k .2)
@@ -233,7 +235,7 @@ module _ (t : Tree) (w : Formed t) where
   }
 
   -- one ambient up
-  rises : (s : ℕ) {n : ℕ} {S S′ R Q : Term} (y : PlaceIn t s n S R) → Answer t (y .which) S′ → Q ≅ amb n S′ ∣ R → Answer t s Q
+  rises : (s : ℕ) {n : Name} {S S′ R Q : Term} (y : PlaceIn t s n S R) → Answer t (y .which) S′ → Q ≅ amb n S′ ∣ R → Answer t s Q
   rises s {n} {S} {S′} {R} {Q} y z f = record {
     who = z .who;
     after = z .after;

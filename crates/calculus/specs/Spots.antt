@@ -1,20 +1,21 @@
 -- A reduction, by the spot where it happens: at the top beside a rest, or within an ambient beside a rest.
 -- Idea: a spot keeps the three rules that move something and takes up Red Par and Red Struct in its two equivalences.
-use Prim.Native.Nat.{ℕ}
+use Rattle.table.specs.Cell.{enterKind, exitKind, openKind, keyOf}
+use Rattle.table.specs.declared.Name.{Name}
 use Rattle.calculus.specs.Terms.{Term, amb, nil, _∣_, enter, exit, «open», _≅_, struct-symm, struct-par-zero, struct-par-assoc}
 use Rattle.calculus.specs.Terms.{struct-par, _⟶_, red-enter, red-exit, red-open, red-amb, red-par, red-struct}
 use Rattle.calculus.specs.TermLaws.{_⨾_}
 
 -- the three rules that move something
 pub data Redex : Term → Term → Type 0 where
-  rule-enter : {n m : ℕ} {P Q R : Term} → Redex (amb n (enter m P ∣ Q) ∣ amb m R) (amb m (amb n (P ∣ Q) ∣ R))
-  rule-exit : {n m : ℕ} {P Q R : Term} → Redex (amb m (amb n (exit m P ∣ Q) ∣ R)) (amb n (P ∣ Q) ∣ amb m R)
-  rule-open : {n : ℕ} {P Q : Term} → Redex («open» n P ∣ amb n Q) (P ∣ Q)
+  rule-enter : {n m : Name} {P Q R : Term} → Redex (amb n (enter (keyOf enterKind m) P ∣ Q) ∣ amb m R) (amb m (amb n (P ∣ Q) ∣ R))
+  rule-exit : {n m : Name} {P Q R : Term} → Redex (amb m (amb n (exit (keyOf exitKind m) P ∣ Q) ∣ R)) (amb n (P ∣ Q) ∣ amb m R)
+  rule-open : {n : Name} {P Q : Term} → Redex («open» (keyOf openKind n) P ∣ amb n Q) (P ∣ Q)
 
 -- P becomes Q at a spot
 pub data Spot : Term → Term → Type 0 where
   at-top : {P Q S S′ R : Term} → Redex S S′ → P ≅ S ∣ R → Q ≅ S′ ∣ R → Spot P Q
-  within : {n : ℕ} {P Q S S′ R : Term} → Spot S S′ → P ≅ amb n S ∣ R → Q ≅ amb n S′ ∣ R → Spot P Q
+  within : {n : Name} {P Q S S′ R : Term} → Spot S S′ → P ≅ amb n S ∣ R → Q ≅ amb n S′ ∣ R → Spot P Q
 
 beside : {P S R T : Term} → P ≅ S ∣ R → P ∣ T ≅ S ∣ (R ∣ T)
 beside e = struct-par e ⨾ struct-par-assoc

@@ -1,6 +1,6 @@
 -- Small laws of equivalence: chains, both sides of a parallel, and moving one part past another.
 use mathlib.Core.Path.{_≡_, ap, subst}
-use Prim.Native.Nat.{ℕ}
+use Rattle.table.specs.declared.Name.{Name}
 use Rattle.calculus.specs.Terms.{Term, amb, nil, _∣_, _≅_, struct-refl, struct-symm, struct-trans, struct-par-zero, struct-par-comm}
 use Rattle.calculus.specs.Terms.{struct-par-assoc, struct-par}
 
@@ -14,7 +14,7 @@ pub of-path : {P Q : Term} → P ≡ Q → P ≅ Q
 of-path {P} e = subst (λ x. P ≅ x) e struct-refl
 
 -- equal names give equivalent ambients
-pub renamed : {n m : ℕ} {P : Term} → n ≡ m → amb n P ≅ amb m P
+pub renamed : {n m : Name} {P : Term} → n ≡ m → amb n P ≅ amb m P
 renamed {n} {m} {P} e = of-path (ap (λ x. amb x P) e)
 
 -- (Struct Par) on the right

@@ -1,4 +1,5 @@
--- The term of a tree of places: each place a named ambient, each agent the row of its unused actions, all that a place holds side by side.
+-- The term of a tree of places: each place an ambient with its name and keys, each agent the row of its unused actions, all that a place
+-- holds side by side.
 use Prim.Native.Nat.{ℕ, zero, suc}
 use mathlib.Core.Bool.{cond}
 use mathlib.Core.List.{List, [], _∷_}
@@ -28,7 +29,7 @@ parallel f (suc n) = f n ∣ parallel f n
 unfoldable pub agentAt : Tree → ℕ → ℕ → Term
 agentAt t p x = cond (eqb (t .home x) p) (row (t .unused x)) nil
 
--- what place q adds to place p: the ambient of its name around what it holds, g q, if it stands there
+-- what place q adds to place p: the ambient of its name and keys around what it holds, g q, if it stands there
 unfoldable pub placeAt : Tree → (ℕ → Term) → ℕ → ℕ → Term
 placeAt t g p q = cond (standsAt t q p) (amb (t .name q) (g q)) nil
 

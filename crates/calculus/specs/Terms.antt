@@ -3,23 +3,28 @@
 -- where 002's enter and exit are called `in` and `out` and have the same rules.
 -- Left out of 004, as document 01 says: restriction (Res), replication (Repl) and messages (input, output, Red Comm, paths of capabilities).
 -- The papers' ≡ is written ≅ here, because ≡ is equality.
+-- "In 002 section 4.4 a name holds separate keys for entering and exiting": here it holds these and one for opening, and an action has one
+-- number. "An action's number is compared with the key of its kind on the place entered, left or opened, and the calculus rules .. are read
+-- with that comparison" (document 02, W6): where the papers print `enter n`, `exit n` or `open n`, the number is the key of that kind of n.
 use Prim.Native.Nat.{ℕ}
+use Rattle.table.specs.Cell.{enterKind, exitKind, openKind, keyOf}
+use Rattle.table.specs.declared.Name.{Name}
 
 -- ---- 002, 2.1 Syntax
 
--- P, Q ::= ; an ambient name n is a number
+-- P, Q ::= ; an ambient has a name with its keys, an action the number that is compared with a key
 pub data Term : Type 0 where
-  -- n[P]          ambient with name n and content P
-  amb : ℕ → Term → Term
+  -- n[P]          ambient with name n, its keys in it, and content P
+  amb : Name → Term → Term
   -- 0             termination
   nil : Term
   -- P | Q         parallel execution
   _∣_ : Term → Term → Term
-  -- enter n. P    enter an ambient n, then do P
+  -- enter k. P    enter an ambient whose key for entering is k, then do P
   enter : ℕ → Term → Term
-  -- exit n. P     exit an ambient n, then do P
+  -- exit k. P     exit an ambient whose key for exiting is k, then do P
   exit : ℕ → Term → Term
-  -- open n. P     (004) open an ambient n, then do P
+  -- open k. P     (004) open an ambient whose key for opening is k, then do P
   «open» : ℕ → Term → Term
 
 infixr 40 _∣_
@@ -39,8 +44,8 @@ pub data _≅_ : Term → Term → Type 0 where
   struct-par-comm : {P Q : Term} → P ∣ Q ≅ Q ∣ P
   -- (Struct Par Assoc)
   struct-par-assoc : {P Q R : Term} → (P ∣ Q) ∣ R ≅ P ∣ (Q ∣ R)
-  -- (Struct Amb)
-  struct-amb : {n : ℕ} {P Q : Term} → P ≅ Q → amb n P ≅ amb n Q
+  -- (Struct Amb): the same name with the same keys
+  struct-amb : {n : Name} {P Q : Term} → P ≅ Q → amb n P ≅ amb n Q
   -- (Struct Par)
   struct-par : {P Q R : Term} → P ≅ Q → P ∣ R ≅ Q ∣ R
   -- (Struct Enter)
@@ -54,14 +59,14 @@ pub data _≅_ : Term → Term → Type 0 where
 
 -- one-step reduction
 pub data _⟶_ : Term → Term → Type 0 where
-  -- (Red Enter)
-  red-enter : {n m : ℕ} {P Q R : Term} → amb n (enter m P ∣ Q) ∣ amb m R ⟶ amb m (amb n (P ∣ Q) ∣ R)
-  -- (Red Exit)
-  red-exit : {n m : ℕ} {P Q R : Term} → amb m (amb n (exit m P ∣ Q) ∣ R) ⟶ amb n (P ∣ Q) ∣ amb m R
-  -- 004's (Red Open)
-  red-open : {n : ℕ} {P Q : Term} → «open» n P ∣ amb n Q ⟶ P ∣ Q
+  -- (Red Enter): the number of the enter is the key for entering of the ambient m that is entered
+  red-enter : {n m : Name} {P Q R : Term} → amb n (enter (keyOf enterKind m) P ∣ Q) ∣ amb m R ⟶ amb m (amb n (P ∣ Q) ∣ R)
+  -- (Red Exit): the number of the exit is the key for exiting of the ambient m that is left
+  red-exit : {n m : Name} {P Q R : Term} → amb m (amb n (exit (keyOf exitKind m) P ∣ Q) ∣ R) ⟶ amb n (P ∣ Q) ∣ amb m R
+  -- 004's (Red Open): the number of the open is the key for opening of the ambient n that is opened
+  red-open : {n : Name} {P Q : Term} → «open» (keyOf openKind n) P ∣ amb n Q ⟶ P ∣ Q
   -- (Red Amb)
-  red-amb : {n : ℕ} {P Q : Term} → P ⟶ Q → amb n P ⟶ amb n Q
+  red-amb : {n : Name} {P Q : Term} → P ⟶ Q → amb n P ⟶ amb n Q
   -- (Red Par)
   red-par : {P Q R : Term} → P ⟶ Q → P ∣ R ⟶ Q ∣ R
   -- (Red Struct)

@@ -12,7 +12,8 @@ use Rattle.meaning.specs.Calculus.{Tree, Move}
 use Rattle.meaning.specs.Plain.{Plain, plainOf, plainRun, History}
 
 -- "The cell equals the plain tree when the same place numbers are in use, with the same names and parents (the destination for a place on
--- its way), and each agent has the same home and the same unused actions in order."
+-- its way), and each agent has the same home and the same unused actions in order." The plain tree "keeps and compares keys as it does names"
+-- (document 02, W6): `name` is the name with its keys.
 pub record EqualsPlain (c : State) (t : Tree) : Type 0 where
   pub used : (q : ℕ) → c .land .used q ≡ t .used q
   pub name : (q : ℕ) → c .land .used q ≡ true → c .land .place q .name ≡ t .name q

@@ -8,6 +8,7 @@ use native.Mathlib.Omega.{arith}
 use Rattle.order.specs.RowLaws.{fits-later}
 use Rattle.table.specs.BaseLaws.{clash, eq?, upd-at, upd-other}
 use Rattle.table.specs.Cell.{Land, State, linked}
+use Rattle.table.specs.declared.Name.{Name}
 use Rattle.table.specs.declared.Agent.{Agent}
 use Rattle.meaning.specs.Update.{atStage}
 use Rattle.meaning.specs.Step.{awaited, restStage, linkUp, beyond, arrive}
@@ -61,12 +62,12 @@ module _ (c : State) (i : Sound c) (x : ℕ) (g : c .given x ≡ true) (e : c .a
     floor-used = i .places .floor-used;
     floor-parent = stands 0 ∙ i .places .floor-parent;
     floor-link = links 0 (λ z. away .placed (sym z)) ∙ i .places .floor-link;
-    floor-name = ap (λ (f : ℕ → ℕ). f 0) (name-linked l h) ∙ i .places .floor-name;
+    floor-name = ap (λ (f : ℕ → Name). f 0) (name-linked l h) ∙ i .places .floor-name;
     tree = subst (λ (f : ℕ → ℕ). (q : ℕ) → Up f q) (sym (parent-linked l h)) (i .places .tree);
     parent-used = subst (λ (f : ℕ → ℕ). (q : ℕ) → l .used (f q) ≡ true) (sym (parent-linked l h)) (i .places .parent-used);
     small = i .places .small;
     order = fits-later _ _ (i .places .order);
-    named = λ q u n. subst (λ (f : ℕ → ℕ). 1 ≤ f q) (sym (name-linked l h)) (i .places .named q u n);
+    named = λ q u n. subst (λ (f : ℕ → Name). 1 ≤ f q .name) (sym (name-linked l h)) (i .places .named q u n);
   }
 
   -- a destination that is linked to p
@@ -79,7 +80,7 @@ module _ (c : State) (i : Sound c) (x : ℕ) (g : c .given x ≡ true) (e : c .a
     loose = λ o z. links (b .home) (λ k. w .first (z ∙ k)) ∙ o;
     keeps = kept-under (b .home) (b .remembered);
     child = under;
-    names = λ q _. ap (λ (f : ℕ → ℕ). f q) (name-linked l h);
+    names = λ q _. ap (λ (f : ℕ → Name). f q) (name-linked l h);
     up = λ k. sym (links (b .remembered) (w .first)) ∙ k;
     awaits = λ q u k. not-yes _ (λ t. clash (still q (under q u) (awaited-some l q t)) k);
   }

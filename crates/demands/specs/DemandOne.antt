@@ -13,6 +13,7 @@ use Rattle.table.specs.BaseLaws.{Told, yea, nay, told}
 use Rattle.table.specs.Cell.{State, cellOf, lastKind}
 use Rattle.table.specs.Sound.{touchSum, mostTouches, sound}
 use Rattle.table.specs.Idle.{idle}
+use Rattle.table.specs.declared.Name.{Name}
 use Rattle.table.specs.declared.Cell.{Cell}
 use Rattle.meaning.specs.declared.Record.{Record}
 use Rattle.meaning.specs.declared.Record.the-variants.{PlaceRecord, AgentRecord, ActionRecord, EndRecord, TouchRecord, Faulty}
@@ -25,8 +26,8 @@ use Rattle.meaning.specs.declared.Idled.the-variants.{Unknown}
 use Rattle.meaning.specs.Refusals.{cutShort, unknownKind, placeTooLarge, parentTooLarge, agentTooLarge, givenTwice, notYetGiven}
 use Rattle.meaning.specs.Refusals.{nameZero, wrongKind, seventeenth, afterEnd}
 use Rattle.meaning.specs.Refusals.{unsoundTable, noSuchAgent, tooLong, tooManyTouches}
-use Rattle.meaning.specs.File.{byteAt, placeRecord, agentRecord, actionRecord, touchRecord, Known, recordAt, Progress, knownIn, bareProgress}
-use Rattle.meaning.specs.File.{Load, accepted, refused, loadRecord, loadFrom, load, loaded, loadOf}
+use Rattle.meaning.specs.File.{byteAt, placeRecord, agentRecord, actionRecord, touchRecord, givesPlace, placeLength, Known, recordAt}
+use Rattle.meaning.specs.File.{Progress, knownIn, bareProgress, Load, accepted, refused, loadRecord, loadFrom, load, loaded, loadOf}
 use Rattle.meaning.specs.FileLaws.{load-either, refused-keeps}
 use Rattle.meaning.specs.Run.{made, turnedAway, stepOf}
 use Rattle.meaning.specs.Touch.{counted, untouched, touchOf, touchesOf}
@@ -45,7 +46,7 @@ never e = absurd (omega arith)
 
 -- a record is refused with a number of a load
 data Numbered : Record → Type 0 where
-  place : {number parent name : ℕ} → Numbered (PlaceRecord number parent name)
+  place : {number parent : ℕ} {name : Name} → Numbered (PlaceRecord number parent name)
   agent : {number home : ℕ} → Numbered (AgentRecord number home)
   action : {agent kind name : ℕ} → Numbered (ActionRecord agent kind name)
   end : Numbered EndRecord
@@ -61,11 +62,11 @@ either false f g = g
 unless : (b : Bool) (number : ℕ) {y : Record} → ofFile number ≡ true → Numbered y → Numbered (cond b (Faulty number) y)
 unless b number e g = either b (fault number e) g
 
-place-number : (taken known : Bool) (number parent name : ℕ) → Numbered (placeRecord taken known number parent name)
+place-number : (taken known : Bool) (number parent : ℕ) (name : Name) → Numbered (placeRecord taken known number parent name)
 unfolding placeRecord
 place-number taken known n p m = unless (ltb n 1) placeTooLarge refl (unless (leb 64 n) placeTooLarge refl
     (unless (leb 64 p) parentTooLarge refl (unless taken givenTwice refl
-    (either known (unless (ltb m 1) nameZero refl place) (fault notYetGiven refl)))))
+    (either known (unless (ltb (m .name) 1) nameZero refl place) (fault notYetGiven refl)))))
 
 agent-number : (taken known : Bool) (number home : ℕ) → Numbered (agentRecord taken known number home)
 unfolding agentRecord
@@ -84,7 +85,7 @@ touch-number taken known q n = unless (leb 64 q) placeTooLarge refl (unless take
 record-number : (k : Known) (s : List ℕ) (at : ℕ) → Numbered (recordAt k s at)
 unfolding recordAt
 record-number k s at =
-    either (eqb (byteAt s at) 1) (unless (ltb (length s - at) 5) cutShort refl (place-number _ _ _ _ _))
+    either (givesPlace (byteAt s at)) (unless (ltb (length s - at) (placeLength (byteAt s at))) cutShort refl (place-number _ _ _ _ _))
     (either (eqb (byteAt s at) 2) (unless (ltb (length s - at) 3) cutShort refl (agent-number _ _ _ _))
     (either (eqb (byteAt s at) 3) (unless (ltb (length s - at) 5) cutShort refl (action-number _ _ _ _ _))
     (either (eqb (byteAt s at) 4) end

@@ -8,7 +8,7 @@ use native.Mathlib.Omega.{arith}
 use lib.Dec.{ltb, eqb}
 use borrow.Author.Tests.{eqb-true, eq-eqb, ne-eqb, ltb-true, ltb-false, not-true}
 use Rattle.table.specs.BaseLaws.{Told, yea, nay, told, clash, and-left, and-right, all-at, all-yes, any-at, any-found}
-use Rattle.table.specs.Cell.{Land, State, none, linked, linkedTo, travels, kindOf, nameOf, enterKind, exitKind, openKind, looksHome, answersTo}
+use Rattle.table.specs.Cell.{Land, State, none, linked, linkedTo, travels, kindOf, nameOf, enterKind, exitKind, openKind, looksHome, keyOf}
 use Rattle.table.specs.Kinds.{Kind, is-enter, is-exit, is-open, kind-around}
 use Rattle.table.specs.Sound.{secondPlace}
 use Rattle.table.specs.declared.Agent.{Agent}
@@ -136,10 +136,10 @@ settled-at c e q l u =
 
 -- ---- what qualifies, by the kind of the action
 
--- q is linked to p and named n, as an action of this kind asks
+-- q is linked to p, and n is its key for actions of this kind
 pub record Child (kind : ℕ) (l : Land) (p n q : ℕ) : Type 0 where
   pub under : Under l q p
-  pub name : answersTo kind (nameIn l q) ≡ n
+  pub name : keyOf kind (nameIn l q) ≡ n
 
 module _ (l : Land) (kind n home p q : ℕ) where
   -- the test of a child with one more condition, as enter and open have it
@@ -148,27 +148,27 @@ module _ (l : Land) (kind n home p q : ℕ) where
       let t = and-left (linkedTo l q p) _ e in
       let r = and-right (linkedTo l q p) _ e in
       let u = under-fits l q p t in (
-        record { under = u; name = ap (answersTo k) (name-read l q (link-used l q (u .link))) ∙ eqb-true _ n (and-left (named k l q n) b r) },
+        record { under = u; name = ap (keyOf k) (name-read l q (link-used l q (u .link))) ∙ eqb-true _ n (and-left (named k l q n) b r) },
         and-right (named k l q n) b r,
       )
 
   child-of : (k : ℕ) (b : Bool) → Child k l p n q → b ≡ true → linkedTo l q p && (named k l q n && b) ≡ true
   child-of k b c e =
-      let name = ap (answersTo k) (sym (name-read l q (link-used l q (c .under .link)))) ∙ c .name in
-      rw (under-of l q p (c .under), eq-eqb (answersTo k (l .place q .name)) n name, e)
+      let name = ap (keyOf k) (sym (name-read l q (link-used l q (c .under .link)))) ∙ c .name in
+      rw (under-of l q p (c .under), eq-eqb (keyOf k (l .place q .name)) n name, e)
 
   -- what each kind asks, told apart
   pub enters-fits : kind ≡ enterKind → qualifies l kind n home p q ≡ true → Child enterKind l p n q × (q ≢ home)
   unfolding qualifies entersAt
   enters-fits k e = let r = child enterKind (not (eqb q home)) (rw k at e) in (r .0, differ q home (r .1))
 
-  pub exits-fits : kind ≡ exitKind → qualifies l kind n home p q ≡ true → (q ≡ p) × (linked l p ≡ true) × (answersTo exitKind (nameIn l p) ≡ n)
+  pub exits-fits : kind ≡ exitKind → qualifies l kind n home p q ≡ true → (q ≡ p) × (linked l p ≡ true) × (keyOf exitKind (nameIn l p) ≡ n)
   unfolding qualifies exitsFrom
   exits-fits k e =
       let f : (eqb q p && (linked l p && named exitKind l p n)) ≡ true = rw k at e in
       let r = and-right (eqb q p) _ f in
       let u = and-left (linked l p) _ r in
-      (eqb-true q p (and-left (eqb q p) _ f), u, ap (answersTo exitKind) (name-read l p (link-used l p u)) ∙ eqb-true _ n (and-right (linked l p) _ r))
+      (eqb-true q p (and-left (eqb q p) _ f), u, ap (keyOf exitKind) (name-read l p (link-used l p u)) ∙ eqb-true _ n (and-right (linked l p) _ r))
 
   pub opens-fits : kind ≡ openKind → qualifies l kind n home p q ≡ true → Child openKind l p n q × (awaited l q ≡ false)
   unfolding qualifies opensAt
@@ -179,13 +179,13 @@ module _ (l : Land) (kind n home p q : ℕ) where
   unfolding qualifies entersAt
   enters-of k c d = rw k (child-of enterKind (not (eqb q home)) c (rw (ne-eqb q home d)))
 
-  pub exits-of : kind ≡ exitKind → q ≡ p → linked l p ≡ true → answersTo exitKind (nameIn l p) ≡ n → qualifies l kind n home p q ≡ true
+  pub exits-of : kind ≡ exitKind → q ≡ p → linked l p ≡ true → keyOf exitKind (nameIn l p) ≡ n → qualifies l kind n home p q ≡ true
   unfolding qualifies exitsFrom
   exits-of k s u e = rw (
     k,
     eq-eqb q p s,
     u,
-    eq-eqb (answersTo exitKind (l .place p .name)) n (ap (answersTo exitKind) (sym (name-read l p (link-used l p u))) ∙ e),
+    eq-eqb (keyOf exitKind (l .place p .name)) n (ap (keyOf exitKind) (sym (name-read l p (link-used l p u))) ∙ e),
   )
 
   pub opens-of : kind ≡ openKind → Child openKind l p n q → awaited l q ≡ false → qualifies l kind n home p q ≡ true

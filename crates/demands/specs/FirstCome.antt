@@ -20,14 +20,15 @@ use Rattle.meaning.specs.Run.{Call, agentOf, Reply, stepReply, touchReply, step
 -- ---- "Loaded places count in file order"
 
 -- the numbers of all place records from an offset on, by the lengths of the kinds alone: five bytes for a place (1) or an action (3), three for
--- an agent (2), six for touches (5), and the end (4)
+-- an agent (2), six for touches (5), eleven for a place with keys (6), and the end (4)
 unfoldable pub placesFrom : ℕ → List ℕ → ℕ → List ℕ
 placesFrom zero s at = []
 placesFrom (suc turns) s at =
     cond (eqb (byteAt s at) 1) (byteAt s (at + 1) ∷ placesFrom turns s (at + 5))
     (cond (eqb (byteAt s at) 2) (placesFrom turns s (at + 3))
     (cond (eqb (byteAt s at) 3) (placesFrom turns s (at + 5))
-    (cond (eqb (byteAt s at) 5) (placesFrom turns s (at + 6)) [])))
+    (cond (eqb (byteAt s at) 5) (placesFrom turns s (at + 6))
+    (cond (eqb (byteAt s at) 6) (byteAt s (at + 1) ∷ placesFrom turns s (at + 11)) []))))
 
 -- those of a whole file
 unfoldable pub placesIn : List ℕ → List ℕ

@@ -8,7 +8,7 @@ use native.Mathlib.Omega.{arith}
 use lib.Dec.{eqb}
 use borrow.Author.Tests.{eqb-true, eqb-false}
 use Rattle.table.specs.BaseLaws.{Told, yea, nay, told, clash}
-use Rattle.table.specs.Cell.{Land, linked, kindOf, nameOf, unused, exitKind, answersTo, looking, found, holding, holdingBoth, asleep}
+use Rattle.table.specs.Cell.{Land, linked, kindOf, nameOf, unused, exitKind, keyOf, looking, found, holding, holdingBoth, asleep}
 use Rattle.table.specs.Kinds.{Kind, is-enter, is-exit, is-open}
 use Rattle.table.specs.declared.Agent.{Agent}
 use Rattle.meaning.specs.Update.{atStage}
@@ -82,12 +82,12 @@ module _ (l l′ : Land) (a : Agent) (k : Kind (kindOf a)) (m : Calm l l′ a) w
   stays-frame (is-open k) e = stays-home l′ a (rw k)
 
   child-frame : (k n q : ℕ) → Child k l′ (a .remembered) n q → Child k l (a .remembered) n q
-  child-frame k n q c = record { under = m .child q (c .under); name = ap (answersTo k) (sym (m .names q (c .under .link))) ∙ c .name }
+  child-frame k n q c = record { under = m .child q (c .under); name = ap (keyOf k) (sym (m .names q (c .under .link))) ∙ c .name }
 
   fits-frame : (q : ℕ) → Kind (kindOf a) → qualifies l′ (kindOf a) (nameOf a) (a .home) (a .remembered) q ≡ true
       → qualifies l (kindOf a) (nameOf a) (a .home) (a .remembered) q ≡ true
   fits-frame q (is-enter k) e = let f = enters-fits l′ _ _ _ _ q k e in enters-of l _ _ _ _ q k (child-frame _ _ q (f .0)) (f .1)
-  fits-frame q (is-exit k) e = let f = exits-fits l′ _ _ _ _ q k e in exits-of l _ _ _ _ q k (f .0) (m .up (f .1)) (ap (answersTo exitKind) (sym (m .names _ (f .1))) ∙ f .2)
+  fits-frame q (is-exit k) e = let f = exits-fits l′ _ _ _ _ q k e in exits-of l _ _ _ _ q k (f .0) (m .up (f .1)) (ap (keyOf exitKind) (sym (m .names _ (f .1))) ∙ f .2)
   fits-frame q (is-open k) e = let f = opens-fits l′ _ _ _ _ q k e in
       opens-of l _ _ _ _ q k (child-frame _ _ q (f .0)) (m .awaits q (f .0 .under) (f .1))
 

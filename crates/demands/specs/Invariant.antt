@@ -7,7 +7,7 @@ use mathlib.Core.List.{[]}
 use Prim.Native.Nat.{ℕ, _≤_, _<_}
 use mathlib.Core.Bool.{true, false}
 use Rattle.order.specs.Row.{rowFits}
-use Rattle.table.specs.Cell.{Land, State, none, linked, kindOf, nameOf, unused, enterKind, exitKind, openKind}
+use Rattle.table.specs.Cell.{Land, State, none, noName, linked, kindOf, nameOf, unused, enterKind, exitKind, openKind}
 use Rattle.table.specs.Cell.{looking, found, holding, holdingBoth, onWay, onWayOwn, onWayBoth, asleep, done}
 use Rattle.table.specs.Sound.{secondPlace, touchSum, mostTouches}
 use Rattle.table.specs.declared.Agent.{Agent}
@@ -28,11 +28,11 @@ pub record Places (l : Land) : Type 0 where
   pub floor-used : l .used 0 ≡ true
   pub floor-parent : parentIn l 0 ≡ 0
   pub floor-link : linked l 0 ≡ false
-  pub floor-name : nameIn l 0 ≡ 0
+  pub floor-name : nameIn l 0 ≡ noName
   pub tree : (q : ℕ) → Up (parentIn l) q
   pub parent-used : (q : ℕ) → l .used (parentIn l q) ≡ true
   pub small : (q : ℕ) → l .used q ≡ true → q < 64
-  pub named : (q : ℕ) → l .used q ≡ true → q ≢ 0 → 1 ≤ nameIn l q
+  pub named : (q : ℕ) → l .used q ≡ true → q ≢ 0 → 1 ≤ nameIn l q .name
   pub order : rowFits (l .order) ≡ true
 
 -- ---- agents

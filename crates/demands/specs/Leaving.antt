@@ -8,6 +8,7 @@ use native.Mathlib.Omega.{arith}
 use Rattle.table.specs.Base.{upd}
 use Rattle.table.specs.BaseLaws.{clash, upd-at, upd-other, upd-all}
 use Rattle.table.specs.Cell.{Land, State, linked, kindOf, enterKind, exitKind}
+use Rattle.table.specs.declared.Name.{Name}
 use Rattle.table.specs.declared.Agent.{Agent}
 use Rattle.meaning.specs.Update.{useUp, atStage, released}
 use Rattle.meaning.specs.Step.{awaited, fires, sendTo, leave}
@@ -65,13 +66,13 @@ module _ (c : State) (i : Sound c) (x : ℕ) (g : c .given x ≡ true) (e : c .a
     floor-used = i .places .floor-used;
     floor-parent = stands 0 not-floor ∙ i .places .floor-parent;
     floor-link = links 0 not-floor ∙ i .places .floor-link;
-    floor-name = ap (λ (f : ℕ → ℕ). f 0) (name-sent l h d) ∙ i .places .floor-name;
+    floor-name = ap (λ (f : ℕ → Name). f 0) (name-sent l h d) ∙ i .places .floor-name;
     tree = subst (λ (f : ℕ → ℕ). (q : ℕ) → Up f q) (sym parents) tree;
     parent-used = subst (λ (f : ℕ → ℕ). (q : ℕ) → l .used (f q) ≡ true) (sym parents)
         (upd-all (parentIn l) h d (λ (q p : ℕ). l .used p ≡ true) ud (λ q _. i .places .parent-used q));
     small = i .places .small;
     order = i .places .order;
-    named = λ q u n. subst (λ (f : ℕ → ℕ). 1 ≤ f q) (sym (name-sent l h d)) (i .places .named q u n);
+    named = λ q u n. subst (λ (f : ℕ → Name). 1 ≤ f q .name) (sym (name-sent l h d)) (i .places .named q u n);
   }
 
   -- a sleeper on another place than the two notices nothing
@@ -81,7 +82,7 @@ module _ (c : State) (i : Sound c) (x : ℕ) (g : c .given x ≡ true) (e : c .a
     keeps = λ u. kept-under (b .home) (b .remembered) (λ k. w .first (sym (u .parent) ∙ ap (parentIn l) k ∙ m .under .parent)) u;
     child = λ q u. let n : q ≢ h = λ k. clash (u .link) (loosened q k) in
         record { link = sym (links q n) ∙ u .link; parent = sym (stands q n) ∙ u .parent };
-    names = λ q _. ap (λ (f : ℕ → ℕ). f q) (name-sent l h d);
+    names = λ q _. ap (λ (f : ℕ → Name). f q) (name-sent l h d);
     up = λ k. sym (links (b .remembered) (w .second)) ∙ k;
     awaits = λ q u k. not-yes _ (λ t. clash (still q (awaited-some l q t)) k);
   }

@@ -15,6 +15,7 @@ use Rattle.order.specs.RowLaws.{fits-later, counting-fits}
 use Rattle.table.specs.Base.{upd}
 use Rattle.table.specs.BaseLaws.{clash, eq?, upd-same, upd-at, upd-other, upd-all}
 use Rattle.table.specs.Cell.{Land, State, noPlace, noAction, freshAgent, linked, cellOf, bareTable, lastKind}
+use Rattle.table.specs.declared.Name.{Name}
 use Rattle.table.specs.declared.Place.{Place}
 use Rattle.table.specs.declared.Action.{Action}
 use Rattle.table.specs.declared.Agent.{Agent}
@@ -87,8 +88,8 @@ bare-fresh = record {
 
 -- ---- a place record
 
-module _ (c : State) (f : Fresh c) (n p m : ℕ) (n0 : n ≢ 0) (n64 : n < 64) (new : c .land .used n ≡ false) (old : c .land .used p ≡ true)
-    (m1 : 1 ≤ m) where
+module _ (c : State) (f : Fresh c) (n p : ℕ) (m : Name) (n0 : n ≢ 0) (n64 : n < 64) (new : c .land .used n ≡ false) (old : c .land .used p ≡ true)
+    (m1 : 1 ≤ m .name) where
   abbrev was : Land
   was = c .land
 
@@ -153,7 +154,7 @@ module _ (c : State) (f : Fresh c) (n p m : ℕ) (n0 : n ≢ 0) (n64 : n < 64) (
       small q u (inl e) = omega arith
       small q u (inr d) = f .places .small q (used-before q d u)
 
-      named : (q : ℕ) → grown .used q ≡ true → q ≢ 0 → (q ≡ n) ⊎ (q ≢ n) → 1 ≤ upd (nameIn was) n m q
+      named : (q : ℕ) → grown .used q ≡ true → q ≢ 0 → (q ≡ n) ⊎ (q ≢ n) → 1 ≤ upd (nameIn was) n m q .name
       named q u z (inl e) = rw (upd-at (nameIn was) n q m e) m1
       named q u z (inr d) = rw (upd-other (nameIn was) n q m d) (f .places .named q (used-before q d u) z)
 

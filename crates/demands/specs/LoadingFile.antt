@@ -15,11 +15,12 @@ use Rattle.table.specs.BaseLaws.{Told, yea, nay, told, clash, eq?, upd-other}
 use Rattle.table.specs.SumLaws.{sum-ext, sum-most}
 use Rattle.table.specs.Cell.{State, cellOf, bareTable, lastKind}
 use Rattle.table.specs.Sound.{touchesAt, touchSum}
+use Rattle.table.specs.declared.Name.{Name}
 use Rattle.meaning.specs.Refusals.{afterEnd}
 use Rattle.meaning.specs.declared.Record.{Record}
 use Rattle.meaning.specs.declared.Record.the-variants.{PlaceRecord, AgentRecord, ActionRecord, EndRecord, TouchRecord, Faulty}
 use Rattle.meaning.specs.Update.{withTouches}
-use Rattle.meaning.specs.File.{byteAt, countAt, recordAt, addPlace, addAgent, addAction, giveTouches, isFull}
+use Rattle.meaning.specs.File.{byteAt, countAt, placeLength, recordAt, addPlace, addAgent, addAction, giveTouches, isFull}
 use Rattle.meaning.specs.File.{Progress, withCell, withCounted, knownIn, bareProgress, Load, accepted, refused, loadRecord, loadFrom, load}
 use Rattle.meaning.specs.FileLaws.{Fits, place, agent, action, end, touch, faulty, record-fits, bare-touches, load-either}
 use Rattle.demands.specs.Fresh.{Fresh}
@@ -53,7 +54,8 @@ module _ (p : Progress) (b : Begun p) where
   c = p .cell
 
   -- a place record: the place has no touches so far
-  module _ (n parent name : ℕ) (n0 : n ≢ 0) (low : n < 64) (new : c .land .used n ≡ false) (known : c .land .used parent ≡ true) (named : 1 ≤ name) where
+  module _ (n parent : ℕ) (name : Name) (n0 : n ≢ 0) (low : n < 64) (new : c .land .used n ≡ false) (known : c .land .used parent ≡ true)
+      (named : 1 ≤ name .name) where
     begun-place : Begun (withCell p (addPlace c n parent name))
     begun-place = record {
       fresh = add-place c (b .fresh) n parent name n0 low new known named;
@@ -131,10 +133,14 @@ data Freshly (sum : ℕ) : Load → Type 0 where
 
 -- what the record at an offset gives, and the rest of the file
 module _ (turns : ℕ) (s : List ℕ) (at : ℕ) where
-  from-five : (byteAt s at ≡ 1) ⊎ (byteAt s at ≡ 3) → touchesFrom (suc turns) s at ≡ touchesFrom turns s (at + 5)
+  from-place : (byteAt s at ≡ 1) ⊎ (byteAt s at ≡ 6) → touchesFrom (suc turns) s at ≡ touchesFrom turns s (at + placeLength (byteAt s at))
   unfolding touchesFrom
-  from-five (inl e) = rw e
-  from-five (inr e) = rw e
+  from-place (inl e) = rw e
+  from-place (inr e) = rw e
+
+  from-action : byteAt s at ≡ 3 → touchesFrom (suc turns) s at ≡ touchesFrom turns s (at + 5)
+  unfolding touchesFrom
+  from-action e = rw e
 
   from-agent : byteAt s at ≡ 2 → touchesFrom (suc turns) s at ≡ touchesFrom turns s (at + 3)
   unfolding touchesFrom
@@ -167,13 +173,13 @@ load-from (suc turns) p s at b = go (told (ltb at (length s))) (record-fits (kno
         → Freshly (touchSum (p .cell) + touchesFrom (suc turns) s at) (loadRecord (λ q i. loadFrom turns q s i) p s at r)
     rest h (PlaceRecord n parent m) (place one low under new known named) (a-place e _) =
         let z : n ≢ 0 = λ z. absurd (omega arith) in
-        unfold loadRecord in so (omega (arith, place-sum p b n parent m z low new known named, from-five turns s at (inl e)))
-        (h (withCell p (addPlace (p .cell) n parent m)) (at + 5) (begun-place p b n parent m z low new known named))
+        unfold loadRecord in so (omega (arith, place-sum p b n parent m z low new known named, from-place turns s at e))
+        (h (withCell p (addPlace (p .cell) n parent m)) (at + placeLength (byteAt s at)) (begun-place p b n parent m z low new known named))
     rest h (AgentRecord n home) (agent low under new known) (an-agent e) =
         unfold loadRecord in so (omega (arith, agent-sum p b n home, from-agent turns s at e))
         (h (withCell p (addAgent (p .cell) n home)) (at + 3) (begun-agent p b n home low new known))
     rest h (ActionRecord n k m) (action low known room one three named) (an-action e) =
-        unfold loadRecord in so (omega (arith, action-sum p b n k m, from-five turns s at (inr e)))
+        unfold loadRecord in so (omega (arith, action-sum p b n k m, from-action turns s at e))
         (h (withCell p (addAction (p .cell) n k m)) (at + 5) (begun-action p b n k m low known room one three named))
     rest h (TouchRecord q n) (touch low new known few) (touches e) =
         unfold loadRecord in so (omega (arith, touches-sum p b q _ low new known few, from-touches turns s at e))

@@ -14,10 +14,11 @@ use Rattle.order.specs.RowLaws.{occurs-append}
 use Rattle.order.specs.RowLawsLater.{loaded-none}
 use Rattle.table.specs.BaseLaws.{Told, yea, nay, told, clash, same-test}
 use Rattle.table.specs.Cell.{Land, State, cellOf, bareTable}
+use Rattle.table.specs.declared.Name.{Name}
 use Rattle.meaning.specs.Refusals.{afterEnd}
 use Rattle.meaning.specs.declared.Record.{Record}
 use Rattle.meaning.specs.declared.Record.the-variants.{PlaceRecord, AgentRecord, ActionRecord, EndRecord, TouchRecord, Faulty}
-use Rattle.meaning.specs.File.{byteAt, recordAt, addPlace, addAgent, addAction, giveTouches}
+use Rattle.meaning.specs.File.{byteAt, placeLength, recordAt, addPlace, addAgent, addAction, giveTouches}
 use Rattle.meaning.specs.File.{Progress, withCell, withCounted, knownIn, bareProgress, Load, accepted, refused, loadRecord, loadFrom, load}
 use Rattle.meaning.specs.FileLaws.{Fits, place, agent, action, end, touch, faulty, record-fits, bare-used, bare-order, load-either}
 use Rattle.demands.specs.FirstCome.{placesFrom, placesIn, lasts}
@@ -39,7 +40,7 @@ loading-bare = record {
 }
 
 -- one place more
-loading-place : (c : State) (log : List ℕ) (n parent name : ℕ) → n < 64 → c .land .used n ≡ false → Loading (c .land) log
+loading-place : (c : State) (log : List ℕ) (n parent : ℕ) (name : Name) → n < 64 → c .land .used n ≡ false → Loading (c .land) log
     → Loading (addPlace c n parent name .land) (log ++ (n ∷ []))
 unfolding addPlace occurs
 loading-place c log n parent name low new m = record {
@@ -79,9 +80,11 @@ data Ordered (log : List ℕ) : Load → Type 0 where
 
 -- what the record at an offset adds
 module _ (turns : ℕ) (s : List ℕ) (at : ℕ) where
-  from-place : byteAt s at ≡ 1 → placesFrom (suc turns) s at ≡ byteAt s (at + 1) ∷ placesFrom turns s (at + 5)
+  from-place : (byteAt s at ≡ 1) ⊎ (byteAt s at ≡ 6)
+      → placesFrom (suc turns) s at ≡ byteAt s (at + 1) ∷ placesFrom turns s (at + placeLength (byteAt s at))
   unfolding placesFrom
-  from-place e = rw e
+  from-place (inl e) = rw e
+  from-place (inr e) = rw e
 
   from-agent : byteAt s at ≡ 2 → placesFrom (suc turns) s at ≡ placesFrom turns s (at + 3)
   unfolding placesFrom
@@ -121,9 +124,10 @@ load-from (suc turns) p s at log m = go (told (ltb at (length s))) (record-fits 
     rest : Rest turns s at → (r : Record) → Fits (knownIn p) r → Stands s at r
         → Ordered (log ++ placesFrom (suc turns) s at) (loadRecord (λ q i. loadFrom turns q s i) p s at r)
     rest h (PlaceRecord n parent name) (place one low under new known named) (a-place e f) =
-        unfold loadRecord in so (append-assoc log (n ∷ []) (placesFrom turns s (at + 5))
-        ∙ ap (λ (t : List ℕ). log ++ t) (ap (λ (k : ℕ). k ∷ placesFrom turns s (at + 5)) f ∙ sym (from-place turns s at e)))
-        (h (withCell p (addPlace (p .cell) n parent name)) (at + 5) (log ++ (n ∷ [])) (loading-place (p .cell) log n parent name low new m))
+        let next = at + placeLength (byteAt s at) in
+        unfold loadRecord in so (append-assoc log (n ∷ []) (placesFrom turns s next)
+        ∙ ap (λ (t : List ℕ). log ++ t) (ap (λ (k : ℕ). k ∷ placesFrom turns s next) f ∙ sym (from-place turns s at e)))
+        (h (withCell p (addPlace (p .cell) n parent name)) next (log ++ (n ∷ [])) (loading-place (p .cell) log n parent name low new m))
     rest h (AgentRecord n home) (agent low under new known) (an-agent e) =
         unfold loadRecord in so (quiet (at + 3) (from-agent turns s at e)) (h (withCell p (addAgent (p .cell) n home)) (at + 3) log (unfold addAgent in m))
     rest h (ActionRecord n k name) (action low known room one three named) (an-action e) =

@@ -6,7 +6,7 @@ use Prim.Native.Nat.{ℕ}
 use native.Mathlib.Omega.{arith}
 use borrow.Author.Tests.{ne-eqb}
 use Rattle.table.specs.BaseLaws.{clash}
-use Rattle.table.specs.Cell.{State, kindOf, nameOf, enterKind, exitKind, openKind}
+use Rattle.table.specs.Cell.{State, kindOf, nameOf, enterKind, exitKind, openKind, keyOf}
 use Rattle.table.specs.declared.Agent.{Agent}
 use Rattle.meaning.specs.Step.{Outcome, still, qualifies, targetOf, fires, leave, dissolve, arrive}
 use Rattle.meaning.specs.Calculus.{Tree, nextOf, putInto, openUp, Move}
@@ -79,7 +79,8 @@ module _ (c : State) (i : Sound c) (x : ℕ) (g : c .given x ≡ true) (t : Plai
       let p : parentIn (c .land) (treeOf c .home x) ≡ a .remembered = ap (parentIn (c .land)) home ∙ v .under .parent in
       let b = exits-fits (c .land) (kindOf a) (nameOf a) (a .home) (a .remembered) (targetOf a) k (fires-on (targetOf a) f refl) in
       subst (λ (d : ℕ). Move (treeOf c) x (putInto (treeOf c) x d)) (ap (parentIn (c .land)) p)
-      (case-move (by-exit (kind-is k) (λ z. linked-not-floor (i .places) (v .under .link) (sym home ∙ z)) (ap (nameIn (c .land)) p ∙ name-is (b .2))))
+      (case-move (by-exit (kind-is k) (λ z. linked-not-floor (i .places) (v .under .link) (sym home ∙ z))
+      (ap (λ q. keyOf exitKind (nameIn (c .land) q)) p ∙ name-is (b .2))))
 
   open-made : a .stage ≡ 3 → kindOf a ≡ openKind → fires (c .land) a ≡ true → Move (treeOf c) x (openUp (treeOf c) x (a .chosen))
   unfolding treeOf nameIn

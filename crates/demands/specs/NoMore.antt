@@ -14,8 +14,8 @@ use Rattle.meaning.specs.declared.Answer.{Answer}
 use Rattle.meaning.specs.declared.Answer.the-variants.{Did, Refused}
 use Rattle.meaning.specs.Step.{childOf}
 
--- from cell c to cell d nothing is changed that is not in use: such a place keeps its name, parent and way, its lock and touches, and stays unused;
--- an agent that is not given keeps every field, and the same agents are given
+-- from cell c to cell d nothing is changed that is not in use: such a place keeps its name, keys, parent and way, its lock and touches, and
+-- stays unused; an agent that is not given keeps every field, and the same agents are given
 pub record Untouched (c d : State) : Type 0 where
   pub place : (q : ℕ) → c .land .used q ≡ false → d .land .place q ≡ c .land .place q
   pub lock : (q : ℕ) → c .land .used q ≡ false → d .lock q ≡ c .lock q

@@ -9,7 +9,8 @@ use borrow.Author.Tests.{eq-eqb, ne-eqb}
 use Rattle.table.specs.Base.{iter}
 use Rattle.order.specs.RowLaws.{fits-later}
 use Rattle.table.specs.BaseLaws.{clash, eq?, upd-at, upd-other}
-use Rattle.table.specs.Cell.{Land, linked}
+use Rattle.table.specs.Cell.{Land, noName, linked}
+use Rattle.table.specs.declared.Name.{Name}
 use Rattle.meaning.specs.Step.{awaited, dissolveLand}
 use Rattle.calculus.specs.Up.{Up, acyclic, opened-up}
 use Rattle.demands.specs.Reading.{parentIn, nameIn}
@@ -50,7 +51,7 @@ module _ {l : Land} (i : Places l) {p t : ℕ} (u : Under l t p) where
   linked-before q e z = clash e (ap (λ (f : ℕ → Bool). f q) (linked-dissolved l p t) ∙ upd-at (linked l) t q false z)
 
   pub name-same : (q : ℕ) → q ≢ t → nameIn after q ≡ nameIn l q
-  name-same q n = ap (λ (f : ℕ → ℕ). f q) (name-dissolved l p t) ∙ upd-other (nameIn l) t q 0 n
+  name-same q n = ap (λ (f : ℕ → Name). f q) (name-dissolved l p t) ∙ upd-other (nameIn l) t q noName n
 
   parent-is : (q : ℕ) → parentIn after q ≡ cond (eqb q t) 0 (cond (eqb (parentIn l q) t) p (parentIn l q))
   parent-is q = ap (λ (f : ℕ → ℕ). f q) (parent-dissolved l p t placed)
@@ -90,7 +91,7 @@ module _ {l : Land} (i : Places l) {p t : ℕ} (u : Under l t p) where
     parent-used = λ q. parents-used q (eq? q t) (eq? (parentIn l q) t);
     small = λ q e. i .small q (sym (used-same q (used-before q e)) ∙ e);
     order = fits-later _ _ (i .order);
-    named = λ q e z. subst (λ (n : ℕ). 1 ≤ n) (sym (name-same q (used-before q e))) (i .named q (sym (used-same q (used-before q e)) ∙ e) z);
+    named = λ q e z. subst (λ (n : Name). 1 ≤ n .name) (sym (name-same q (used-before q e))) (i .named q (sym (used-same q (used-before q e)) ∙ e) z);
   }
 
   -- ---- what is on its way, where nothing is on its way to t

@@ -6,7 +6,7 @@ use mathlib.Core.Bool.{true, false}
 use Prim.Native.Nat.{ℕ, _≤_, _<_}
 use native.Mathlib.Omega.{arith}
 use Rattle.table.specs.BaseLaws.{Told, yea, nay, told, clash}
-use Rattle.table.specs.Cell.{Land, State, linked, kindOf, nameOf, openKind, lastKind, exitKind, looksHome}
+use Rattle.table.specs.Cell.{Land, State, linked, kindOf, nameOf, openKind, lastKind, exitKind, looksHome, keyOf}
 use Rattle.table.specs.Kinds.{home-kind, around-kind, kind-home, kind-around}
 use Rattle.table.specs.declared.Agent.{Agent}
 use Rattle.meaning.specs.Step.{awaited, qualifies, stays}
@@ -101,9 +101,10 @@ module _ (c : State) (i : Sound c) (a : ℕ) (g : c .given a ≡ true) where
     target (by-exit k h n) =
         let e = own-kind k in
         let p = parentIn (c .land) (own .home) in
-        let name : nameIn (c .land) p ≡ nameOf own = ap (λ (q : ℕ). nameIn (c .land) (parentIn (c .land) q)) (sym home) ∙ own-name n in
+        let name : keyOf exitKind (nameIn (c .land) p) ≡ nameOf own =
+        ap (λ (q : ℕ). keyOf exitKind (nameIn (c .land) (parentIn (c .land) q))) (sym home) ∙ own-name n in
         let some : 1 ≤ nameOf own = name-some own (fit-given c i a g) (omega arith) in
-        let z : p ≢ 0 = λ z. let no : nameOf own ≡ 0 = sym name ∙ ap (nameIn (c .land)) z ∙ i .places .floor-name in omega arith in
+        let z : p ≢ 0 = λ z. let no : nameOf own ≡ 0 = sym name ∙ ap (keyOf exitKind) (ap (nameIn (c .land)) z ∙ i .places .floor-name) in omega arith in
         found p p (omega arith) (rw (kind-around (kindOf own) (omega arith)))
         (exits-of (c .land) _ _ _ p p e refl (whole p (i .places .parent-used _) z) name) (sym (move-exit c a g (i .fit a) p e))
     target (by-open m k s n) =

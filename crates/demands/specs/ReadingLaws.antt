@@ -8,7 +8,8 @@ use lib.Dec.{eqb}
 use borrow.Author.Tests.{eqb-true, ne-eqb}
 use Rattle.table.specs.Base.{upd}
 use Rattle.table.specs.BaseLaws.{Told, yea, nay, told, and-right, upd-same, upd-other, upd-all}
-use Rattle.table.specs.Cell.{Land, State, noPlace, freshAgent, linked, travels, looking}
+use Rattle.table.specs.Cell.{Land, State, noName, noPlace, freshAgent, linked, travels, looking}
+use Rattle.table.specs.declared.Name.{Name}
 use Rattle.table.specs.declared.Place.{Place}
 use Rattle.table.specs.declared.Agent.{Agent}
 use Rattle.meaning.specs.Update.{withParent, atStage, withAgent}
@@ -24,8 +25,8 @@ readUsed q u x = u
 abbrev pub readParent : ℕ → Bool → Place → ℕ
 readParent q u x = cond u (x .parent) 0
 
-abbrev pub readName : ℕ → Bool → Place → ℕ
-readName q u x = cond u (x .name) 0
+abbrev pub readName : ℕ → Bool → Place → Name
+readName q u x = cond u (x .name) noName
 
 abbrev pub readLinked : ℕ → Bool → Place → Bool
 readLinked q u x = u && eqb (x .way) 0
@@ -109,7 +110,7 @@ module _ (l : Land) (p t : ℕ) where
   unfolding linked
   linked-dissolved = gone readLinked (λ q u x. refl) (λ q x y. refl)
 
-  pub name-dissolved : nameIn (dissolveLand l p t) ≡ upd (nameIn l) t 0
+  pub name-dissolved : nameIn (dissolveLand l p t) ≡ upd (nameIn l) t noName
   unfolding nameIn
   name-dissolved = gone readName (λ q u x. refl) (λ q x y. refl)
 

@@ -1,5 +1,5 @@
 -- Two lands that agree on what is in use pass the same tests, so stage 2 chooses the same place in both.
--- Idea: every test asks first whether a place is in use, and reads of it a name, a parent and whether it is linked.
+-- Idea: every test asks first whether a place is in use, and reads of it a name with its keys, a parent and whether it is linked.
 use mathlib.Core.Path.{_≡_, refl, ap, ap₂, _∙_, fun-ext}
 use Prim.Native.Nat.{ℕ}
 use mathlib.Core.List.{List}
@@ -7,10 +7,11 @@ use mathlib.Core.Bool.{Bool, true, not, _&&_, cond}
 use lib.Dec.{eqb}
 use Rattle.sets.specs.Word.{upto}
 use Rattle.table.specs.BaseLaws.{and-left, and-cong, any-ext}
-use Rattle.table.specs.Cell.{Land, linked, linkedTo, travels, enterKind, exitKind, openKind, answersTo}
+use Rattle.table.specs.Cell.{Land, linked, linkedTo, travels, enterKind, exitKind, openKind, keyOf}
+use Rattle.table.specs.declared.Name.{Name}
 use Rattle.meaning.specs.Step.{onWayTo, awaited, named, entersAt, exitsFrom, opensAt, qualifies, chosenOf, choose}
 
--- l and m have the same places in use, each with the same name and parent, and linked in both or in neither, in the same order
+-- l and m have the same places in use, each with the same name, keys and parent, and linked in both or in neither, in the same order
 pub record Alike (l m : Land) : Type 0 where
   pub used : (q : ℕ) → l .used q ≡ m .used q
   pub name : (q : ℕ) → m .used q ≡ true → l .place q .name ≡ m .place q .name
@@ -43,10 +44,10 @@ module _ (l m : Land) (s : Alike l m) where
       there : (r : ℕ) → travels m r ≡ true → m .used r ≡ true
       there r t = and-left (m .used r) (not (eqb r 0) && not (eqb (m .place r .way) 0)) (unfold travels in t)
 
-  -- a place linked to p, with its name and one test more
+  -- a place linked to p, with its key and one test more
   child-alike : (kind n p q : ℕ) (a b : Bool) → a ≡ b → (linkedTo l q p && (named kind l q n && a)) ≡ (linkedTo m q p && (named kind m q n && b))
   child-alike kind n p q a b e = ap (λ (u : Bool). u && (named kind l q n && a)) (linkedTo-alike q p)
-      ∙ and-cong (linkedTo m q p) _ _ (λ k. ap₂ (λ (z : ℕ) (c : Bool). eqb (answersTo kind z) n && c) (s .name q (there k)) e)
+      ∙ and-cong (linkedTo m q p) _ _ (λ k. ap₂ (λ (z : Name) (c : Bool). eqb (keyOf kind z) n && c) (s .name q (there k)) e)
     where
       there : linkedTo m q p ≡ true → m .used q ≡ true
       there k = and-left (m .used q) (eqb (m .place q .way) 0 && eqb (m .place q .parent) p) (unfold linkedTo in k)
@@ -54,7 +55,7 @@ module _ (l m : Land) (s : Alike l m) where
   exits-alike : (n p : ℕ) → exitsFrom l n p ≡ exitsFrom m n p
   unfolding exitsFrom
   exits-alike n p = ap (λ (u : Bool). u && named exitKind l p n) (linked-alike p)
-      ∙ and-cong (linked m p) _ _ (λ k. ap (λ (z : ℕ). eqb (answersTo exitKind z) n) (s .name p (there k)))
+      ∙ and-cong (linked m p) _ _ (λ k. ap (λ (z : Name). eqb (keyOf exitKind z) n) (s .name p (there k)))
     where
       there : linked m p ≡ true → m .used p ≡ true
       there k = and-left (m .used p) (eqb (m .place p .way) 0) (unfold linked in k)

@@ -10,12 +10,25 @@ use borrow.Author.Tests.{eqb-true, eq-eqb, ne-eqb, le-leb, leb-true, not-true}
 use Rattle.order.specs.Row.{rowFits}
 use Rattle.table.specs.Base.{iter}
 use Rattle.table.specs.BaseLaws.{Told, yea, nay, told, eq?, and-left, and-right}
-use Rattle.table.specs.Cell.{Land, linked}
-use Rattle.table.specs.Sound.{stands}
+use Rattle.table.specs.Cell.{Land, noName, linked}
+use Rattle.table.specs.Sound.{nameless, stands}
+use Rattle.table.specs.declared.Name.{Name}
 use Rattle.calculus.specs.Up.{Up, base, up, iter-out, sixty-three, up-of}
 use Rattle.demands.specs.Reading.{parentIn}
 use Rattle.demands.specs.Invariant.{Places}
 use Rattle.demands.specs.Facts.{parent-read, name-read}
+
+-- a name that passes the floor's test is none
+nameless-is : (x : Name) → nameless x ≡ true → x ≡ noName
+nameless-is x e =
+    let r = and-right (eqb (x .name) 0) _ e in
+    let s = and-right (eqb (x .entering) 0) _ r in
+    λ i. record {
+      name = eqb-true (x .name) 0 (and-left (eqb (x .name) 0) _ e) i;
+      entering = eqb-true (x .entering) 0 (and-left (eqb (x .entering) 0) _ r) i;
+      exiting = eqb-true (x .exiting) 0 (and-left (eqb (x .exiting) 0) _ s) i;
+      opening = eqb-true (x .opening) 0 (and-right (eqb (x .exiting) 0) _ s) i;
+    }
 
 module _ (l : Land) where
   abbrev parent : ℕ → ℕ
@@ -52,31 +65,35 @@ module _ (l : Land) where
       where
         floor : stands 0 (l .place 0) (l .used (parent 0)) ≡ true
         floor = rw (
-          eq-eqb (l .place 0 .name) 0 (sym (name-read l 0 (p .floor-used)) ∙ p .floor-name),
+          ap nameless (sym (name-read l 0 (p .floor-used)) ∙ p .floor-name),
           eq-eqb (parent 0) 0 (sym (parent-read l 0 (p .floor-used)) ∙ p .floor-parent),
           way-read (p .floor-used) (p .floor-link),
         )
 
         go : (q ≡ 0) ⊎ (q ≢ 0) → stands q (l .place q) (l .used (parent q)) ≡ true
         go (inl e) = ap (λ (r : ℕ). stands r (l .place r) (l .used (parent r))) e ∙ floor
-        go (inr n) = rw (ne-eqb q 0 n, le-leb 1 (l .place q .name) (subst (λ (k : ℕ). 1 ≤ k) (name-read l q u) (p .named q u n)), closed-true q u)
+        go (inr n) = rw (
+          ne-eqb q 0 n,
+          le-leb 1 (l .place q .name .name) (subst (λ (k : Name). 1 ≤ k .name) (name-read l q u) (p .named q u n)),
+          closed-true q u,
+        )
 
   -- ---- and back
 
   module _ (floor : l .used 0 ≡ true) (small : (q : ℕ) → l .used q ≡ true → q < 64)
       (s : (q : ℕ) → l .used q ≡ true → stands q (l .place q) (l .used (parent q)) ≡ true)
       (leads : (q : ℕ) → l .used q ≡ true → iter parent 64 q ≡ 0) (row : rowFits (l .order) ≡ true) where
-    floor-is : (eqb (l .place 0 .name) 0 && (eqb (parent 0) 0 && not (eqb (l .place 0 .way) 0))) ≡ true
+    floor-is : (nameless (l .place 0 .name) && (eqb (parent 0) 0 && not (eqb (l .place 0 .way) 0))) ≡ true
     floor-is = s 0 floor
 
     floor-rest : (eqb (parent 0) 0 && not (eqb (l .place 0 .way) 0)) ≡ true
-    floor-rest = and-right (eqb (l .place 0 .name) 0) _ floor-is
+    floor-rest = and-right (nameless (l .place 0 .name)) _ floor-is
 
     floor-parent : parent 0 ≡ 0
     floor-parent = eqb-true _ _ (and-left (eqb (parent 0) 0) _ floor-rest)
 
     -- a place other than the floor
-    placed : (q : ℕ) → l .used q ≡ true → q ≢ 0 → (leb 1 (l .place q .name) && l .used (parent q)) ≡ true
+    placed : (q : ℕ) → l .used q ≡ true → q ≢ 0 → (leb 1 (l .place q .name .name) && l .used (parent q)) ≡ true
     placed q u n = rw (ne-eqb q 0 n) at (s q u)
 
     closed : Closed
@@ -84,7 +101,7 @@ module _ (l : Land) where
       where
         go : (q ≡ 0) ⊎ (q ≢ 0) → l .used (parent q) ≡ true
         go (inl e) = ap (λ (r : ℕ). l .used (parent r)) e ∙ ap (l .used) floor-parent ∙ floor
-        go (inr n) = and-right (leb 1 (l .place q .name)) _ (placed q u n)
+        go (inr n) = and-right (leb 1 (l .place q .name .name)) _ (placed q u n)
 
     parent-zero : parentIn l 0 ≡ 0
     parent-zero = parent-read l 0 floor ∙ floor-parent
@@ -99,12 +116,13 @@ module _ (l : Land) where
       floor-used = floor;
       floor-parent = parent-zero;
       floor-link = unfold linked in rw (floor, not-true (eqb (l .place 0 .way) 0) (and-right (eqb (parent 0) 0) _ floor-rest));
-      floor-name = name-read l 0 floor ∙ eqb-true _ _ (and-left (eqb (l .place 0 .name) 0) _ floor-is);
+      floor-name = name-read l 0 floor ∙ nameless-is (l .place 0 .name) (and-left (nameless (l .place 0 .name)) _ floor-is);
       tree = λ q. tree q (told (l .used q));
       parent-used = λ q. above q (told (l .used q));
       small = small;
       order = row;
-      named = λ q u n. subst (λ (k : ℕ). 1 ≤ k) (sym (name-read l q u)) (leb-true _ _ (and-left (leb 1 (l .place q .name)) _ (placed q u n)));
+      named = λ q u n. subst (λ (k : Name). 1 ≤ k .name) (sym (name-read l q u))
+          (leb-true _ _ (and-left (leb 1 (l .place q .name .name)) _ (placed q u n)));
     }
       where
         tree : (q : ℕ) → Told (l .used q) → Up (parentIn l) q

@@ -16,14 +16,15 @@ use Rattle.demands.specs.AfterCalls.{reached, answered}
 -- ---- "touches loaded"
 
 -- the four-byte numbers of all touch records from an offset on, by the lengths of the kinds alone: six bytes for touches (5), three for an
--- agent (2), five for a place (1) or an action (3), and the end (4)
+-- agent (2), eleven for a place with keys (6), five for a place (1) or an action (3), and the end (4)
 unfoldable pub touchesFrom : ℕ → List ℕ → ℕ → ℕ
 touchesFrom zero s at = 0
 touchesFrom (suc turns) s at =
     cond (eqb (byteAt s at) 5) (countAt s at + touchesFrom turns s (at + 6))
     (cond (eqb (byteAt s at) 4) 0
     (cond (eqb (byteAt s at) 2) (touchesFrom turns s (at + 3))
-    (touchesFrom turns s (at + 5))))
+    (cond (eqb (byteAt s at) 6) (touchesFrom turns s (at + 11))
+    (touchesFrom turns s (at + 5)))))
 
 -- those of a whole file
 unfoldable pub touchesIn : List ℕ → ℕ

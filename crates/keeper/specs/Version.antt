@@ -7,15 +7,19 @@ use Prim.Native.Nat.{ℕ, _+_, _*_}
 abbrev pub versionNumber : ℕ → ℕ → ℕ → ℕ
 versionNumber major minor patch = major * 65536 + minor * 256 + patch
 
--- version 3.0.0
+-- version 4.0.0
 abbrev pub keeperVersion : ℕ
-keeperVersion = versionNumber 3 0 0
+keeperVersion = versionNumber 4 0 0
 
 -- ---- how many bytes a cell has, field by field, as C lays it out
 
--- name, parent, way
+-- the name itself and the keys for entering, exiting and opening
+abbrev pub nameBytes : ℕ
+nameBytes = 2 + 3 * 2
+
+-- name with its keys, parent, way
 abbrev pub placeBytes : ℕ
-placeBytes = 2 + 1 + 1
+placeBytes = nameBytes + 1 + 1
 
 -- kind, a byte that means nothing, name
 abbrev pub actionBytes : ℕ

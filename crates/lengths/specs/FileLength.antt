@@ -1,11 +1,12 @@
--- A load is decided by the first 6,017 bytes of the file, and an accepted file has 6,012 bytes at most.
+-- A load is decided by the first 6,400 bytes of the file, and an accepted file has 6,390 bytes at most (`Longest`).
 -- Idea: each record that is not refused gives a new place, a new agent, a new action or a place's touches, and there is room for 63, 64, 1,024
--- and 64 of these: 5 * 63 + 3 * 64 + 5 * 1024 + 6 * 64 = 6,011 bytes. What comes next is the end or a refusal, and looks at six bytes at most.
+-- and 64 of these: 11 * 63 + 3 * 64 + 5 * 1024 + 6 * 64 = 6,389 bytes. What comes next is the end or a refusal, and looks at 11 bytes at most.
 use mathlib.Core.Path.{_≡_, refl, sym, ap, _∙_, subst}
 use mathlib.Core.Bool.{Bool, true, false, _||_, cond}
 use mathlib.Core.List.{List}
 use mathlib.Core.Logic.{_≢_, _⊎_, inl, inr}
 use Prim.Native.Nat.{ℕ, zero, suc, _+_, _*_, _-_, _<_, _≤_}
+use native.Mathlib.Nat.{le-refl}
 use native.Mathlib.Omega.{arith}
 use lib.Dec.{ltb, leb, eqb}
 use lib.ListN.{length, take}
@@ -17,14 +18,16 @@ use Rattle.table.specs.Base.{sumBelow}
 use Rattle.table.specs.SumLaws.{sum-ext, sum-most, sum-more}
 use Rattle.table.specs.BaseLaws.{Told, yea, nay, told, eq?, upd-at, upd-other, upd-all}
 use Rattle.table.specs.Cell.{State, cellOf, bareTable}
+use Rattle.table.specs.declared.Name.{Name}
 use Rattle.table.specs.declared.Agent.{Agent}
 use Rattle.meaning.specs.Refusals.{cutShort, afterEnd}
 use Rattle.meaning.specs.declared.Record.{Record}
 use Rattle.meaning.specs.declared.Record.the-variants.{PlaceRecord, AgentRecord, ActionRecord, EndRecord, TouchRecord, Faulty}
 use Rattle.meaning.specs.Update.{withHome}
-use Rattle.meaning.specs.File.{byteAt, Known, recordAt, addPlace, addAgent, withAction, addAction, giveTouches, isFull, Progress, withCell, withCounted}
+use Rattle.meaning.specs.File.{byteAt, placeLength, Known, recordAt, addPlace, addAgent, withAction, addAction, giveTouches, isFull, Progress, withCell, withCounted}
 use Rattle.meaning.specs.File.{knownIn, bareProgress, Load, accepted, refused, loadRecord, loadFrom, load}
 use Rattle.meaning.specs.FileLaws.{Fits, place, agent, action, end, touch, faulty, record-fits, bare-agent, load-either, load-begun}
+use Rattle.lengths.specs.Longest.{lastRecord, longestFile, decidingBytes}
 
 -- ---- sets counted
 
@@ -51,20 +54,32 @@ counts c x = c .agent x .count
 abbrev gave : Progress → ℕ
 gave p = sumBelow (one (p .counted)) 64
 
--- what was made so far took the bytes before the offset, the floor none, and no row is longer than sixteen
+-- the longest record has eleven bytes
+abbrev longestRecord : ℕ
+longestRecord = 11
+
+-- a place's record has so many at most, and one at least
+place-long : (kind : ℕ) → (1 ≤ placeLength kind) × (placeLength kind ≤ longestRecord)
+place-long kind = go (eqb kind 6)
+  where
+    go : (b : Bool) → (1 ≤ cond b 11 5) × (cond b 11 5 ≤ longestRecord)
+    go true = (omega arith, le-refl 11)
+    go false = (omega arith, omega arith)
+
+-- what was made so far took the bytes before the offset at least, the floor none, and no row is longer than sixteen
 record Took (p : Progress) (at : ℕ) : Type 0 where
-  size : at + 5 ≡ 5 * places (p .cell) + 3 * agents (p .cell) + 5 * sumBelow (counts (p .cell)) 64 + 6 * gave p
+  size : at + longestRecord ≤ longestRecord * places (p .cell) + 3 * agents (p .cell) + 5 * sumBelow (counts (p .cell)) 64 + 6 * gave p
   most : (j : ℕ) → j < 64 → counts (p .cell) j ≤ 16
 
 -- the bare floor took none
 took-bare : Took bareProgress 0
 took-bare = record {
-  size = unfold cellOf in unfold bareTable in unfold has in unfold sumBelow in refl;
+  size = unfold cellOf in unfold bareTable in unfold has in unfold sumBelow in le-refl longestRecord;
   most = λ j l. subst (λ (a : Agent). a .count ≤ 16) (sym (bare-agent j l)) (omega arith);
 }
 
 -- so the offset is small
-at-most : (p : Progress) (at : ℕ) → Took p at → at ≤ 6011
+at-most : (p : Progress) (at : ℕ) → Took p at → at ≤ lastRecord
 at-most p at t =
     let q : places (p .cell) ≤ 64 = sum-most (one (p .cell .land .used)) 64 1 (λ j l. omega (arith, bit-lt (p .cell .land .used j))) in
     let a : agents (p .cell) ≤ 64 = sum-most (one (p .cell .given)) 64 1 (λ j l. omega (arith, bit-lt (p .cell .given j))) in
@@ -74,10 +89,13 @@ at-most p at t =
 
 -- ---- each record takes its bytes
 
-took-place : (p : Progress) (at n parent m : ℕ) → Took p at → n < 64 → p .cell .land .used n ≡ false
-    → Took (withCell p (addPlace (p .cell) n parent m)) (at + 5)
+took-place : (p : Progress) (at kind n parent : ℕ) (m : Name) → Took p at → n < 64 → p .cell .land .used n ≡ false
+    → Took (withCell p (addPlace (p .cell) n parent m)) (at + placeLength kind)
 unfolding addPlace
-took-place p at n parent m t l e = record { size = omega (arith, t .size, one-more (p .cell .land .used) n l e); most = t .most }
+took-place p at kind n parent m t l e = record {
+  size = omega (arith, t .size, place-long kind .1, one-more (p .cell .land .used) n l e);
+  most = t .most;
+}
 
 took-touches : (p : Progress) (at q n : ℕ) → Took p at → q < 64 → p .counted q ≡ false → Took (withCounted p q n) (at + 6)
 unfolding giveTouches
@@ -135,7 +153,7 @@ took-action p n k m at t l e = record { size = omega (arith, t .size, more, land
 
 -- ---- the file and its first b bytes
 
-module _ (s : List ℕ) (b : ℕ) (wide : 6017 ≤ b) (long : b ≤ length s) where
+module _ (s : List ℕ) (b : ℕ) (wide : decidingBytes ≤ b) (long : b ≤ length s) where
   -- these bytes
   start : List ℕ
   start = take b s
@@ -149,7 +167,7 @@ module _ (s : List ℕ) (b : ℕ) (wide : 6017 ≤ b) (long : b ≤ length s) wh
   same-byte i l = getD-take b s i 0 l
 
   -- a record that begins early enough is the same
-  same-record : (k : Known) (at : ℕ) → at ≤ 6011 → recordAt k start at ≡ recordAt k s at
+  same-record : (k : Known) (at : ℕ) → at ≤ lastRecord → recordAt k start at ≡ recordAt k s at
   unfolding recordAt
   same-record k at l = rw (
     same-byte at (omega arith),
@@ -158,9 +176,16 @@ module _ (s : List ℕ) (b : ℕ) (wide : 6017 ≤ b) (long : b ≤ length s) wh
     same-byte (at + 3) (omega arith),
     same-byte (at + 4) (omega arith),
     same-byte (at + 5) (omega arith),
+    same-byte (at + 6) (omega arith),
+    same-byte (at + 7) (omega arith),
+    same-byte (at + 8) (omega arith),
+    same-byte (at + 9) (omega arith),
+    same-byte (at + 10) (omega arith),
+    le-ltb (length start - at) (placeLength (byteAt s at)) (omega (arith, start-long, place-long (byteAt s at) .1)),
     le-ltb (length start - at) 5 (omega (arith, start-long)),
     le-ltb (length start - at) 3 (omega (arith, start-long)),
     le-ltb (length start - at) 6 (omega (arith, start-long)),
+    le-ltb (length s - at) (placeLength (byteAt s at)) (omega (arith, place-long (byteAt s at) .1)),
     le-ltb (length s - at) 5 (omega arith),
     le-ltb (length s - at) 3 (omega arith),
     le-ltb (length s - at) 6 (omega arith),
@@ -180,14 +205,17 @@ module _ (s : List ℕ) (b : ℕ) (wide : 6017 ≤ b) (long : b ≤ length s) wh
       (go (recordAt (knownIn c) s at) (record-fits (knownIn c) s at)
       (λ d i g x y. same-load k m d i g x y))
     where
-      l : at ≤ 6011
+      l : at ≤ lastRecord
       l = at-most c at h
 
       go : (r : Record) → Fits (knownIn c) r
           → ((d : Progress) (i : ℕ) → Took d i → b < k + i → length s < m + i → loadFrom k d start i ≡ loadFrom m d s i)
           → loadRecord (λ d i. loadFrom k d start i) c start at r ≡ loadRecord (λ d i. loadFrom m d s i) c s at r
       go (PlaceRecord n x y) (place one low under new known named) r =
-          unfold loadRecord in r (withCell c (addPlace (c .cell) n x y)) (at + 5) (took-place c at n x y h low new) (omega arith) (omega arith)
+          let e = same-byte at (omega (arith, l)) in
+          let g = place-long (byteAt s at) .0 in
+          unfold loadRecord in rw e (r (withCell c (addPlace (c .cell) n x y)) (at + placeLength (byteAt s at)) (took-place c at (byteAt s at) n x y h low new)
+          (omega (arith, p, g)) (omega (arith, q, g)))
       go (AgentRecord n x) (agent low under new known) r =
           unfold loadRecord in r (withCell c (addAgent (c .cell) n x)) (at + 3) (took-agent c at n x h low new) (omega arith) (omega arith)
       go (ActionRecord n x y) (action low known room one three named) r =
@@ -198,8 +226,8 @@ module _ (s : List ℕ) (b : ℕ) (wide : 6017 ≤ b) (long : b ≤ length s) wh
           rw (lt-ltb (at + 1) (length start) (omega (arith, start-long, l)), lt-ltb (at + 1) (length s) (omega (arith, l)))
       go (Faulty n) faulty r = unfold loadRecord in refl
 
--- whatever follows the first 6,017 bytes, the answer is theirs: the same cell, or the same refusal at the same offset
-pub prefix : (s : List ℕ) (b : ℕ) → 6017 ≤ b → load (take b s) ≡ load s
+-- whatever follows the first 6,400 bytes, the answer is theirs: the same cell, or the same refusal at the same offset
+pub prefix : (s : List ℕ) (b : ℕ) → decidingBytes ≤ b → load (take b s) ≡ load s
 prefix s b wide = go (told (leb (length s) b))
   where
     go : Told (leb (length s) b) → load (take b s) ≡ load s
@@ -214,7 +242,7 @@ prefix s b wide = go (told (leb (length s) b))
 
 -- a file that is accepted is short
 abbrev ShortIf : List ℕ → Load → Type 0
-ShortIf s (accepted c) = length s ≤ 6012
+ShortIf s (accepted c) = length s ≤ longestFile
 ShortIf s (refused number offset) = Unit {0}
 
 short-from : (s : List ℕ) (turns : ℕ) (c : Progress) (at : ℕ) → Took c at → ShortIf s (loadFrom turns c s at)
@@ -230,7 +258,7 @@ short-from s (suc turns) c at h =
 
     go : (r : Record) → Fits (knownIn c) r → ((d : Progress) (i : ℕ) → Took d i → ShortIf s (loadFrom turns d s i))
         → ShortIf s (loadRecord (λ d i. loadFrom turns d s i) c s at r)
-    go (PlaceRecord n x y) (place one low under new known named) r = unfold loadRecord in r (withCell c (addPlace (c .cell) n x y)) (at + 5) (took-place c at n x y h low new)
+    go (PlaceRecord n x y) (place one low under new known named) r = unfold loadRecord in r (withCell c (addPlace (c .cell) n x y)) (at + placeLength (byteAt s at)) (took-place c at (byteAt s at) n x y h low new)
     go (AgentRecord n x) (agent low under new known) r = unfold loadRecord in r (withCell c (addAgent (c .cell) n x)) (at + 3) (took-agent c at n x h low new)
     go (ActionRecord n x y) (action low known room one three named) r = unfold loadRecord in r (withCell c (addAction (c .cell) n x y)) (at + 5) (took-action c n x y at h low room)
     go (TouchRecord n x) (touch low new known few) r = unfold loadRecord in r (withCounted c n x) (at + 6) (took-touches c at n x h low new)
@@ -241,6 +269,6 @@ short-from s (suc turns) c at h =
         last (nay e) = rw e (omega (arith, ltb-false (at + 1) (length s) e, at-most c at h))
     go (Faulty n) faulty r = unfold loadRecord in tt
 
--- the longest file that is accepted has 6,012 bytes
-pub accepted-longest : (s : List ℕ) (c : State) → load s ≡ accepted c → length s ≤ 6012
+-- the longest file that is accepted has 6,390 bytes
+pub accepted-longest : (s : List ℕ) (c : State) → load s ≡ accepted c → length s ≤ longestFile
 accepted-longest s c e = subst (ShortIf s) e (load-either s (ShortIf s) (λ z. omega arith) (short-from s (suc (length s)) bareProgress 0 took-bare))

@@ -1,3 +1,4 @@
+pub mod Longest
 pub mod Sums
 pub mod FileLength
 pub mod Parts

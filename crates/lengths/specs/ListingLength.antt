@@ -1,4 +1,4 @@
--- How long a listing can be: 13,043 bytes at most for every table, since names have 16 bits. Assumes nothing.
+-- How long a listing can be: 14,177 bytes at most for every table, since names and keys have 16 bits. Assumes nothing.
 use mathlib.Core.Path.{_≡_}
 use mathlib.Core.Bool.{Bool, true, false, cond}
 use mathlib.Core.List.{List, [], _++_}
@@ -13,19 +13,28 @@ use Rattle.table.specs.Cell.{State, noAction, cellOf}
 use Rattle.table.specs.BaseLaws.{Told, yea, nay, told}
 use Rattle.table.specs.SumLaws.{sum-most}
 use Rattle.table.specs.Sound.{sound}
-use Rattle.table.specs.Bounds.{Names16}
+use Rattle.table.specs.Bounds.{Name16, Names16}
+use Rattle.table.specs.declared.Name.{Name}
 use Rattle.table.specs.declared.Cell.{Cell}
 use Rattle.meaning.specs.Refusals.{unsoundTable}
 use Rattle.meaning.specs.Text.{ascii, decimal}
-use Rattle.meaning.specs.Listing.{kindText, actionText, isUnused, actionTurn, agentText, listsIn, agentTurn, agentsText, standsUnder, bracketed, placeTurn, contentsText, listing, listAnswer}
+use Rattle.meaning.specs.Listing.{kindText, actionText, isUnused, actionTurn, agentText, listsIn, agentTurn, agentsText, standsUnder, isPlain, slashed, nameText, bracketed, placeTurn, contentsText, listing, listAnswer}
 use Rattle.meaning.specs.declared.Listed.the-variants.{Length, Unlisted}
+use Rattle.lengths.specs.Longest.{longestListing, longestAny}
 use Rattle.lengths.specs.Sums.{pick, pick-le}
 use Rattle.lengths.specs.Parts.{digits-short, digits-most, room, room-none, length-room, room-length, room-turn, room-fold}
 use Rattle.lengths.specs.Levels.{heap, heap-floor}
 
--- every name of a cell is written with at most w digits
+-- a name and its keys are written with at most w digits each
+pub record Short (w : ℕ) (x : Name) : Type 0 where
+  pub name : length (decimal (x .name)) ≤ w
+  pub entering : length (decimal (x .entering)) ≤ w
+  pub exiting : length (decimal (x .exiting)) ≤ w
+  pub opening : length (decimal (x .opening)) ≤ w
+
+-- every name, key and number of an action in a cell is written with at most w digits
 pub record Named (w : ℕ) (c : State) : Type 0 where
-  pub place : (q : ℕ) → length (decimal (c .land .place q .name)) ≤ w
+  pub place : (q : ℕ) → Short w (c .land .place q .name)
   pub action : (x j : ℕ) → length (decimal (getD (c .agent x .actions) j noAction .name)) ≤ w
 
 kind-length : (k : ℕ) → length (kindText k) ≤ 6
@@ -36,6 +45,46 @@ kind-length k = go (eqb k 1) (eqb k 2)
     go true b = le-refl 6
     go false true = omega arith
     go false false = omega arith
+
+-- what an agent of sixteen actions takes at most with the bar before it
+abbrev agentRoom : ℕ → ℕ
+agentRoom w = 114 + 16 * w
+
+-- and what a place with keys and without contents takes
+abbrev placeRoom : ℕ → ℕ
+placeRoom w = 8 + 4 * w
+
+-- 64 such agents and 63 such places, and no bar before the first
+abbrev wholeRoom : ℕ → ℕ
+wholeRoom w = 7797 + 1276 * w
+
+slashed-length : (key : ℕ) → length (slashed key) ≡ 1 + length (decimal key)
+unfolding slashed tab
+slashed-length key = length-append (ascii "/") (decimal key)
+
+-- the keys, where they are written, take a slash and w digits each
+name-length : (w : ℕ) (x : Name) → Short w x → length (nameText x) ≤ 3 + 4 * w
+unfolding nameText
+name-length w x n = omega (
+  arith,
+  n .name,
+  keys (isPlain x),
+  length-append (decimal (x .name)) (cond (isPlain x) [] (slashed (x .entering) ++ (slashed (x .exiting) ++ slashed (x .opening)))),
+)
+  where
+    keys : (b : Bool) → length (cond b [] (slashed (x .entering) ++ (slashed (x .exiting) ++ slashed (x .opening)))) ≤ 3 + 3 * w
+    keys true = omega arith
+    keys false = omega (
+      arith,
+      n .entering,
+      n .exiting,
+      n .opening,
+      slashed-length (x .entering),
+      slashed-length (x .exiting),
+      slashed-length (x .opening),
+      length-append (slashed (x .entering)) (slashed (x .exiting) ++ slashed (x .opening)),
+      length-append (slashed (x .exiting)) (slashed (x .opening)),
+    )
 
 module _ (w : ℕ) (c : State) (n : Named w c) where
   action-length : (x j : ℕ) → length (actionText (getD (c .agent x .actions) j noAction)) ≤ 6 + w
@@ -57,67 +106,79 @@ module _ (w : ℕ) (c : State) (n : Named w c) where
         )) 16 [],
   ))
 
-  agents-room : (p : ℕ) → room (ascii " | ") (agentsText c p) ≤ sumBelow (λ x. pick (listsIn (c .given x) (c .agent x) p) (114 + 16 * w)) 64
+  agents-room : (p : ℕ) → room (ascii " | ") (agentsText c p) ≤ sumBelow (λ x. pick (listsIn (c .given x) (c .agent x) p) (agentRoom w)) 64
   unfolding agentsText tab
   agents-room p = omega (
     arith,
     room-none (ascii " | "),
-    room-fold (ascii " | ") (agentTurn c p) (λ x. pick (listsIn (c .given x) (c .agent x) p) (114 + 16 * w))
-        (λ x s. room-turn (ascii " | ") (listsIn (c .given x) (c .agent x) p) s (agentText (c .agent x)) (114 + 16 * w) (omega (arith, agent-length x))) 64 [],
+    room-fold (ascii " | ") (agentTurn c p) (λ x. pick (listsIn (c .given x) (c .agent x) p) (agentRoom w))
+        (λ x s. room-turn (ascii " | ") (listsIn (c .given x) (c .agent x) p) s (agentText (c .agent x)) (agentRoom w) (omega (arith, agent-length x))) 64 [],
   )
 
-  place-length : (q : ℕ) (s : List ℕ) → length (bracketed (c .land .place q .name) s) ≤ 2 + w + length s
+  place-length : (q : ℕ) (s : List ℕ) → length (bracketed (c .land .place q .name) s) ≤ 5 + 4 * w + length s
   unfolding bracketed tab
   place-length q s = omega (
     arith,
-    n .place q,
-    length-append (decimal (c .land .place q .name)) (ascii "["),
-    length-append (decimal (c .land .place q .name) ++ ascii "[") s,
-    length-append ((decimal (c .land .place q .name) ++ ascii "[") ++ s) (ascii "]"),
+    name-length w (c .land .place q .name) (n .place q),
+    length-append (nameText (c .land .place q .name)) (ascii "["),
+    length-append (nameText (c .land .place q .name) ++ ascii "[") s,
+    length-append ((nameText (c .land .place q .name) ++ ascii "[") ++ s) (ascii "]"),
   )
 
-  contents-room : (depth p : ℕ) → room (ascii " | ") (contentsText depth c p) ≤ heap c (114 + 16 * w) (5 + w) depth p
+  contents-room : (depth p : ℕ) → room (ascii " | ") (contentsText depth c p) ≤ heap c (agentRoom w) (placeRoom w) depth p
   unfolding contentsText heap tab
   contents-room zero p = omega (arith, room-none (ascii " | "))
   contents-room (suc depth) p = omega (
     arith,
     agents-room p,
     room-fold (ascii " | ") (placeTurn (c .land) p (contentsText depth c))
-        (λ q. pick (standsUnder (c .land .used q) q (c .land .place q .parent) p) (5 + w + heap c (114 + 16 * w) (5 + w) depth q))
+        (λ q. pick (standsUnder (c .land .used q) q (c .land .place q .parent) p) (placeRoom w + heap c (agentRoom w) (placeRoom w) depth q))
         (λ q s. room-turn (ascii " | ") (standsUnder (c .land .used q) q (c .land .place q .parent) p) s (bracketed (c .land .place q .name) (contentsText depth c q)) _
         (omega (arith, place-length q (contentsText depth c q), length-room (ascii " | ") (contentsText depth c q), contents-room depth q)))
         64 (agentsText c p),
   )
 
-  -- 64 agents of sixteen actions and 63 places, with bars between them
-  pub listing-length : length (listing c) ≤ 7608 + 1087 * w
+  -- no cell has more agents and places than these
+  pub listing-length : length (listing c) ≤ wholeRoom w
   unfolding listing tab
   listing-length = go (told (eqb (length (contentsText 65 c 0)) 0))
     where
-      go : Told (eqb (length (contentsText 65 c 0)) 0) → length (listing c) ≤ 7608 + 1087 * w
+      go : Told (eqb (length (contentsText 65 c 0)) 0) → length (listing c) ≤ wholeRoom w
       go (yea e) = rw e (omega arith)
-      go (nay e) = rw e (room-length (ascii " | ") (contentsText 65 c 0) (7608 + 1087 * w)
-          (omega (arith, contents-room 65 0, heap-floor c (114 + 16 * w) (5 + w) 65)))
+      go (nay e) = rw e (room-length (ascii " | ") (contentsText 65 c 0) (wholeRoom w)
+          (omega (arith, contents-room 65 0, heap-floor c (agentRoom w) (placeRoom w) 65)))
 
 -- ---- every cell, and every table
 
 -- a number of 64 bits has at most 20 digits, and no more are written
-pub listing-any : (c : State) → length (listing c) ≤ 29348
-listing-any c = listing-length 20 c (record { place = λ q. digits-most 20 _; action = λ x j. digits-most 20 _ })
+pub listing-any : (c : State) → length (listing c) ≤ longestAny
+listing-any c = listing-length 20 c (record {
+  place = λ q. record { name = digits-most 20 _; entering = digits-most 20 _; exiting = digits-most 20 _; opening = digits-most 20 _ };
+  action = λ x j. digits-most 20 _;
+})
 
--- the longest listing of a table has 13,043 bytes
-pub listing-longest : (t : Cell) → Names16 t → length (listing (cellOf t)) ≤ 13043
+-- a number of 16 bits has at most five
+short : {x : Name} → Name16 x → Short 5 x
+short n = record {
+  name = digits-short 20 4 _ (omega (arith, n .name));
+  entering = digits-short 20 4 _ (omega (arith, n .entering));
+  exiting = digits-short 20 4 _ (omega (arith, n .exiting));
+  opening = digits-short 20 4 _ (omega (arith, n .opening));
+}
+
+-- the longest listing of a table has 14,177 bytes
+pub listing-longest : (t : Cell) → Names16 t → length (listing (cellOf t)) ≤ longestListing
 unfolding cellOf
 listing-longest t n = omega (
   arith,
   listing-length 5 (cellOf t) (record {
-    place = λ q. digits-short 20 4 _ (omega (arith, n .place q));
+    place = λ q. short (n .place q);
     action = λ x j. digits-short 20 4 _ (omega (arith, n .action x j));
   }),
 )
 
--- a listing call that is lent 13,043 bytes is never refused by 12
-pub enough-room : (t : Cell) → Names16 t → (b : List ℕ) → 13043 ≤ length b
+-- a listing call that is lent 14,177 bytes is never refused by 12
+pub enough-room : (t : Cell) → Names16 t → (b : List ℕ) → longestListing ≤ length b
     → listAnswer (cellOf t) b ≡ cond (sound (cellOf t)) (Length (length (listing (cellOf t)))) (Unlisted unsoundTable)
 unfolding listAnswer
 enough-room t n b l = rw (le-leb (length (listing (cellOf t))) (length b) (omega (arith, listing-longest t n)))

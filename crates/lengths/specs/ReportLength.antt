@@ -1,4 +1,4 @@
--- How long a report can be: 304,468 bytes at most, so walk's buffer holds every report whole. Assumes nothing.
+-- How long a report can be: 312,406 bytes at most, so walk's buffer holds every report whole. Assumes nothing.
 use mathlib.Core.Path.{_≡_, ap₂, _∙_}
 use mathlib.Core.Bool.{Bool, true, false, cond}
 use mathlib.Core.List.{List, [], _∷_, _++_}
@@ -25,6 +25,7 @@ use Rattle.meaning.specs.Listing.{listing}
 use Rattle.meaning.specs.Report.{wordText, stepLine, refusedLine, listingLine, callsIn, reportRun, reportOf, report}
 use Rattle.text.specs.Wrote.{Wrote}
 use Rattle.text.specs.TextLaws.{capped-low, over-start}
+use Rattle.lengths.specs.Longest.{longestAny, longestReport}
 use Rattle.lengths.specs.Parts.{digits-short, digits-most}
 use Rattle.lengths.specs.ListingLength.{listing-any}
 
@@ -145,7 +146,7 @@ refused-length number offset = omega (
   length-append (((ascii "refused " ++ decimal number) ++ ascii " ") ++ decimal offset) (ascii "\n"),
 )
 
-listing-line-length : (word : List ℕ) (c : State) → length (listingLine word c) ≤ length word + 29350
+listing-line-length : (word : List ℕ) (c : State) → length (listingLine word c) ≤ length word + (longestAny + 2)
 unfolding listingLine tab
 listing-line-length word c = omega (
   arith,
@@ -158,7 +159,7 @@ listing-line-length word c = omega (
 -- ---- the report
 
 -- the lines of at most so many calls, then the last line
-run-length : (limit : ℕ) (order : List ℕ) (t : Cell) → ((j : ℕ) → getD order j 0 < 256) → length (reportRun t (callsIn limit order)) ≤ 15 * limit + 29353
+run-length : (limit : ℕ) (order : List ℕ) (t : Cell) → ((j : ℕ) → getD order j 0 < 256) → length (reportRun t (callsIn limit order)) ≤ 15 * limit + (longestAny + 5)
 unfolding callsIn reportRun tab
 run-length zero order t bytes = listing-line-length (ascii "end") (cellOf t)
 run-length (suc limit) [] t bytes = omega (arith, listing-line-length (ascii "end") (cellOf t))
@@ -171,11 +172,11 @@ run-length (suc limit) (agent ∷ wish ∷ order) t bytes = omega (
 )
 
 -- the report of an order of bytes, on every file
-pub report-longest : (cell order : List ℕ) → ((j : ℕ) → getD order j 0 < 256) → length (report cell order) ≤ 304468
+pub report-longest : (cell order : List ℕ) → ((j : ℕ) → getD order j 0 < 256) → length (report cell order) ≤ longestReport
 unfolding report reportOf tab
 report-longest cell order bytes = go (load cell)
   where
-    go : (l : Load) → length (reportOf l (callsIn 16384 order)) ≤ 304468
+    go : (l : Load) → length (reportOf l (callsIn 16384 order)) ≤ longestReport
     go (accepted c) = omega (
       arith,
       length-append (listingLine (ascii "start") (cellOf (tableOf c))) (reportRun (tableOf c) (callsIn 16384 order)),
@@ -187,12 +188,12 @@ report-longest cell order bytes = go (load cell)
 -- ---- the whole of it is written
 
 -- what walk's buffer holds, up to the answered length, is the report: nothing is cut off
-pub report-whole : (cell order before after : List ℕ) (answer : ℕ) → ((j : ℕ) → getD order j 0 < 256) → 304468 ≤ length before
+pub report-whole : (cell order before after : List ℕ) (answer : ℕ) → ((j : ℕ) → getD order j 0 < 256) → longestReport ≤ length before
     → Wrote (report cell order) 0 before after answer → (answer ≡ length (report cell order)) × (take answer after ≡ report cell order)
 report-whole cell order before after answer bytes l w =
     (count, ap₂ take count (w .text) ∙ over-start (report cell order) before (omega (arith, short)))
   where
-    short : length (report cell order) ≤ 304468
+    short : length (report cell order) ≤ longestReport
     short = report-longest cell order bytes
 
     count : answer ≡ length (report cell order)

@@ -14,9 +14,11 @@ use Rattle.sets.specs.Set.{member}
 use Rattle.sets.specs.declared.Set.{Set}
 use Rattle.table.specs.BaseLaws.{clash, getD-tab}
 use Rattle.table.specs.Cell.{cellOf, noPlace, noAgent, hasUnused}
+use Rattle.table.specs.Bounds.{Names16}
 use Rattle.table.specs.declared.Cell.{Cell}
 use Rattle.meaning.specs.Listing.{listsIn, standsUnder}
-use Rattle.lister.specs.Sheet.{namesOf, parentsOf, isListed, homesOf, groupedOf, Rows, sheetOf}
+use Rattle.lister.specs.Sheet.{packedOf, unpackedOf, namesOf, parentsOf, isListed, homesOf, groupedOf, Rows, sheetOf}
+use Rattle.lister.specs.PackLaws.{unpacked}
 use Rattle.lister.specs.SheetLaws.{Drawn}
 use Rattle.lister.specs.RowLaws.{rows-text}
 
@@ -45,7 +47,7 @@ listed-so true true b e = refl
 listed-so true false b e = clash e refl
 listed-so false a b e = clash e refl
 
-module _ (t : Cell) {names places agents firsts ends kinds numbers : List ℕ} (n : names ≡ namesOf (t .used) (t .places)) (s : places ≡ groupedOf (t .used) (parentsOf (t .places)))
+module _ (t : Cell) (b : Names16 t) {names places agents firsts ends kinds numbers : List ℕ} (n : names ≡ namesOf (t .used) (t .places)) (s : places ≡ groupedOf (t .used) (parentsOf (t .places)))
     (v : agents ≡ groupedOf (t .given) (homesOf (t .given) (t .agents))) (r : Rows (t .given) (t .agents) firsts ends kinds numbers 64) where
   pub drawn : Drawn (cellOf t) (sheetOf places agents names kinds numbers firsts ends)
   drawn = record {
@@ -54,7 +56,7 @@ module _ (t : Cell) {names places agents firsts ends kinds numbers : List ℕ} (
     lives = λ p x l m. ap (λ (w : List ℕ). has (getD w p 0) x) v ∙ in-word (t .given) (homesOf (t .given) (t .agents)) p x l m
         ∙ ap (λ (k : ℕ). member (t .given) x && eqb k p) (home x m)
         ∙ unfold cellOf listsIn in lives-so (member (t .given) x) (hasUnused (getD (t .agents) x noAgent)) (getD (t .agents) x noAgent .home) p l;
-    name = λ q m e. ap (λ (w : List ℕ). getD w q 0) n ∙ name q m ∙ unfold cellOf in named (member (t .used) q) (getD (t .places) q noPlace .name) (used q e);
+    name = λ q m e. ap (λ (w : List ℕ). unpackedOf (getD w q 0)) n ∙ ap unpackedOf (name q m ∙ named (member (t .used) q) _ (used q e)) ∙ unpacked _ (b .place q) ∙ unfold cellOf in refl;
     text = λ p x m e. rows-text r x m (listed p x e) ∙ unfold cellOf in refl;
   }
     where
@@ -64,7 +66,7 @@ module _ (t : Cell) {names places agents firsts ends kinds numbers : List ℕ} (
       home : (x : ℕ) → x < 64 → getD (homesOf (t .given) (t .agents)) x 0 ≡ cond (isListed (t .given) (t .agents) x) (getD (t .agents) x noAgent .home) 64
       home x m = unfold homesOf in getD-tab _ 64 x 0 m
 
-      name : (q : ℕ) → q < 64 → getD (namesOf (t .used) (t .places)) q 0 ≡ cond (member (t .used) q) (getD (t .places) q noPlace .name) 0
+      name : (q : ℕ) → q < 64 → getD (namesOf (t .used) (t .places)) q 0 ≡ cond (member (t .used) q) (packedOf (getD (t .places) q noPlace .name)) 0
       name q m = unfold namesOf in getD-tab _ 64 q 0 m
 
       named : (b : Bool) (n : ℕ) → b ≡ true → cond b n 0 ≡ n

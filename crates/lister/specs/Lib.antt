@@ -1,4 +1,6 @@
 pub mod Sheet
+pub mod PackLaws
+pub mod KeyLaws
 pub mod PartLaws
 pub mod SheetLaws
 pub mod GroupLaws

@@ -3,7 +3,7 @@ use mathlib.Core.Path.{_≡_}
 use mathlib.Core.Logic.{_⊎_}
 use mathlib.Core.Bool.{Bool, true, _&&_, cond}
 use mathlib.Core.List.{List, [], _++_}
-use Prim.Native.Nat.{ℕ, zero, suc, _+_, _*_, _<_, _≤_}
+use Prim.Native.Nat.{ℕ, zero, suc, _+_, _*_, _/_, _%_, _<_, _≤_}
 use lib.Dec.{eqb, ltb, leb}
 use lib.ListN.{length, getD, set}
 use Rattle.sets.specs.Word.{has, wordOf}
@@ -11,17 +11,37 @@ use Rattle.sets.specs.Set.{member, inserted}
 use Rattle.sets.specs.declared.Set.{Set}
 use Rattle.table.specs.Base.{tab, foldUp}
 use Rattle.table.specs.Cell.{noPlace, noAgent, noAction, hasUnused}
+use Rattle.table.specs.declared.Name.{Name}
 use Rattle.table.specs.declared.Agent.{Agent}
 use Rattle.table.specs.declared.Place.{Place}
 use Rattle.meaning.specs.Text.{ascii, decimal, gap, joined, overlay}
-use Rattle.meaning.specs.Listing.{kindText, bracketed}
+use Rattle.meaning.specs.Listing.{kindText, slashed, nameText, bracketed}
 use Rattle.text.specs.Wrote.{capped, least}
+
+-- ---- a name and its keys in one word
+
+-- the name in its lowest sixteen bits, and the keys above it in their order
+abbrev pub packedOf : Name → ℕ
+packedOf x = x .name + 65536 * (x .entering + 65536 * (x .exiting + 65536 * x .opening))
+
+-- and the name of a word
+abbrev pub unpackedOf : ℕ → Name
+unpackedOf word = record {
+  name = word % 65536;
+  entering = word / 65536 % 65536;
+  exiting = word / 65536 / 65536 % 65536;
+  opening = word / 65536 / 65536 / 65536;
+}
+
+-- the word of a name and three keys that are all one number is so many times this number
+abbrev pub fourfold : ℕ
+fourfold = 281479271743489
 
 -- ---- the arrays that are lent
 
--- the names of the places in use
+-- the names of the places in use, each with its keys in one word
 unfoldable pub namesOf : Set → List Place → List ℕ
-namesOf used ps = tab (λ q. cond (member used q) (getD ps q noPlace .name) 0) 64 0
+namesOf used ps = tab (λ q. cond (member used q) (packedOf (getD ps q noPlace .name)) 0) 64 0
 
 -- where each place stands; 64 for the floor, which stands in none
 unfoldable pub parentsOf : List Place → List ℕ
@@ -97,7 +117,7 @@ parts P F s = foldUp (λ k t. cond (P k) (joined bar t (F k)) t) 64 s
 pub record Sheet : Type 0 where
   pub stands : ℕ → ℕ → Bool
   pub lives : ℕ → ℕ → Bool
-  pub name : ℕ → ℕ
+  pub name : ℕ → Name
   pub text : ℕ → List ℕ
 
 -- the sheet of the arrays: words of places, words of agents, names, and the rows of agents
@@ -105,14 +125,24 @@ abbrev pub sheetOf : List ℕ → List ℕ → List ℕ → List ℕ → List �
 sheetOf places agents names kinds numbers firsts ends = record {
   stands = λ p. has (getD places p 0);
   lives = λ p. has (getD agents p 0);
-  name = λ q. getD names q 0;
+  name = λ q. unpackedOf (getD names q 0);
   text = rowText kinds numbers firsts ends;
 }
 
--- a name and the bracket that opens the contents
-unfoldable pub headText : ℕ → List ℕ
-unfolding tab
-headText name = decimal name ++ ascii "["
+-- the three keys of a name, a slash before each
+unfoldable pub keysText : Name → List ℕ
+unfolding slashed
+keysText x = slashed (x .entering) ++ (slashed (x .exiting) ++ slashed (x .opening))
+
+-- a name and its keys
+unfoldable pub keyedText : Name → List ℕ
+unfolding keysText
+keyedText x = decimal (x .name) ++ keysText x
+
+-- a name, with its keys where they do not all equal it, and the bracket that opens the contents
+unfoldable pub headText : Name → List ℕ
+unfolding nameText tab
+headText x = nameText x ++ ascii "["
 
 -- the contents of p so many levels deep
 unfoldable pub contentsOn : ℕ → Sheet → ℕ → List ℕ

@@ -13,6 +13,7 @@ use Rattle.meaning.specs.Text.{overlay}
 use Rattle.text.specs.Wrote.{capped, Wrote, Fits}
 use Rattle.text.specs.TextLaws.{over-start, over-length, wrote-as}
 use Rattle.text.specs.RoomLaws.{fits-less, fits-as, fits-exactly, stores}
+use Rattle.lengths.specs.Longest.{longestListing}
 use Rattle.lister.specs.Sheet.{Sheet, contentsOn, floorOn, WroteIf}
 
 no-length : (t : List ℕ) → length t ≡ 0 → t ≡ []
@@ -83,13 +84,13 @@ module _ {t page xs : List ℕ} {n : ℕ} (f : Fits t 0 page) (w : Wrote t 0 pag
   pub page-holds : take n xs ≡ t
   page-holds = ap (λ (k : ℕ). take k xs) page-long ∙ ap (take (length t)) (w .text) ∙ over-start t page (f .room)
 
-pub page-fits : (t : List ℕ) → length t ≤ 13043 → Fits t 0 (replicate 13043 0)
-page-fits t l = let n = length-replicate {A = ℕ} 13043 0 in record { room = omega arith; placed = omega arith }
+pub page-fits : (t : List ℕ) → length t ≤ longestListing → Fits t 0 (replicate longestListing 0)
+page-fits t l = let n = length-replicate {A = ℕ} longestListing 0 in record { room = omega arith; placed = omega arith }
 
 -- ---- the listing
 
--- where there are 13,043 bytes
-pub long-fits : {s t b : List ℕ} → s ≡ t → length t ≤ 13043 → 13043 ≤ length b → length b ≤ 18446744073709551615 → Fits s 0 b
+-- where there are as many bytes as the longest has
+pub long-fits : {s t b : List ℕ} → s ≡ t → length t ≤ longestListing → longestListing ≤ length b → length b ≤ 18446744073709551615 → Fits s 0 b
 long-fits {s} {t} e l m n = let k : length s ≡ length t = ap length e in record { room = omega arith; placed = omega arith }
 
 -- the same text under another name

@@ -21,7 +21,7 @@ use Rattle.meaning.specs.Step.{arrive, travel, stepAt, step}
 use Rattle.meaning.specs.Touch.{counted, untouched, touchOf, touchesOf}
 use Rattle.meaning.specs.Run.{made, turnedAway, stepOf, callOf, run, settled, rests}
 use Rattle.meaning.specs.Text.{ascii, digits, gap, overlay}
-use Rattle.meaning.specs.Listing.{kindText, actionText, agentText, listsIn, agentsText, standsUnder, bracketed, contentsText, listing}
+use Rattle.meaning.specs.Listing.{kindText, actionText, agentText, listsIn, agentsText, standsUnder, isPlain, slashed, nameText, bracketed, contentsText, listing}
 use Rattle.meaning.specs.Listing.{listAnswer, listBuffer}
 use Rattle.meaning.specs.Report.{wordText, stepLine, refusedLine, listingLine, callsIn, reportRun, reportOf, report}
 use Rattle.meaning.specs.Codes.{checkOf, idleOf}
@@ -36,9 +36,10 @@ use Rattle.meaning.specs.BenchCalls.{callRows}
 use Rattle.meaning.specs.BenchAfter.{afterRows}
 use Rattle.meaning.specs.BenchTouch.{crib, touchRows}
 use Rattle.meaning.specs.BenchOrder.{firstRows, orderRows}
+use Rattle.meaning.specs.BenchKeys.{keyRows, keyNumbers}
 
 pub rows : List Row
-rows = paperRows ++ (slipRows ++ (fileRows ++ (stepRows ++ (firstRows ++ listingRows))))
+rows = keyRows ++ (firstRows ++ (fileRows ++ (listingRows ++ (paperRows ++ (slipRows ++ stepRows)))))
 
 -- two texts are the same
 same : List ℕ → List ℕ → Bool
@@ -60,12 +61,12 @@ allSame (r ∷ rest) = same (report (r .cell) (r .order)) (textOf (r .lines)) &&
 
 -- computed by the checker from the definitions alone
 pub bench : allSame rows ≡ true
-unfolding allSame rows paperRows slipRows fileRows stepRows firstRows listingRows textOf file manyOpens calls same has wordOf countOf keep later firstIn occurs counting countingRow hasAll allSmall rowFits
+unfolding allSame rows paperRows slipRows fileRows stepRows firstRows keyRows listingRows textOf file manyOpens calls same has wordOf countOf keep later firstIn occurs counting countingRow hasAll allSmall rowFits
     chosenOf upd tab foldUp allBelow anyBelow countBelow iter cellOf tableOf bareTable linked linkedTo travels nextAction actionsFit ready
     holdsBoth stageFits firstHeld secondHeld lockIs claims agentFits goingFrom goes placeFits coreSound sumBelow touchSum booksSound sound placeRecord agentRecord actionRecord touchRecord
     recordAt addPlace addAgent withAction addAction giveTouches loadRecord loadFrom load onWayTo awaited entersAt exitsFrom opensAt qualifies choose
     fires stays still turn take release asleepOn wake look lockFirst lockSecond hold leave dissolveAgent wokenBy dissolveLock dissolve act
-    arrive travel stepAt step made turnedAway stepOf digits gap kindText actionText agentText listsIn agentsText standsUnder bracketed
+    arrive travel stepAt step made turnedAway stepOf digits gap kindText actionText agentText listsIn agentsText standsUnder isPlain slashed nameText bracketed
     contentsText listing wordText stepLine refusedLine listingLine callsIn reportRun reportOf report
 bench = refl
 
@@ -75,14 +76,15 @@ unfolding same
 allMeant [] = true
 allMeant (r ∷ rest) = same (r .value) (r .meant) && allMeant rest
 
--- what walk cannot show: soundness clause by clause, the calls and answers of a host, the table after each kind of step, touches, and the row of places
-pub numbers : allMeant (soundRows ++ (callRows ++ (afterRows ++ (touchRows ++ orderRows)))) ≡ true
-unfolding allMeant soundRows callRows afterRows touchRows orderRows crib counted untouched touchOf touchesOf callOf run sample topmost checkOf idleOf idle loadOf loaded listAnswer listBuffer overlay settled rests file manyOpens
+-- what walk cannot show: keys and the row of places in a table, the calls and answers of a host, touches, the table after each kind of step,
+-- and soundness clause by clause
+pub numbers : allMeant (keyNumbers ++ (orderRows ++ (callRows ++ (touchRows ++ (afterRows ++ soundRows))))) ≡ true
+unfolding allMeant soundRows callRows afterRows touchRows orderRows keyNumbers crib counted untouched touchOf touchesOf callOf run sample topmost checkOf idleOf idle loadOf loaded listAnswer listBuffer overlay settled rests file manyOpens
     calls same has wordOf countOf keep later firstIn occurs counting countingRow hasAll allSmall rowFits chosenOf upd tab foldUp allBelow anyBelow countBelow iter cellOf tableOf bareTable linked
     linkedTo travels nextAction actionsFit ready holdsBoth stageFits firstHeld secondHeld lockIs claims agentFits goingFrom goes placeFits
     coreSound sumBelow touchSum booksSound sound placeRecord agentRecord actionRecord touchRecord recordAt addPlace addAgent withAction addAction giveTouches loadRecord loadFrom load onWayTo awaited
     entersAt exitsFrom opensAt qualifies choose fires stays still turn take release asleepOn wake look lockFirst lockSecond hold leave
     dissolveAgent wokenBy dissolveLock dissolve act arrive travel stepAt step made turnedAway stepOf digits gap kindText actionText
-    agentText listsIn agentsText standsUnder bracketed contentsText listing wordText stepLine refusedLine listingLine callsIn reportRun
+    agentText listsIn agentsText standsUnder isPlain slashed nameText bracketed contentsText listing wordText stepLine refusedLine listingLine callsIn reportRun
     reportOf report
 numbers = refl

@@ -19,7 +19,7 @@ actionsIn c x j =
 
 -- a place's name, parent and way
 abbrev placeIn : State → ℕ → List ℕ
-placeIn c q = c .land .place q .name ∷ c .land .place q .parent ∷ c .land .place q .way ∷ []
+placeIn c q = c .land .place q .name .name ∷ c .land .place q .parent ∷ c .land .place q .way ∷ []
 
 -- the holders of the locks of places 0 to 3; 64 is none
 abbrev locksIn : State → List ℕ

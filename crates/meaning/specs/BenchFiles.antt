@@ -4,10 +4,10 @@ use Rattle.meaning.specs.BenchRow.{Row, row, hex, agent, manyOpens}
 
 unfoldable pub fileRows : List Row
 fileRows =
-    -- "2 unknown kind, not 1 to 4"
+    -- "2 unknown kind", none of those above 6 (W3, W6) either
     row (hex "00 04") [] ("refused 2 0" ∷ [])
     -- also where it is the last byte: 2 before 1
-    ∷ row (hex "06") [] ("refused 2 0" ∷ [])
+    ∷ row (hex "07") [] ("refused 2 0" ∷ [])
     -- "1 cut short: a body incomplete", at the record, whatever its bytes say: 1 before 3
     ∷ row (hex "01 40") [] ("refused 1 0" ∷ [])
     -- "the byte offset of the record": an agent cut after a place

@@ -50,6 +50,11 @@ opens number name = 3 ∷ number ∷ 3 ∷ name % 256 ∷ name / 256 ∷ []
 abbrev pub touches : ℕ → ℕ → List ℕ
 touches number n = 5 ∷ number ∷ n % 256 ∷ n / 256 % 256 ∷ n / 65536 % 256 ∷ n / 16777216 ∷ []
 
+-- "number, parent, name, then the three keys": enter, exit, open
+abbrev pub keyed : ℕ → ℕ → ℕ → ℕ → ℕ → ℕ → List ℕ
+keyed number parent name enter exit opened = 6 ∷ number ∷ parent ∷ name % 256 ∷ name / 256 ∷
+    enter % 256 ∷ enter / 256 ∷ exit % 256 ∷ exit / 256 ∷ opened % 256 ∷ opened / 256 ∷ []
+
 -- the records one after the other, and the end record
 unfoldable pub file : List (List ℕ) → List ℕ
 file [] = 4 ∷ []

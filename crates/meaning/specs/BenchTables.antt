@@ -6,9 +6,10 @@ use lib.ListN.{set}
 use Rattle.sets.specs.Word.{bit}
 use Rattle.table.specs.Base.{upd}
 use Rattle.table.specs.Cell.{State, bareTable, cellOf, tableOf}
+use Rattle.table.specs.declared.Name.{Name}
 use Rattle.table.specs.declared.Cell.{Cell}
 use Rattle.meaning.specs.Update.{atStage, withNext, withCount, withHome, withActions, withPlaces, withUsed, withLand, withLocks, withAgent, withTouches}
-use Rattle.meaning.specs.File.{loadOf}
+use Rattle.meaning.specs.File.{plainName, loadOf}
 use Rattle.meaning.specs.Codes.{checkOf, checkNumber}
 use Rattle.meaning.specs.BenchRow.{file, place, agent, enters, exits, opens}
 
@@ -33,9 +34,13 @@ fails b = number 0 (bit b)
 
 -- ---- a cell with one thing written anew
 
--- place q has this name, parent and way
+-- place q has this name with its keys, parent and way
+abbrev pub placedAs : ℕ → Name → ℕ → ℕ → State → State
+placedAs q name parent way c = withLand c (withPlaces (c .land) (upd (c .land .place) q (record { name = name; parent = parent; way = way })))
+
+-- place q has this name, which its keys equal, parent and way
 abbrev pub placed : ℕ → ℕ → ℕ → ℕ → State → State
-placed q name parent way c = withLand c (withPlaces (c .land) (upd (c .land .place) q (record { name = name; parent = parent; way = way })))
+placed q name = placedAs q (plainName name)
 
 -- place q is not in use
 abbrev pub notUsed : ℕ → State → State

@@ -1,18 +1,20 @@
 -- The ambient calculus on a tree of places (document 01, "The plain tree"): what it permits and what a move makes.
 -- Red Enter and Red Exit of source 002 section 2.3 and Red Open of source 004, by themselves: no lock, stage or wish plays a part.
+-- A name holds its keys as in source 002 section 4.4, and "named n" is read with the key of the action's kind (document 02, W6).
 use Prim.Native.Nat.{ℕ}
 use mathlib.Core.Path.{_≡_}
 use mathlib.Core.Bool.{Bool, true, false, not, _&&_, cond}
 use mathlib.Core.List.{List, [], _∷_}
 use lib.Dec.{eqb}
 use Rattle.table.specs.Base.{upd}
-use Rattle.table.specs.Cell.{noAction, enterKind, exitKind, openKind, answersTo}
+use Rattle.table.specs.Cell.{noName, noAction, enterKind, exitKind, openKind, keyOf}
+use Rattle.table.specs.declared.Name.{Name}
 use Rattle.table.specs.declared.Action.{Action}
 
--- the places in use with their names and where each stands, the agents' homes and unused actions in order
+-- the places in use with their names and keys and where each stands, the agents' homes and unused actions in order
 pub record Tree : Type 0 where
   pub used : ℕ → Bool
-  pub name : ℕ → ℕ
+  pub name : ℕ → Name
   pub parent : ℕ → ℕ
   pub home : ℕ → ℕ
   pub unused : ℕ → List Action
@@ -22,7 +24,7 @@ pub record Tree : Type 0 where
 abbrev pub withTreeUsed : Tree → (ℕ → Bool) → Tree
 withTreeUsed t f = record { used = f; name = t .name; parent = t .parent; home = t .home; unused = t .unused }
 
-abbrev pub withTreeNames : Tree → (ℕ → ℕ) → Tree
+abbrev pub withTreeNames : Tree → (ℕ → Name) → Tree
 withTreeNames t f = record { used = t .used; name = f; parent = t .parent; home = t .home; unused = t .unused }
 
 abbrev pub withTreeParents : Tree → (ℕ → ℕ) → Tree
@@ -61,16 +63,16 @@ unfoldable pub mayEnter : Tree → ℕ → ℕ → Bool
 unfolding standsAt
 mayEnter t a m =
     not (eqb (t .home a) 0)
-    && (standsAt t m (t .parent (t .home a)) && (not (eqb m (t .home a)) && eqb (answersTo enterKind (t .name m)) (nextOf t a .name)))
+    && (standsAt t m (t .parent (t .home a)) && (not (eqb m (t .home a)) && eqb (keyOf enterKind (t .name m)) (nextOf t a .name)))
 
 -- "exit n if its own stands in a place named n": m[n[exit m.P | Q] | R]
 unfoldable pub mayExit : Tree → ℕ → ℕ → Bool
-mayExit t a m = not (eqb (t .home a) 0) && (eqb m (t .parent (t .home a)) && eqb (answersTo exitKind (t .name m)) (nextOf t a .name))
+mayExit t a m = not (eqb (t .home a) 0) && (eqb m (t .parent (t .home a)) && eqb (keyOf exitKind (t .name m)) (nextOf t a .name))
 
 -- "open n if a place named n stands in its own": open n.P | n[Q]
 unfoldable pub mayOpen : Tree → ℕ → ℕ → Bool
 unfolding standsAt
-mayOpen t a m = standsAt t m (t .home a) && eqb (answersTo openKind (t .name m)) (nextOf t a .name)
+mayOpen t a m = standsAt t m (t .home a) && eqb (keyOf openKind (t .name m)) (nextOf t a .name)
 
 -- the calculus permits agent a its next action on place m: the one entered, left or opened
 unfoldable pub permits : Tree → ℕ → ℕ → Bool
@@ -94,7 +96,7 @@ putInto t a d = usedUp (withTreeParents t (upd (t .parent) (t .home a) d)) a
 unfoldable pub openUp : Tree → ℕ → ℕ → Tree
 openUp t a m = usedUp
     (withTreeHomes
-    (withTreeParents (withTreeNames (withTreeUsed t (upd (t .used) m false)) (upd (t .name) m 0))
+    (withTreeParents (withTreeNames (withTreeUsed t (upd (t .used) m false)) (upd (t .name) m noName))
     (λ q. cond (eqb q m) 0 (cond (eqb (t .parent q) m) (t .home a) (t .parent q))))
     (λ x. cond (eqb (t .home x) m) (t .home a) (t .home x)))
     a

@@ -7,6 +7,7 @@ use lib.ListN.{length, getD, set}
 use Rattle.order.specs.Row.{later, latest}
 use Rattle.table.specs.Base.{upd}
 use Rattle.table.specs.Cell.{State, cellOf, tableOf, bareTable, looking, lastKind}
+use Rattle.table.specs.declared.Name.{Name}
 use Rattle.table.specs.declared.Agent.{Agent}
 use Rattle.table.specs.declared.Cell.{Cell}
 use Rattle.meaning.specs.declared.Record.{Record}
@@ -33,14 +34,14 @@ byteAt s i = getD s i 0
 -- the record decides" (document 02, W2)
 
 -- "Place numbers in records are 1 to 63; parents and homes 0 to 63. A parent, home or agent must have been given earlier":
--- 3 number too large, or 0; 13 parent too large; 4 number given twice; 5 parent not yet given; 6 name 0
-unfoldable pub placeRecord : Bool → Bool → ℕ → ℕ → ℕ → Record
+-- 3 number too large, or 0; 13 parent too large; 4 number given twice; 5 parent not yet given; 6 name 0. A key may be 0: "0 means nobody may"
+unfoldable pub placeRecord : Bool → Bool → ℕ → ℕ → Name → Record
 placeRecord taken known number parent name =
     cond (ltb number 1) (Faulty placeTooLarge)
     (cond (leb 64 number) (Faulty placeTooLarge)
     (cond (leb 64 parent) (Faulty parentTooLarge)
     (cond taken (Faulty givenTwice)
-    (cond known (cond (ltb name 1) (Faulty nameZero) (PlaceRecord number parent name)) (Faulty notYetGiven)))))
+    (cond known (cond (ltb (name .name) 1) (Faulty nameZero) (PlaceRecord number parent name)) (Faulty notYetGiven)))))
 
 -- an agent: 14 its number too large, 13 its home too large, 4 number given twice, 5 home not yet given
 unfoldable pub agentRecord : Bool → Bool → ℕ → ℕ → Record
@@ -74,9 +75,34 @@ touchRecord taken known place touches =
 abbrev pub complete : List ℕ → ℕ → ℕ → Record → Record
 complete s at n r = cond (ltb (length s - at) n) (Faulty cutShort) r
 
--- the name in a record of five bytes
+-- the name in a place or action record
 abbrev pub nameAt : List ℕ → ℕ → ℕ
 nameAt s at = twoBytes (byteAt s (at + 3)) (byteAt s (at + 4))
+
+-- "Kind 1 sets all three to the name" (document 02, W6)
+abbrev pub plainName : ℕ → Name
+plainName n = record { name = n; entering = n; exiting = n; opening = n }
+
+-- "Record kind 6 is number, parent, name, then the three keys"; "three two-byte keys: enter, exit, open"
+abbrev pub keyedName : List ℕ → ℕ → Name
+keyedName s at = record {
+  name = nameAt s at;
+  entering = twoBytes (byteAt s (at + 5)) (byteAt s (at + 6));
+  exiting = twoBytes (byteAt s (at + 7)) (byteAt s (at + 8));
+  opening = twoBytes (byteAt s (at + 9)) (byteAt s (at + 10));
+}
+
+-- a record of kind 1 or 6 gives a place
+abbrev pub givesPlace : ℕ → Bool
+givesPlace kind = eqb kind 1 || eqb kind 6
+
+-- how many bytes it has with its kind
+abbrev pub placeLength : ℕ → ℕ
+placeLength kind = cond (eqb kind 6) 11 5
+
+-- the name that it gives, with its keys
+abbrev pub nameGiven : List ℕ → ℕ → Name
+nameGiven s at = cond (eqb (byteAt s at) 6) (keyedName s at) (plainName (nameAt s at))
 
 -- the touches in a record of six bytes
 abbrev pub countAt : List ℕ → ℕ → ℕ
@@ -91,7 +117,7 @@ pub record Known : Type 0 where
 
 -- the four bodies
 abbrev pub placeAt : Known → List ℕ → ℕ → Record
-placeAt k s at = placeRecord (k .places (byteAt s (at + 1))) (k .places (byteAt s (at + 2))) (byteAt s (at + 1)) (byteAt s (at + 2)) (nameAt s at)
+placeAt k s at = placeRecord (k .places (byteAt s (at + 1))) (k .places (byteAt s (at + 2))) (byteAt s (at + 1)) (byteAt s (at + 2)) (nameGiven s at)
 
 abbrev pub agentAt : Known → List ℕ → ℕ → Record
 agentAt k s at = agentRecord (k .agents (byteAt s (at + 1))) (k .places (byteAt s (at + 2))) (byteAt s (at + 1)) (byteAt s (at + 2))
@@ -102,10 +128,10 @@ actionAt k s at = actionRecord (k .agents (byteAt s (at + 1))) (k .full (byteAt 
 abbrev pub touchAt : Known → List ℕ → ℕ → Record
 touchAt k s at = touchRecord (k .counted (byteAt s (at + 1))) (k .places (byteAt s (at + 1))) (byteAt s (at + 1)) (countAt s at)
 
--- "One byte of kind, then a body whose length the kind fixes": 2 unknown kind
+-- "One byte of kind, then a body whose length the kind fixes": 2 unknown kind. "Kind 6 leaves the unknown kinds and is checked as kind 1 is"
 unfoldable pub recordAt : Known → List ℕ → ℕ → Record
 recordAt k s at =
-    cond (eqb (byteAt s at) 1) (complete s at 5 (placeAt k s at))
+    cond (givesPlace (byteAt s at)) (complete s at (placeLength (byteAt s at)) (placeAt k s at))
     (cond (eqb (byteAt s at) 2) (complete s at 3 (agentAt k s at))
     (cond (eqb (byteAt s at) 3) (complete s at 5 (actionAt k s at))
     (cond (eqb (byteAt s at) 4) EndRecord
@@ -114,7 +140,7 @@ recordAt k s at =
 -- ---- what a record adds
 
 -- a new place, linked to its parent: "Loaded places count in file order" (document 02, W5), so it is the latest
-unfoldable pub addPlace : State → ℕ → ℕ → ℕ → State
+unfoldable pub addPlace : State → ℕ → ℕ → Name → State
 unfolding later
 addPlace c number parent name = withLand c (withOrder (withUsed
     (withPlaces (c .land) (upd (c .land .place) number (linkedPlace name parent)))
@@ -168,7 +194,7 @@ pub data Load : Type 0 where
 -- one record and then the rest of the file: a refusal has "the byte offset of the record", 9 that of "the first byte after the end"
 unfoldable pub loadRecord : (Progress → ℕ → Load) → Progress → List ℕ → ℕ → Record → Load
 unfolding addPlace addAgent addAction giveTouches
-loadRecord rest p s at (PlaceRecord number parent name) = rest (withCell p (addPlace (p .cell) number parent name)) (at + 5)
+loadRecord rest p s at (PlaceRecord number parent name) = rest (withCell p (addPlace (p .cell) number parent name)) (at + placeLength (byteAt s at))
 loadRecord rest p s at (AgentRecord number home) = rest (withCell p (addAgent (p .cell) number home)) (at + 3)
 loadRecord rest p s at (ActionRecord agent kind name) = rest (withCell p (addAction (p .cell) agent kind name)) (at + 5)
 loadRecord rest p s at (TouchRecord place touches) = rest (withCounted p place touches) (at + 6)

@@ -16,10 +16,11 @@ use Rattle.table.specs.BaseLaws.{Told, yea, nay, told}
 use Rattle.table.specs.Cell.{cellOf, bareTable, noPlace, noAgent, freshAgent, none, lastKind}
 use Rattle.table.specs.Bounds.{Bounded}
 use Rattle.table.specs.CellLaws.{bounded, sized-bare}
+use Rattle.table.specs.declared.Name.{Name}
 use Rattle.table.specs.declared.Cell.{Cell}
 use Rattle.meaning.specs.declared.Record.{Record}
 use Rattle.meaning.specs.declared.Record.the-variants.{PlaceRecord, AgentRecord, ActionRecord, EndRecord, TouchRecord, Faulty}
-use Rattle.meaning.specs.File.{twoBytes, fourBytes, byteAt, placeRecord, agentRecord, actionRecord, touchRecord, Known, recordAt, bareProgress, Load, accepted, refused, loadFrom, load, loaded, loadOf}
+use Rattle.meaning.specs.File.{twoBytes, fourBytes, byteAt, placeRecord, agentRecord, actionRecord, touchRecord, givesPlace, placeLength, nameGiven, Known, recordAt, bareProgress, Load, accepted, refused, loadFrom, load, loaded, loadOf}
 
 -- ---- a four-byte number
 
@@ -36,7 +37,8 @@ four-bytes a b c d la lb lc ld = omega arith
 module _ (k : Known) where
   -- numbers are in range, a place or agent is new, what it names was given earlier, and a row with an action more had room
   pub data Fits : Record → Type 0 where
-    place : {number parent name : ℕ} → 1 ≤ number → number < 64 → parent < 64 → k .places number ≡ false → k .places parent ≡ true → 1 ≤ name
+    place : {number parent : ℕ} {name : Name} → 1 ≤ number → number < 64 → parent < 64 → k .places number ≡ false → k .places parent ≡ true
+        → 1 ≤ name .name
         → Fits (PlaceRecord number parent name)
     agent : {number home : ℕ} → number < 64 → home < 64 → k .agents number ≡ false → k .places home ≡ true → Fits (AgentRecord number home)
     action : {number kind name : ℕ} → number < 64 → k .agents number ≡ true → k .full number ≡ false → 1 ≤ kind → kind ≤ lastKind → 1 ≤ name
@@ -50,7 +52,7 @@ module _ (k : Known) where
   cond-fits true x y f g = f refl
   cond-fits false x y f g = g refl
 
-  place-fits : (number parent name : ℕ) → Fits (placeRecord (k .places number) (k .places parent) number parent name)
+  place-fits : (number parent : ℕ) (name : Name) → Fits (placeRecord (k .places number) (k .places parent) number parent name)
   unfolding placeRecord
   place-fits n p m =
       cond-fits (ltb n 1) _ _ (λ e. faulty) (λ one.
@@ -58,8 +60,8 @@ module _ (k : Known) where
       cond-fits (leb 64 p) _ _ (λ e. faulty) (λ under.
       cond-fits (k .places n) _ _ (λ e. faulty) (λ new.
       cond-fits (k .places p) _ _ (λ known.
-      cond-fits (ltb m 1) _ _ (λ e. faulty)
-      (λ named. place (ltb-false n 1 one) (leb-false 64 n low) (leb-false 64 p under) new known (ltb-false m 1 named)))
+      cond-fits (ltb (m .name) 1) _ _ (λ e. faulty)
+      (λ named. place (ltb-false n 1 one) (leb-false 64 n low) (leb-false 64 p under) new known (ltb-false (m .name) 1 named)))
       (λ e. faulty)))))
 
   agent-fits : (number home : ℕ) → Fits (agentRecord (k .agents number) (k .places home) number home)
@@ -93,7 +95,7 @@ module _ (k : Known) where
   pub record-fits : (s : List ℕ) (at : ℕ) → Fits (recordAt k s at)
   unfolding recordAt
   record-fits s at =
-      cond-fits (eqb (byteAt s at) 1) _ _ (λ e. cond-fits (ltb (length s - at) 5) _ _ (λ e. faulty)
+      cond-fits (givesPlace (byteAt s at)) _ _ (λ e. cond-fits (ltb (length s - at) (placeLength (byteAt s at))) _ _ (λ e. faulty)
       (λ e. place-fits (byteAt s (at + 1)) (byteAt s (at + 2)) _)) (λ e.
       cond-fits (eqb (byteAt s at) 2) _ _ (λ e. cond-fits (ltb (length s - at) 3) _ _ (λ e. faulty)
       (λ e. agent-fits (byteAt s (at + 1)) (byteAt s (at + 2)))) (λ e.
@@ -113,7 +115,7 @@ past-refusal false x y z h = h refl
 module _ (k k′ : Known) (same-places : (j : ℕ) → j < 64 → k .places j ≡ k′ .places j)
     (same-agents : (j : ℕ) → j < 64 → k .agents j ≡ k′ .agents j) (same-full : (j : ℕ) → j < 64 → k .full j ≡ k′ .full j)
     (same-counted : (j : ℕ) → j < 64 → k .counted j ≡ k′ .counted j) where
-  place-same : (number parent name : ℕ)
+  place-same : (number parent : ℕ) (name : Name)
       → placeRecord (k .places number) (k .places parent) number parent name ≡ placeRecord (k′ .places number) (k′ .places parent) number parent name
   unfolding placeRecord
   place-same number parent name =
@@ -139,7 +141,7 @@ module _ (k k′ : Known) (same-places : (j : ℕ) → j < 64 → k .places j �
   pub record-same : (s : List ℕ) (at : ℕ) → recordAt k s at ≡ recordAt k′ s at
   unfolding recordAt
   record-same s at = rw (
-    place-same (byteAt s (at + 1)) (byteAt s (at + 2)),
+    place-same (byteAt s (at + 1)) (byteAt s (at + 2)) (nameGiven s at),
     agent-same (byteAt s (at + 1)) (byteAt s (at + 2)),
     action-same (byteAt s (at + 1)) (byteAt s (at + 2)),
     touch-same (byteAt s (at + 1)),

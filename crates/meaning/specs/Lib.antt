@@ -22,6 +22,7 @@ pub mod BenchCalls
 pub mod BenchAfter
 pub mod BenchTouch
 pub mod BenchOrder
+pub mod BenchKeys
 pub mod Bench
 pub mod FileLaws
 pub mod OrderLaws

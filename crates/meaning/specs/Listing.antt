@@ -8,6 +8,7 @@ use lib.ListN.{length, getD}
 use Rattle.table.specs.Base.{tab, foldUp}
 use Rattle.table.specs.Cell.{Land, State, noAction, hasUnused, enterKind, exitKind}
 use Rattle.table.specs.Sound.{sound}
+use Rattle.table.specs.declared.Name.{Name}
 use Rattle.table.specs.declared.Action.{Action}
 use Rattle.table.specs.declared.Agent.{Agent}
 use Rattle.meaning.specs.declared.Listed.{Listed}
@@ -58,10 +59,24 @@ agentsText c p = foldUp (agentTurn c p) 64 []
 unfoldable pub standsUnder : Bool → ℕ → ℕ → ℕ → Bool
 standsUnder used q parent p = used && (not (eqb q 0) && eqb parent p)
 
--- "A place is its decimal name, `[`, contents, `]`"
-unfoldable pub bracketed : ℕ → List ℕ → List ℕ
+-- "Kind 1 sets all three to the name" (document 02, W6): the keys all equal the name
+unfoldable pub isPlain : Name → Bool
+isPlain x = eqb (x .entering) (x .name) && (eqb (x .exiting) (x .name) && eqb (x .opening) (x .name))
+
+-- "a slash before each"
+unfoldable pub slashed : ℕ → List ℕ
 unfolding tab
-bracketed name contents = ((decimal name ++ ascii "[") ++ contents) ++ ascii "]"
+slashed key = ascii "/" ++ decimal key
+
+-- "A place whose keys all equal its name is listed as before; any other as name and the three keys, a slash before each"
+unfoldable pub nameText : Name → List ℕ
+unfolding isPlain slashed
+nameText x = decimal (x .name) ++ cond (isPlain x) [] (slashed (x .entering) ++ (slashed (x .exiting) ++ slashed (x .opening)))
+
+-- "A place is its decimal name, `[`, contents, `]`", and with keys these "then the bracket"
+unfoldable pub bracketed : Name → List ℕ → List ℕ
+unfolding nameText tab
+bracketed name contents = ((nameText name ++ ascii "[") ++ contents) ++ ascii "]"
 
 -- one place more, after a bar
 abbrev pub placeTurn : Land → ℕ → (ℕ → List ℕ) → ℕ → List ℕ → List ℕ

@@ -7,7 +7,7 @@ use mathlib.Core.List.{List, [], _∷_}
 use lib.Dec.{eqb}
 use Rattle.order.specs.Row.{later, latest}
 use Rattle.table.specs.Base.{upd}
-use Rattle.table.specs.Cell.{Land, State, none, unused, exitKind, looksHome}
+use Rattle.table.specs.Cell.{Land, State, none, noName, unused, exitKind, looksHome}
 use Rattle.table.specs.declared.Action.{Action}
 use Rattle.meaning.specs.declared.Word.{Word}
 use Rattle.meaning.specs.declared.Word.the-variants.{Looked, Took, Held, Back, Slept, Left, Came, Opened, Asleep, Done}
@@ -40,11 +40,12 @@ withRow t row = record { tree = t .tree; travels = t .travels; pick = t .pick; o
 
 -- ---- the start
 
--- the tree of places, and of agents' homes and unused actions; a place that is not in use reads as 0
+-- the tree of places, and of agents' homes and unused actions; a place that is not in use has no name and stands at 0. The plain tree
+-- "keeps and compares keys as it does names" (document 02, W6): a name has its keys with it
 abbrev pub treeFrom : Land → (ℕ → ℕ) → (ℕ → List Action) → Tree
 treeFrom l home unused = record {
   used = l .used;
-  name = λ q. cond (l .used q) (l .place q .name) 0;
+  name = λ q. cond (l .used q) (l .place q .name) noName;
   parent = λ q. cond (l .used q) (l .place q .parent) 0;
   home = home;
   unused = unused;

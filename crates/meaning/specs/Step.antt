@@ -7,7 +7,7 @@ use Rattle.sets.specs.Word.{countOf, upto}
 use Rattle.order.specs.Row.{later, latest, firstIn}
 use Rattle.table.specs.Base.{upd, anyBelow}
 use Rattle.table.specs.Cell.{Land, State, none, noPlace, linked, linkedTo, travels, hasAction, kindOf, nameOf, enterKind, exitKind, openKind}
-use Rattle.table.specs.Cell.{looksHome, answersTo, looking, found, holding, holdingBoth, onWay, onWayOwn, onWayBoth, asleep, done}
+use Rattle.table.specs.Cell.{looksHome, keyOf, looking, found, holding, holdingBoth, onWay, onWayOwn, onWayBoth, asleep, done}
 use Rattle.table.specs.Sound.{secondPlace}
 use Rattle.table.specs.declared.Place.{Place}
 use Rattle.table.specs.declared.Agent.{Agent}
@@ -31,9 +31,9 @@ onWayTo l q r = travels l r && eqb (l .place r .parent) q
 unfoldable pub awaited : Land → ℕ → Bool
 awaited l q = anyBelow (onWayTo l q) 64
 
--- place q is named n, as an action of this kind asks
+-- n is the key of place q for actions of this kind; "is named n" of document 01 is read so (document 02, W6)
 abbrev pub named : ℕ → Land → ℕ → ℕ → Bool
-named kind l q n = eqb (answersTo kind (l .place q .name)) n
+named kind l q n = eqb (keyOf kind (l .place q .name)) n
 
 -- "Enter n fires if another place linked to p is named n": q is such a place
 unfoldable pub entersAt : Land → ℕ → ℕ → ℕ → ℕ → Bool

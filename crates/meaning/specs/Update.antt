@@ -4,6 +4,7 @@ use mathlib.Core.Bool.{Bool, cond}
 use mathlib.Core.List.{List}
 use Rattle.table.specs.Base.{upd}
 use Rattle.table.specs.Cell.{Land, State, none, hasAction}
+use Rattle.table.specs.declared.Name.{Name}
 use Rattle.table.specs.declared.Place.{Place}
 use Rattle.table.specs.declared.Action.{Action}
 use Rattle.table.specs.declared.Agent.{Agent}
@@ -11,7 +12,7 @@ use Rattle.table.specs.declared.Agent.{Agent}
 -- ---- a place
 
 -- a place linked to its parent
-abbrev pub linkedPlace : ℕ → ℕ → Place
+abbrev pub linkedPlace : Name → ℕ → Place
 linkedPlace name parent = record { name = name; parent = parent; way = 0 }
 
 abbrev pub withParent : Place → ℕ → Place

@@ -1,10 +1,11 @@
 // The answers of the keeper's calls and the records of a cell file, as values that code and written meaning share.
 use table::Cell;
+use table::Name;
 
 // "One byte of kind, then a body": a record taken apart, or the number of its refusal.
 pub enum Record {
-    // Number, parent, name.
-    PlaceRecord(u8, u8, u16),
+    // Number, parent, name with its keys.
+    PlaceRecord(u8, u8, Name),
     // Number, home.
     AgentRecord(u8, u8),
     // Agent, kind, name.

@@ -17,6 +17,7 @@ use Rattle.order.specs.RowLawsLoaded.{Came, came-room, came-more, came-end}
 use Rattle.table.specs.Base.{upd, tab}
 use Rattle.table.specs.BaseLaws.{Told, yea, nay, told, eq?, upd-at, upd-other, getD-tab, set-tab}
 use Rattle.table.specs.Cell.{State, noPlace, noAgent, tableOf, putPlaces, putAgents, putUsed, putGiven, putTouches, putOrder}
+use Rattle.table.specs.declared.Name.{Name}
 use Rattle.table.specs.declared.Place.{Place}
 use Rattle.table.specs.declared.Agent.{Agent}
 use Rattle.table.specs.declared.Cell.{Cell}
@@ -24,9 +25,9 @@ use Rattle.meaning.specs.Refusals.{cutShort, afterEnd}
 use Rattle.meaning.specs.declared.Record.{Record}
 use Rattle.meaning.specs.declared.Record.the-variants.{PlaceRecord, AgentRecord, ActionRecord, EndRecord, TouchRecord, Faulty}
 use Rattle.meaning.specs.Update.{linkedPlace, withHome}
-use Rattle.meaning.specs.File.{recordAt, addPlace, withAction, addAgent, addAction, giveTouches, isFull, Known, Progress, withCell, withCounted, knownIn, accepted, refused, loadRecord, loadFrom, load}
+use Rattle.meaning.specs.File.{byteAt, placeLength, recordAt, addPlace, withAction, addAgent, addAction, giveTouches, isFull, Known, Progress, withCell, withCounted, knownIn, accepted, refused, loadRecord, loadFrom, load}
 use Rattle.reader.specs.KnownSets.{knownBy}
-use Rattle.reader.specs.LoadRest.{Rest, loadedAt}
+use Rattle.reader.specs.LoadRest.{Rest, loadedAt, five-bytes}
 use Rattle.meaning.specs.FileLaws.{Fits, place, agent, action, touch, record-fits, record-same}
 
 module _ (s : List ℕ) (at : ℕ) (d : Cell) (full counted : Set) (came : List ℕ) (many : ℕ) (r : Rest s at d full counted came many) where
@@ -135,7 +136,7 @@ module _ (s : List ℕ) (at : ℕ) (d : Cell) (full counted : Set) (came : List 
     -- ---- a place record
 
     -- the table with one place more
-    abbrev newPlace : ℕ → ℕ → ℕ → Set → Cell
+    abbrev newPlace : ℕ → Name → ℕ → Set → Cell
     newPlace p m i u = putUsed (putPlaces d (set (d .places) i (linkedPlace m p))) u
 
     -- its number was not loaded before, and now it is
@@ -161,18 +162,18 @@ module _ (s : List ℕ) (at : ℕ) (d : Cell) (full counted : Set) (came : List 
         go (yea e) = rw (e, ne-eqb q 0 (λ z. let y = eqb-true q n e in omega arith)) (last (c .land .used q))
         go (nay e) = rw e (plain (loadedAt c q))
 
-    pub has-place : (n p m : ℕ) → Reads (PlaceRecord n p m) → many < 64
+    pub has-place : (n p : ℕ) (m : Name) → Reads (PlaceRecord n p m) → many < 64
     has-place n p m q = go (fits q)
       where
         go : Fits known (PlaceRecord n p m) → many < 64
         go (place one l under new known named) = came-room (r .listed) n l (not-loaded n l new)
 
-    pub rest-place : (n p m i : ℕ) (u : Set) → Reads (PlaceRecord n p m) → i ≡ n % 64 → u ≡ inserted (d .used) n
-        → Rest s (at + 5) (newPlace p m i u) full counted (set came many n) (many + 1)
+    pub rest-place : (n p : ℕ) (m : Name) (i : ℕ) (u : Set) (long : ℕ) → Reads (PlaceRecord n p m) → i ≡ n % 64 → u ≡ inserted (d .used) n
+        → long ≡ placeLength (byteAt s at) → Rest s (at + long) (newPlace p m i u) full counted (set came many n) (many + 1)
     unfolding tableOf addPlace loadRecord
-    rest-place n p m i u q e f = go (fits q)
+    rest-place n p m i u long q e f g = go (fits q)
       where
-        go : Fits known (PlaceRecord n p m) → Rest s (at + 5) (newPlace p m i u) full counted (set came many n) (many + 1)
+        go : Fits known (PlaceRecord n p m) → Rest s (at + long) (newPlace p m i u) full counted (set came many n) (many + 1)
         go (place one l under new known named) = record {
           made = withCell (r .made) (addPlace c n p m);
           turns = more .0;
@@ -180,8 +181,8 @@ module _ (s : List ℕ) (at : ℕ) (d : Cell) (full counted : Set) (came : List 
           listed = came-more (r .listed) n l (not-loaded n l new) (loadedAt (addPlace c n p m)) (also-loaded n one);
           filled = r .filled;
           numbered = r .numbered;
-          enough = omega (arith, r .enough, more .1);
-          rest = turn-is (PlaceRecord n p m) q;
+          enough = omega (arith, r .enough, more .1, five-bytes (byteAt s at) long g);
+          rest = rw g (turn-is (PlaceRecord n p m) q);
         }
 
     -- ---- a touch record

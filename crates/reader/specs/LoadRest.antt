@@ -2,11 +2,11 @@
 -- The loop keeps a table, whose row is made in the end, the set of agents whose rows are full, the set of places whose touches were given,
 -- and the numbers of the places in the order in which they came.
 use mathlib.Core.Path.{_≡_, refl, sym, ap, _∙_}
-use mathlib.Core.Bool.{Bool, true, false, not, _&&_}
+use mathlib.Core.Bool.{Bool, true, false, not, _&&_, cond}
 use mathlib.Core.List.{List}
-use Prim.Native.Nat.{ℕ, suc, _+_, _<_}
+use Prim.Native.Nat.{ℕ, suc, _+_, _<_, _≤_}
 use native.Mathlib.Omega.{arith}
-use lib.Dec.{eqb}
+use lib.Dec.{eqb, lit≤}
 use lib.ListN.{length}
 use Rattle.sets.specs.Word.{wordOf}
 use Rattle.sets.specs.Set.{setOf}
@@ -18,12 +18,28 @@ use Rattle.table.specs.Cell.{State, bareTable, cellOf, tableOf, putOrder}
 use Rattle.table.specs.CellLaws.{back, sized-bare}
 use Rattle.table.specs.declared.Cell.{Cell}
 use Rattle.meaning.specs.declared.Verdict.the-variants.{Accepted, Rejected}
-use Rattle.meaning.specs.File.{isFull, Progress, bareProgress, accepted, refused, loadFrom, load, loaded, loadOf}
+use Rattle.meaning.specs.File.{placeLength, isFull, Progress, bareProgress, accepted, refused, loadFrom, load, loaded, loadOf}
 use Rattle.meaning.specs.FileLaws.{bare-used, load-begun, load-empty}
 
 -- the places that were loaded: all in use but the floor
 abbrev pub loadedAt : State → ℕ → Bool
 loadedAt c q = not (eqb q 0) && c .land .used q
+
+-- a place record has five bytes at least
+pub five-bytes : (kind n : ℕ) → n ≡ placeLength kind → 5 ≤ n
+five-bytes kind n e = rw e (go (eqb kind 6))
+  where
+    go : (b : Bool) → 5 ≤ cond b 11 5
+    go true = lit≤ tt
+    go false = lit≤ tt
+
+-- and eleven at most
+pub eleven-bytes : (kind n : ℕ) → n ≡ placeLength kind → n ≤ 11
+eleven-bytes kind n e = rw e (go (eqb kind 6))
+  where
+    go : (b : Bool) → cond b 11 5 ≤ 11
+    go true = lit≤ tt
+    go false = lit≤ tt
 
 -- ---- the load from an offset on
 

@@ -9,7 +9,7 @@ use Rattle.sets.specs.Set.{member}
 use Rattle.sets.specs.declared.Set.{Set}
 use Rattle.table.specs.Base.{allBelow, tab}
 use Rattle.table.specs.Cell.{none, noPlace, noAction, hasAction, looking, found, asleep, done}
-use Rattle.table.specs.Sound.{actionFits, ready, stageFits}
+use Rattle.table.specs.Sound.{actionFits, ready, stageFits, nameless}
 use Rattle.table.specs.declared.Action.{Action}
 use Rattle.table.specs.declared.Agent.{Agent}
 use Rattle.table.specs.declared.Place.{Place}
@@ -53,17 +53,24 @@ busyFits known used x a kind home chosen first firstLock second secondLock =
 
 -- ---- one place
 
+-- the floor has no name, no keys and no parent, is not linked, and no agent of it is on its way (going)
 unfoldable pub floorStands : Place → Bool → Bool
-floorStands x going = eqb (x .name) 0 && (eqb (x .parent) 0 && (not (eqb (x .way) 0) && not going))
+floorStands x going = nameless (x .name) && (eqb (x .parent) 0 && (not (eqb (x .way) 0) && not going))
 
--- what is asked of the floor
+-- what is asked of the floor; claimed: some agent's stage says that it holds the lock
 unfoldable pub floorFits : Place → ℕ → Bool → Bool → Bool
 floorFits x lock claimed going = (eqb lock none || claimed) && floorStands x going
 
-unfoldable pub childStands : Place → Bool → Bool → Bool
-childStands x known going = leb 1 (x .name) && (known && cond (eqb (x .way) 0) (not going) going)
+-- the floor is in use, and what is asked of it holds beside the locks that agents hold and the places that they move
+unfoldable pub floorSound : Place → ℕ → Set → Set → Set → Bool
+floorSound x lock used claimed going = member used 0 && floorFits x lock (member claimed 0) (member going 0)
 
--- what is asked of any other place in use; going: an agent of it is on its way
+-- any other place has a name, whatever its keys, and a parent or destination in use (known), and an agent of it is on its way (going) just
+-- where it is not linked
+unfoldable pub childStands : Place → Bool → Bool → Bool
+childStands x known going = leb 1 (x .name .name) && (known && cond (eqb (x .way) 0) (not going) going)
+
+-- what is asked of any other place in use
 unfoldable pub childFits : Place → ℕ → Bool → Bool → Bool → Bool
 childFits x lock known claimed going = (eqb lock none || claimed) && childStands x known going
 
@@ -102,12 +109,14 @@ abbrev pub childTest : List Place → List ℕ → Set → Set → Set → ℕ �
 childTest ps ls used claimed going q =
     childFits (getD ps q noPlace) (getD ls q 0) (member used (getD ps q noPlace .parent)) (member claimed q) (member going q)
 
+-- the same of place q, whether or not it is in use and not the floor
 unfoldable pub childAt : List Place → List ℕ → Set → Set → Set → ℕ → Bool
 childAt ps ls used claimed going q = cond (child used q) (childTest ps ls used claimed going q) true
 
+-- what is asked of all places but the floor: each by itself, and that they lead to the floor
 unfoldable pub childrenFit : List Place → List ℕ → Set → Set → Set → Bool
 childrenFit ps ls used claimed going = allBelow (childAt ps ls used claimed going) 64 && zerosOf (farUp 6 (parentsOf ps used))
 
+-- what is asked of all places, the floor first
 unfoldable pub landsFit : List Place → List ℕ → Set → Set → Set → Bool
-landsFit ps ls used claimed going =
-    member used 0 && (floorFits (getD ps 0 noPlace) (getD ls 0 0) (member claimed 0) (member going 0) && childrenFit ps ls used claimed going)
+landsFit ps ls used claimed going = floorSound (getD ps 0 noPlace) (getD ls 0 0) used claimed going && childrenFit ps ls used claimed going

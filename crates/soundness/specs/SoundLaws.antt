@@ -4,6 +4,7 @@
 use mathlib.Core.Path.{_≡_, refl, sym, ap, ap₂, _∙_}
 use mathlib.Core.Logic.{_≢_}
 use mathlib.Core.Bool.{Bool, true, false, not, _&&_, _||_, cond}
+use mathlib.Core.List.{List}
 use Prim.Native.Nat.{ℕ, _<_}
 use native.Mathlib.Omega.{arith}
 use lib.Dec.{eqb, leb}
@@ -17,8 +18,8 @@ use Rattle.table.specs.BaseLaws.{Told, yea, nay, told, and-left, and-right, and
 use Rattle.table.specs.Cell.{none, noPlace, State, cellOf}
 use Rattle.table.specs.Bounds.{Sized}
 use Rattle.table.specs.CellLaws.{in-use}
-use Rattle.table.specs.Sound.{claims, goes, stands, travellersFit, placeFits, placeSound, leads, coreSound}
-use Rattle.soundness.specs.Pass.{parentsOf, farUp, zerosOf, floorStands, floorFits, childStands, childFits, childTest, childAt, childrenFit, landsFit}
+use Rattle.table.specs.Sound.{claims, goes, nameless, stands, travellersFit, placeFits, placeSound, leads, coreSound}
+use Rattle.soundness.specs.Pass.{parentsOf, farUp, zerosOf, floorStands, floorFits, floorSound, childStands, childFits, childTest, childAt, childrenFit, landsFit}
 use Rattle.soundness.specs.LeadLaws.{lead-same}
 use Rattle.soundness.specs.PassLaws.{Passed, passed-fit, passed-held, passed-moved}
 use Rattle.table.specs.declared.Cell.{Cell}
@@ -57,6 +58,12 @@ all-first P Q n l z h = same-test (Q 0 && allBelow P n) (allBelow Q n)
 
 -- ---- places
 
+-- where the floor is not as it should be the whole is not, and where it is the other places decide
+pub floor-decides : (ps : List Place) (ls : List ℕ) (used claimed going : Set) (b : Bool)
+    → floorSound (getD ps 0 noPlace) (getD ls 0 0) used claimed going ≡ b → (b && childrenFit ps ls used claimed going) ≡ landsFit ps ls used claimed going
+unfolding landsFit
+floor-decides ps ls used claimed going b e = sym (ap (λ (y : Bool). y && childrenFit ps ls used claimed going) e)
+
 module _ (c : Cell) (z : Sized c) where
   abbrev u : ℕ → Bool
   u = has (c .used .bits)
@@ -78,30 +85,30 @@ module _ (c : Cell) (z : Sized c) where
 
     pub floor-parent : place 0 .parent ≡ 0
     floor-parent = eqb-true (place 0 .parent) 0 (and-left (eqb (place 0 .parent) 0) (not (eqb (place 0 .way) 0))
-        (and-right (eqb (place 0 .name) 0) (eqb (place 0 .parent) 0 && not (eqb (place 0 .way) 0)) (stands-at 0 floor)))
+        (and-right (nameless (place 0 .name)) (eqb (place 0 .parent) 0 && not (eqb (place 0 .way) 0)) (stands-at 0 floor)))
 
     pub closed-of : (q : ℕ) → has (c .used .bits) q ≡ true → has (c .used .bits) (getD (c .places) q noPlace .parent) ≡ true
     closed-of q e = go (told (eqb q 0))
       where
         go : Told (eqb q 0) → u (place q .parent) ≡ true
         go (yea t) = ap (λ (n : ℕ). u (place n .parent)) (eqb-true q 0 t) ∙ ap u floor-parent ∙ floor
-        go (nay t) = and-right (leb 1 (place q .name)) (u (place q .parent)) (sym (rw t) ∙ stands-at q e)
+        go (nay t) = and-right (leb 1 (place q .name .name)) (u (place q .parent)) (sym (rw t) ∙ stands-at q e)
 
   module _ (claimed going : Set) (held : (q : ℕ) → q < 64 → member claimed q ≡ anyBelow (claims w q) 64)
       (moved : (q : ℕ) → q < 64 → bit (member going q) ≡ countBelow (goes w q) 64) where
     floor-same : floorFits (place 0) (getD (c .locks) 0 0) (member claimed 0) (member going 0) ≡ placeFits w 0
     unfolding floorFits floorStands placeFits cellOf
     floor-same = ap₂ _&&_ (ap (_||_ (eqb (getD (c .locks) 0 0) none)) (held 0 (omega arith)))
-        (ap (λ (b : Bool). eqb (place 0 .name) 0 && (eqb (place 0 .parent) 0 && (not (eqb (place 0 .way) 0) && b))) (none-moved (member going 0) ∙ ap (λ (n : ℕ). eqb n 0) (moved 0 (omega arith)))
-        ∙ ap (_&&_ (eqb (place 0 .name) 0)) (and-assoc (eqb (place 0 .parent) 0) (not (eqb (place 0 .way) 0)) (eqb (countBelow (goes w 0) 64) 0))
-        ∙ and-assoc (eqb (place 0 .name) 0) (eqb (place 0 .parent) 0 && not (eqb (place 0 .way) 0)) (eqb (countBelow (goes w 0) 64) 0))
+        (ap (λ (b : Bool). nameless (place 0 .name) && (eqb (place 0 .parent) 0 && (not (eqb (place 0 .way) 0) && b))) (none-moved (member going 0) ∙ ap (λ (n : ℕ). eqb n 0) (moved 0 (omega arith)))
+        ∙ ap (_&&_ (nameless (place 0 .name))) (and-assoc (eqb (place 0 .parent) 0) (not (eqb (place 0 .way) 0)) (eqb (countBelow (goes w 0) 64) 0))
+        ∙ and-assoc (nameless (place 0 .name)) (eqb (place 0 .parent) 0 && not (eqb (place 0 .way) 0)) (eqb (countBelow (goes w 0) 64) 0))
 
     child-same : (q : ℕ) → q < 64 → q ≢ 0 → childTest (c .places) (c .locks) (c .used) claimed going q ≡ placeFits w q
     unfolding childFits childStands placeFits cellOf
     child-same q l n = rw (ne-eqb q 0 n)
         (ap₂ _&&_ (ap (_||_ (eqb (getD (c .locks) q 0) none)) (held q l))
-        (ap (λ (b : Bool). leb 1 (place q .name) && (u (place q .parent) && b)) (one-moved (member going q) (eqb (place q .way) 0) ∙ ap (λ (k : ℕ). eqb k (cond (eqb (place q .way) 0) 0 1)) (moved q l))
-        ∙ and-assoc (leb 1 (place q .name)) (u (place q .parent)) (eqb (countBelow (goes w q) 64) (cond (eqb (place q .way) 0) 0 1))))
+        (ap (λ (b : Bool). leb 1 (place q .name .name) && (u (place q .parent) && b)) (one-moved (member going q) (eqb (place q .way) 0) ∙ ap (λ (k : ℕ). eqb k (cond (eqb (place q .way) 0) 0 1)) (moved q l))
+        ∙ and-assoc (leb 1 (place q .name .name)) (u (place q .parent)) (eqb (countBelow (goes w q) 64) (cond (eqb (place q .way) 0) 0 1))))
 
     places-same : u 0 ≡ true → (floorFits (place 0) (getD (c .locks) 0 0) (member claimed 0) (member going 0) && allBelow (childAt (c .places) (c .locks) (c .used) claimed going) 64) ≡ allBelow (placeSound w) 64
     unfolding childAt
@@ -116,11 +123,12 @@ module _ (c : Cell) (z : Sized c) where
 
   -- the whole, once nobody is left
   pub lands-same : (claimed going rest : Set) → Passed c claimed going rest → rest .bits ≡ 0 → landsFit (c .places) (c .locks) (c .used) claimed going ≡ coreSound (cellOf c)
-  unfolding landsFit childrenFit coreSound cellOf
+  unfolding landsFit floorSound childrenFit coreSound cellOf
   lands-same claimed going rest p e =
       let held = passed-held c z claimed going rest p e in
       let moved = passed-moved c z claimed going rest p e in
-      and-cong (u 0) _ _ (λ f.
+      sym (and-assoc (u 0) (floorFits (place 0) (getD (c .locks) 0 0) (member claimed 0) (member going 0)) (childrenFit (c .places) (c .locks) (c .used) claimed going))
+      ∙ and-cong (u 0) _ _ (λ f.
       and-assoc (floorFits (place 0) (getD (c .locks) 0 0) (member claimed 0) (member going 0)) (allBelow (childAt (c .places) (c .locks) (c .used) claimed going) 64) (zerosOf (farUp 6 (parentsOf (c .places) (c .used))))
       ∙ ap (λ (b : Bool). b && zerosOf (farUp 6 (parentsOf (c .places) (c .used)))) (places-same claimed going held moved f)
       ∙ and-cong (allBelow (placeSound w) 64) _ _ (λ h. lead-same (c .places) (c .used) (in-use c z) (floor-parent f h) (closed-of f h))

@@ -1,12 +1,14 @@
 // What soundness asks of the places: each by itself, and that all lead to the floor.
 use sets::Set;
+use table::Name;
 use table::Place;
 use table::at;
 ghost use mathlib.Core.Path.{_≡_};
 ghost use mathlib.Core.Bool.{_&&_};
 ghost use Prim.Native.Nat.{_<_};
 ghost use lib.Dec.{eqb};
-ghost use Rattle.soundness.specs.Pass.{Flat, floorStands, floorFits, childStands, childFits, childrenFit, landsFit, doubledOf, zerosOf, farUp};
+ghost use Rattle.table.specs.Sound.{nameless};
+ghost use Rattle.soundness.specs.Pass.{Flat, floorStands, floorFits, floorSound, childStands, childFits, doubledOf, zerosOf, farUp};
 
 // Whether the floor is as it should be, with its lock.
 fn floor_fits(x: Place, lock: u8, claimed: bool, going: bool) -> bool
@@ -23,10 +25,44 @@ fn floor_fits(x: Place, lock: u8, claimed: bool, going: bool) -> bool
     }
 }
 
+// Whether the floor is in use and as it should be, beside the locks that agents hold and the places that they move.
+pub(super) fn floor_sound(x: Place, lock: u8, used: Set, claimed: Set, going: Set) -> bool
+    ensures { λ r. ⌜ r ≡ floorSound x lock used claimed going ⌝ }
+{
+    if used.has(0) {
+        let held = claimed.has(0);
+        let moved = going.has(0);
+        floor_fits(x, lock, held, moved)
+    } else {
+        false
+    }
+}
+
+// Whether a name and its three keys are 0.
+fn is_nameless(x: Name) -> bool
+    ensures { λ r. ⌜ r ≡ nameless x ⌝ }
+{
+    if x.name == 0 {
+        if x.entering == 0 {
+            if x.exiting == 0 {
+                x.opening == 0
+            } else {
+                false
+            }
+        } else {
+            false
+        }
+    } else {
+        false
+    }
+}
+
+// Whether the floor has no name, no keys and no parent, is not linked, and none of its agents is on its way.
 fn floor_stands(x: Place, going: bool) -> bool
     ensures { λ r. ⌜ r ≡ floorStands x going ⌝ }
 {
-    if x.name == 0 {
+    let n = x.name;
+    if is_nameless(n) {
         if x.parent == 0 {
             if x.way == 0 {
                 return false;
@@ -41,7 +77,7 @@ fn floor_stands(x: Place, going: bool) -> bool
 }
 
 // Whether any other place in use is as it should be. known: its parent is in use.
-fn child_fits(x: Place, lock: u8, known: bool, claimed: bool, going: bool) -> bool
+pub(super) fn child_fits(x: Place, lock: u8, known: bool, claimed: bool, going: bool) -> bool
     ensures { λ r. ⌜ r ≡ childFits x lock known claimed going ⌝ }
 {
     if lock != 64 {
@@ -55,10 +91,11 @@ fn child_fits(x: Place, lock: u8, known: bool, claimed: bool, going: bool) -> bo
     }
 }
 
+// Whether any other place has a name and a parent in use, and an agent of it is on its way just where it is not linked.
 fn child_stands(x: Place, known: bool, going: bool) -> bool
     ensures { λ r. ⌜ r ≡ childStands x known going ⌝ }
 {
-    if x.name < 1 {
+    if x.name.name < 1 {
         return false;
     }
     if known {
@@ -108,7 +145,7 @@ fn doubled(up: [u8; 64], high: u8) -> Far
 }
 
 // Whether 64 steps up lead each place to the floor: one step, doubled six times, unless all are there before.
-fn all_lead(up: [u8; 64], high: u8, top: u8) -> bool
+pub(super) fn all_lead(up: [u8; 64], high: u8, top: u8) -> bool
     requires { ⌜ Flat up high ⌝ }
     requires { ⌜ high < 64 ⌝ }
     requires { ⌜ eqb top 0 ≡ zerosOf up ⌝ }
@@ -128,52 +165,4 @@ fn all_lead(up: [u8; 64], high: u8, top: u8) -> bool
         n += 1;
     }
     most == 0
-}
-
-// Whether the places in use are as they should be, beside the locks that agents hold and the places that they move, and
-// lead to the floor.
-pub(super) fn lands_fit(ps: [Place; 64], ls: [u8; 64], used: Set, claimed: Set, going: Set) -> bool
-    ensures { λ r. ⌜ r ≡ landsFit ps ls used claimed going ⌝ }
-{
-    if used.has(0) {
-        let x = ps[0];
-        let lock = ls[0];
-        let held = claimed.has(0);
-        let moved = going.has(0);
-        if floor_fits(x, lock, held, moved) {
-            children_fit(ps, ls, used, claimed, going)
-        } else {
-            false
-        }
-    } else {
-        false
-    }
-}
-
-// The same for all but the floor, which is as it should be.
-fn children_fit(ps: [Place; 64], ls: [u8; 64], used: Set, claimed: Set, going: Set) -> bool
-    ensures { λ r. ⌜ r ≡ childrenFit ps ls used claimed going ⌝ }
-{
-    let mut up: [u8; 64] = [0; 64];
-    let mut top: u8 = 0;
-    let mut high: u8 = 0;
-    let mut rest = used.remove(0);
-    while rest.bits != 0 {
-        let q = rest.first();
-        rest = rest.rest();
-        let k = q as usize;
-        let x = ps[k];
-        let lock = ls[k];
-        let known = used.has(x.parent);
-        let held = claimed.has(q);
-        let moved = going.has(q);
-        if child_fits(x, lock, known, held, moved) {
-            up[k] = x.parent;
-            top = joined(top, x.parent);
-            high = q;
-        } else {
-            return false;
-        }
-    }
-    all_lead(up, high, top)
 }

@@ -12,7 +12,7 @@ use Rattle.table.specs.declared.Place.{Place}
 use Rattle.table.specs.declared.Agent.{Agent}
 use Rattle.meaning.specs.declared.Word.the-variants.{Looked, Back, Slept, Asleep, Done}
 use Rattle.meaning.specs.Update.{atStage}
-use Rattle.meaning.specs.Step.{Outcome, choice, stays, fires, destinationOf, still, turn, take, release}
+use Rattle.meaning.specs.Step.{Outcome, named, choice, stays, fires, destinationOf, still, turn, take, release}
 use Rattle.moves.specs.Motions.{shifted}
 use Rattle.moves.specs.declared.Motion.the-variants.{Leave, Arrive, Dissolve}
 use Rattle.stages.specs.declared.Change.{Change}
@@ -22,9 +22,9 @@ use Rattle.stages.specs.declared.Change.the-variants.{Still, Turn, Take,
 abbrev pub rowless : List Place → Set → Land
 rowless ps used = landOf ps used []
 
--- q is a place linked to p and named n
-abbrev pub childNamed : Land → ℕ → ℕ → ℕ → Bool
-childNamed l p n q = linkedTo l q p && eqb (l .place q .name) n
+-- q is a place linked to p, and n is its key for actions of this kind
+abbrev pub childNamed : ℕ → Land → ℕ → ℕ → ℕ → Bool
+childNamed kind l p n q = linkedTo l q p && named kind l q n
 
 -- what a change of agent x, which is a, makes of a cell
 abbrev pub carried : State → ℕ → Agent → Change → Outcome

@@ -1,4 +1,4 @@
--- The children of a place by their name, and the walk that takes out those that something is on its way to. Assumes nothing.
+-- The children of a place by a key, and the walk that takes out those that something is on its way to. Assumes nothing.
 -- Idea: a place that is not in use is on its way nowhere, so what holds below one place in use holds up to the next.
 use mathlib.Core.Path.{_≡_, refl, sym, ap, ap₂, _∙_}
 use mathlib.Core.Logic.{_≢_, _⊎_, inl, inr}
@@ -15,16 +15,16 @@ use Rattle.sets.specs.declared.Set.{Set}
 use Rattle.table.specs.Base.{anyBelow}
 use Rattle.table.specs.BaseLaws.{eq?, any-rest}
 use Rattle.table.specs.Cell.{Land, linkedTo, travels}
-use Rattle.meaning.specs.Step.{onWayTo, awaited}
+use Rattle.meaning.specs.Step.{onWayTo, awaited, named}
 use Rattle.stages.specs.Changes.{childNamed}
 
 -- ---- children
 
--- the children named n are those in use that stand so and are named so
-pub child-split : (l : Land) (p n : ℕ)
-    → setOf (λ q. l .used q && (eqb (l .place q .way) 0 && eqb (l .place q .parent) p && eqb (l .place q .name) n)) ≡ setOf (childNamed l p n)
+-- the children whose key for this kind is n are those in use that stand so and have this key
+pub child-split : (kind : ℕ) (l : Land) (p n : ℕ)
+    → setOf (λ q. l .used q && (eqb (l .place q .way) 0 && eqb (l .place q .parent) p && named kind l q n)) ≡ setOf (childNamed kind l p n)
 unfolding linkedTo
-child-split l p n = set-ext _ _ (λ q _. go (l .used q) (eqb (l .place q .way) 0 && eqb (l .place q .parent) p) (eqb (l .place q .name) n))
+child-split kind l p n = set-ext _ _ (λ q _. go (l .used q) (eqb (l .place q .way) 0 && eqb (l .place q .parent) p) (named kind l q n))
   where
     go : (u v w : Bool) → (u && (v && w)) ≡ ((u && v) && w)
     go true v w = refl

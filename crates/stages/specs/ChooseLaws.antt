@@ -32,10 +32,10 @@ chosen-set row f w = ap (λ (g : ℕ → Bool). chosenOf row g w) (fun-ext (memb
 -- ---- the set of each kind
 
 module _ (l : Land) (kind n home p : ℕ) where
-  -- enter: the children named n but its own place
-  pub enter-set : eqb kind enterKind ≡ true → removed (setOf (childNamed l p n)) home ≡ setOf (qualifies l kind n home p)
+  -- enter: the children whose key for it is n, but its own place
+  pub enter-set : eqb kind enterKind ≡ true → removed (setOf (childNamed enterKind l p n)) home ≡ setOf (qualifies l kind n home p)
   unfolding qualifies entersAt
-  enter-set e = set-ext _ _ (λ q b. ap (λ (x : Bool). not (eqb q home) && x) (member-set (childNamed l p n) q b) ∙ go (eqb q home) (linkedTo l q p) (named enterKind l q n) ∙ sym (rw e))
+  enter-set e = set-ext _ _ (λ q b. ap (λ (x : Bool). not (eqb q home) && x) (member-set (childNamed enterKind l p n) q b) ∙ go (eqb q home) (linkedTo l q p) (named enterKind l q n) ∙ sym (rw e))
     where
       go : (h x y : Bool) → (not h && (x && y)) ≡ (x && (y && not h))
       go true true true = refl
@@ -45,7 +45,7 @@ module _ (l : Land) (kind n home p : ℕ) where
       go false true false = refl
       go false false y = refl
 
-  -- exit: p itself, if it is linked and named n
+  -- exit: p itself, if it is linked and its key for it is n
   pub exit-set : (b : Bool) → b ≡ exitsFrom l n p → eqb kind enterKind ≡ false → eqb kind exitKind ≡ true → insertedIf emptySet p b ≡ setOf (qualifies l kind n home p)
   unfolding qualifies
   exit-set b t e f = go b ∙ set-ext _ _ (λ q _. ap (λ (x : Bool). eqb q p && x) t ∙ sym (rw (e, f)))
@@ -62,11 +62,11 @@ module _ (l : Land) (kind n home p : ℕ) where
           here true = refl
           here false = refl
 
-  -- open: the children named n that nothing is on its way to
+  -- open: the children whose key for it is n and that nothing is on its way to
   pub open-set : eqb kind enterKind ≡ false → eqb kind exitKind ≡ false
-      → setOf (λ q. member (setOf (childNamed l p n)) q && not (awaited l q)) ≡ setOf (qualifies l kind n home p)
+      → setOf (λ q. member (setOf (childNamed openKind l p n)) q && not (awaited l q)) ≡ setOf (qualifies l kind n home p)
   unfolding qualifies opensAt
-  open-set e f = set-ext _ _ (λ q b. ap (λ (x : Bool). x && not (awaited l q)) (member-set (childNamed l p n) q b) ∙ go (linkedTo l q p) (named openKind l q n) (not (awaited l q)) ∙ sym (rw (e, f)))
+  open-set e f = set-ext _ _ (λ q b. ap (λ (x : Bool). x && not (awaited l q)) (member-set (childNamed openKind l p n) q b) ∙ go (linkedTo l q p) (named openKind l q n) (not (awaited l q)) ∙ sym (rw (e, f)))
     where
       go : (x y z : Bool) → ((x && y) && z) ≡ (x && (y && z))
       go true y z = refl

@@ -16,7 +16,7 @@ use Rattle.table.specs.declared.Place.{Place}
 use Rattle.table.specs.declared.Action.{Action}
 use Rattle.table.specs.declared.Agent.{Agent}
 use Rattle.table.specs.Cell.{noPlace, noAction, noAgent}
-use Rattle.table.specs.Bounds.{Sized, Names16}
+use Rattle.table.specs.Bounds.{Sized, Name16, Names16}
 use Rattle.table.proofs.Place as place
 use Rattle.table.proofs.Action as action
 use Rattle.table.proofs.Agent as agent
@@ -49,7 +49,10 @@ each-at f to P d p h (x ∷ xs) (u ∷ us) s (suc i) = each-at f to P d p h xs u
 
 pub names16 : (t : Cell) → Good t → Names16 t
 names16 t g = record {
-  place = each-at (place.the-field .row .own) (place.the-type .to) (λ (y : Place). y .name < 65536) noPlace (lit< tt) (λ y u s. s .1 .1 .0 .1)
+  place = each-at (place.the-field .row .own) (place.the-type .to) (λ (y : Place). Name16 (y .name)) noPlace
+      (record { name = lit< tt; entering = lit< tt; exiting = lit< tt; opening = lit< tt })
+      (λ y u s. let keys = s .1 .1 .0 .1 .1 in
+      record { name = keys .0 .1; entering = keys .1 .0 .1; exiting = keys .1 .1 .0 .1; opening = keys .1 .1 .1 .0 .1 })
       (t .places) (g .1 .1 .0 .0) (g .1 .1 .0 .1 .1);
   action = λ x j. each-at (agent.the-field .row .own) (agent.the-type .to) (λ (a : Agent). (i : ℕ) → getD (a .actions) i noAction .name < 65536) noAgent (λ i. lit< tt)
       (λ a u s. let row = s .1 .1 .1 .1 .1 .1 .1 .1 .0 in

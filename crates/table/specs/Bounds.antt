@@ -4,6 +4,7 @@ use mathlib.Core.Bool.{false}
 use Prim.Native.Nat.{ℕ, _^_, _≤_, _<_}
 use lib.ListN.{length, getD}
 use Rattle.table.specs.Cell.{noPlace, noAction, noAgent, State}
+use Rattle.table.specs.declared.Name.{Name}
 use Rattle.table.specs.declared.Cell.{Cell}
 
 -- a table's arrays have 64 elements and its sets are words: so it is of every value of the struct. The row of places is a list in the cell as in
@@ -16,9 +17,16 @@ pub record Sized (t : Cell) : Type 0 where
   pub given : t .given .bits < 2 ^ 64
   pub touches : length (t .touches) ≡ 64
 
--- its names have 16 bits: so it is of every value of the struct too
+-- a name and its keys have 16 bits
+pub record Name16 (x : Name) : Type 0 where
+  pub name : x .name < 65536
+  pub entering : x .entering < 65536
+  pub exiting : x .exiting < 65536
+  pub opening : x .opening < 65536
+
+-- the names and keys of a table have 16 bits, and so have the numbers of its actions: so it is of every value of the struct too
 pub record Names16 (t : Cell) : Type 0 where
-  pub place : (q : ℕ) → getD (t .places) q noPlace .name < 65536
+  pub place : (q : ℕ) → Name16 (getD (t .places) q noPlace .name)
   pub action : (x j : ℕ) → getD (getD (t .agents) x noAgent .actions) j noAction .name < 65536
 
 -- at and past 64 a cell reads as a table does there

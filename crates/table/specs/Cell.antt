@@ -9,6 +9,7 @@ use Rattle.sets.specs.Set.{member}
 use Rattle.sets.specs.declared.Set.{Set}
 use Rattle.order.specs.Row.{countingRow}
 use Rattle.table.specs.Base.{tab}
+use Rattle.table.specs.declared.Name.{Name}
 use Rattle.table.specs.declared.Place.{Place}
 use Rattle.table.specs.declared.Action.{Action}
 use Rattle.table.specs.declared.Agent.{Agent}
@@ -53,9 +54,13 @@ done = 8
 
 -- ---- empty values
 
+-- no name and no keys: "0 means nobody may" (document 02, W6)
+abbrev pub noName : Name
+noName = record { name = 0; entering = 0; exiting = 0; opening = 0 }
+
 -- a place that is not in use
 abbrev pub noPlace : Place
-noPlace = record { name = 0; parent = 0; way = 0 }
+noPlace = record { name = noName; parent = 0; way = 0 }
 
 -- no action: kind 0
 abbrev pub noAction : Action
@@ -69,9 +74,9 @@ noAgent = record { home = 0; stage = looking; remembered = 0; chosen = 0; next =
 abbrev pub freshAgent : Agent
 freshAgent = record { home = 0; stage = done; remembered = 0; chosen = 0; next = 0; count = 0; actions = replicate 16 noAction }
 
--- "Place 0 is the floor: name 0, no parent, never moves": it is not linked
+-- "Place 0 is the floor: name 0, no parent, never moves": it is not linked; of its keys "the floor's are 0" (document 02, W6)
 abbrev pub floorPlace : Place
-floorPlace = record { name = 0; parent = 0; way = 1 }
+floorPlace = record { name = noName; parent = 0; way = 1 }
 
 -- the number that stands for no place and no agent; a lock that is free holds it
 abbrev pub none : ℕ
@@ -189,9 +194,9 @@ lastKind = 3
 abbrev pub looksHome : ℕ → Bool
 looksHome kind = eqb kind openKind
 
--- what the number of an action of this kind is compared with, on a place of this name: the name
-abbrev pub answersTo : ℕ → ℕ → ℕ
-answersTo kind name = name
+-- "An action's number is compared with the key of its kind on the place entered, left or opened" (document 02, W6): the key of a kind
+abbrev pub keyOf : ℕ → Name → ℕ
+keyOf kind x = cond (eqb kind enterKind) (x .entering) (cond (eqb kind exitKind) (x .exiting) (x .opening))
 
 -- an action is left
 abbrev pub hasAction : Agent → Bool

@@ -15,6 +15,7 @@ use Rattle.table.specs.Cell.{looking, holding, holdingBoth, onWay, onWay
 use Rattle.table.specs.Cell.{noAction, none, Land, State, hasAction, kindOf, linkedTo, enterKind, exitKind, openKind, lastKind, looksHome}
 use Rattle.table.specs.declared.Action.{Action}
 use Rattle.table.specs.declared.Agent.{Agent}
+use Rattle.table.specs.declared.Name.{Name}
 use Rattle.table.specs.declared.Place.{Place}
 
 -- ---- actions in range
@@ -118,9 +119,13 @@ goes c q x = c .given x && eqb q (goingFrom (c .agent x))
 abbrev pub travellersFit : ℕ → ℕ → ℕ → Bool
 travellersFit q way n = eqb n (cond (eqb q 0) 0 (cond (eqb way 0) 0 1))
 
--- the floor has name 0 and no parent and is not linked; any other place has a name, and a parent or destination in use
+-- "name 0", and of the keys "the floor's are 0" (document 02, W6)
+abbrev pub nameless : Name → Bool
+nameless x = eqb (x .name) 0 && (eqb (x .entering) 0 && (eqb (x .exiting) 0 && eqb (x .opening) 0))
+
+-- the floor has no name, no keys and no parent and is not linked; any other place has a name, and a parent or destination in use
 abbrev pub stands : ℕ → Place → Bool → Bool
-stands q x known = cond (eqb q 0) (eqb (x .name) 0 && (eqb (x .parent) 0 && not (eqb (x .way) 0))) (leb 1 (x .name) && known)
+stands q x known = cond (eqb q 0) (nameless (x .name) && (eqb (x .parent) 0 && not (eqb (x .way) 0))) (leb 1 (x .name .name) && known)
 
 -- a place in use: its lock is free or some agent's stage says that it holds it
 unfoldable pub placeFits : State → ℕ → Bool

@@ -3,16 +3,26 @@
 /// No place and no agent; the lock of a place that is free.
 pub const NONE: u8 = 64;
 
+/// A name with its keys: what an enter, an exit and an open are compared with; 0 is compared with none.
+#[repr(C)]
+#[derive(Clone, Copy, PartialEq, Eq, Debug)]
+pub struct Name {
+    pub name: u16,
+    pub entering: u16,
+    pub exiting: u16,
+    pub opening: u16,
+}
+
 /// One place. Way 0: linked to its parent; otherwise on its way to it, or the floor.
 #[repr(C)]
 #[derive(Clone, Copy, PartialEq, Eq, Debug)]
 pub struct Place {
-    pub name: u16,
+    pub name: Name,
     pub parent: u8,
     pub way: u8,
 }
 
-/// An action: 1 enter, 2 exit, 3 open, and a name.
+/// An action: 1 enter, 2 exit, 3 open, and the number that the key of that kind must be.
 #[repr(C)]
 #[derive(Clone, Copy, PartialEq, Eq, Debug)]
 pub struct Action {
@@ -50,12 +60,36 @@ pub struct Cell {
     pub order: [u8; 64],
 }
 
-const _: () = assert!(size_of::<Place>() == 4 && size_of::<Agent>() == 70 && size_of::<Cell>() == 5392);
+const _: () = assert!(size_of::<Place>() == 10 && size_of::<Agent>() == 70 && size_of::<Cell>() == 5776);
+
+impl Name {
+    /// No name and no keys: the floor's, and that of a number that is not in use.
+    pub const NONE: Name = Name { name: 0, entering: 0, exiting: 0, opening: 0 };
+
+    /// A name whose keys all equal it.
+    pub fn plain(name: u16) -> Name {
+        Name { name, entering: name, exiting: name, opening: name }
+    }
+
+    /// The key of a kind of action.
+    pub fn key(&self, kind: u8) -> u16 {
+        match kind {
+            1 => self.entering,
+            2 => self.exiting,
+            _ => self.opening,
+        }
+    }
+}
+
+impl Place {
+    /// A place that is not in use.
+    pub const NONE: Place = Place { name: Name::NONE, parent: 0, way: 0 };
+}
 
 impl Cell {
     /// A bare floor: one place, no lock held, no agents.
     pub const BARE: Cell = {
-        let mut places = [Place { name: 0, parent: 0, way: 0 }; 64];
+        let mut places = [Place::NONE; 64];
         places[0].way = 1;
         let actions = [Action { kind: 0, name: 0 }; 16];
         let agent = Agent { home: 0, stage: 8, remembered: 0, chosen: 0, next: 0, count: 0, actions };

@@ -141,8 +141,8 @@ pub fn chain() -> Sketch {
     sketch
 }
 
-/// The cell of the longest file and of the longest listing: 63 places and 64 agents with sixteen actions, all on the floor, and the touches
-/// of every place.
+/// The cell of the longest file and of the longest listing without keys of their own: 63 places and 64 agents with sixteen actions, all on
+/// the floor, and the touches of every place.
 pub fn longest() -> Sketch {
     let touches = (0..64).map(|place| (place, u32::MAX)).collect();
     Sketch { places: vec![(0, 65_535); 63], agents: vec![(0, vec![enter(65_535); 16]); 64], touches }

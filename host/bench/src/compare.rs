@@ -1,6 +1,6 @@
 //! The three keepers side by side: the same answers, cells and buffers, or the benchmark stops.
 
-use crate::cell::{members, Cell, MOST_TOUCHES};
+use crate::cell::{members, Cell, Name, MOST_TOUCHES};
 use crate::cells::{random, Random};
 use crate::jobs::{Job, Room, Workload};
 use crate::keeper::{Keeper, Proved};
@@ -107,6 +107,9 @@ fn one_random(numbers: &mut Random, damaged: bool) -> Result<usize, String> {
     let mut sketch = random(numbers, places, agents, actions, names, 6);
     sketch.touches = (0..=places).filter(|_| numbers.below(3) == 0).map(|place| (place as u8, place as u32 * 67_000_000)).collect();
     let mut file = renumbered(numbers, sketch.file());
+    if numbers.below(2) == 0 {
+        file = keyed(numbers, &file, names);
+    }
     let mut cells = load(&file)?;
     let mut touched = 0;
     for i in 0..300 {
@@ -121,7 +124,7 @@ fn one_random(numbers: &mut Random, damaged: bool) -> Result<usize, String> {
         step(&mut cells, agent as u8, numbers.below(70) as u8)?;
         if i % 50 == 0 {
             asks(&cells[0])?;
-            list(&cells[0], 13_043)?;
+            list(&cells[0], 14_177)?;
         }
     }
     let at = numbers.below(file.len());
@@ -130,21 +133,48 @@ fn one_random(numbers: &mut Random, damaged: bool) -> Result<usize, String> {
     Ok(300 + 2 * touched + 6 * 3 + 2)
 }
 
+/// The length of a record of this kind.
+fn length(kind: u8) -> usize {
+    match kind {
+        1 | 3 => 5,
+        2 => 3,
+        5 => 6,
+        6 => 11,
+        _ => 1,
+    }
+}
+
+/// The file with keys for some of its places: numbers that actions have too, and 0.
+fn keyed(numbers: &mut Random, file: &[u8], names: usize) -> Vec<u8> {
+    let mut keyed = Vec::new();
+    let mut at = 0;
+    while at < file.len() {
+        let (kind, body) = (file[at], &file[at + 1..at + length(file[at])]);
+        if kind == 1 && numbers.below(2) == 0 {
+            let keys: Vec<u8> = (0..3).flat_map(|_| [numbers.below(names + 1) as u8, 0]).collect();
+            keyed.extend([&[6], body, &keys].concat());
+        } else {
+            keyed.extend([&[kind], body].concat());
+        }
+        at += length(kind);
+    }
+    keyed
+}
+
 /// The file with other numbers for its places, so that they stand in it in another order than that of their numbers.
 fn renumbered(numbers: &mut Random, mut file: Vec<u8>) -> Vec<u8> {
     let mut other: [u8; 64] = std::array::from_fn(|q| q as u8);
     (2..64).for_each(|q| other.swap(q, 1 + numbers.below(q)));
     let mut at = 0;
     while at < file.len() {
-        let (length, places) = match file[at] {
-            1 => (5, at + 1..at + 3),
-            2 => (3, at + 2..at + 3),
-            3 => (5, at..at),
-            5 => (6, at + 1..at + 2),
-            _ => (1, at..at),
+        let places = match file[at] {
+            1 => at + 1..at + 3,
+            2 => at + 2..at + 3,
+            5 => at + 1..at + 2,
+            _ => at..at,
         };
         file[places].iter_mut().for_each(|q| *q = other[*q as usize]);
-        at += length;
+        at += length(file[at]);
     }
     file
 }
@@ -156,10 +186,10 @@ fn many_touches(numbers: &mut Random, cell: &Cell) -> u64 {
     numbers.one_of(&[0, left, left + 1, MOST_TOUCHES, MOST_TOUCHES + 1, 1 << 63, u64::MAX])
 }
 
-/// One byte or one count of all cells becomes another, mostly one that a test looks at, or two numbers in the row change places.
+/// One byte, one count or one key of all cells becomes another, mostly one that a test looks at, or two numbers in the row change places.
 fn damage(numbers: &mut Random, cells: &mut [Cell; 3]) {
     let (i, value) = (numbers.below(64), [numbers.below(10), numbers.below(66), numbers.below(256)][numbers.below(3)]);
-    let field = numbers.below(13);
+    let field = numbers.below(14);
     let other = numbers.below(64);
     let touches = many_touches(numbers, &cells[0]);
     for cell in cells {
@@ -167,6 +197,10 @@ fn damage(numbers: &mut Random, cells: &mut [Cell; 3]) {
             10 => cell.touches[i] = touches,
             11 => cell.order[i] = value as u8,
             12 => cell.order.swap(i, other),
+            13 => {
+                let Name { name, entering, exiting, opening } = &mut cell.places[i % 8].name;
+                *[name, entering, exiting, opening][other % 4] = value as u16;
+            }
             _ => {}
         }
         let (place, agent) = (&mut cell.places[i], &mut cell.agents[i]);

@@ -121,7 +121,7 @@ fn busy(sketch: Sketch, before: usize) -> Job {
 pub fn workloads() -> Vec<Workload> {
     let boxed = |sketch: &Sketch| Box::new(sketch.cell());
     let load = |sketch: Sketch| Job::Load { file: sketch.file() };
-    let list = |sketch: Sketch| Job::List { cell: boxed(&sketch), room: 13_043 };
+    let list = |sketch: Sketch| Job::List { cell: boxed(&sketch), room: 14_177 };
     let check = |sketch: Sketch| Job::Check { cell: boxed(&sketch) };
     let idle = |sketch: Sketch| Job::Idle { cell: boxed(&sketch) };
     let touch = |sketch: Sketch| Job::Touch { order: cells::touching(&sketch.cell(), 400), start: boxed(&sketch) };

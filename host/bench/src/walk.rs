@@ -4,7 +4,7 @@ use crate::cell::Cell;
 use crate::keeper::Keeper;
 
 /// A buffer of this size holds every walk: 16,384 lines of at most 16 bytes, and two lines with a listing.
-pub const ROOM: usize = 16_384 * 16 + 2 * 13_100;
+pub const ROOM: usize = 16_384 * 16 + 2 * 14_200;
 
 /// The pairs of an order that count.
 const PAIRS: usize = 16_384;

@@ -72,7 +72,7 @@ pub fn cases() -> Vec<Case> {
         refused(&[3, 0x40, 9, 0, 0, 4], 14, 0),
         refused(&[5], 1, 0),
         refused(&[5, 0x40, 1, 0, 0], 1, 0),
-        refused(&[6], 2, 0),
+        refused(&[7], 2, 0),
         refused(&[5, 0x40, 1, 0, 0, 0, 4], 3, 0),
         refused(&[5, 0, 1, 0, 0, 0, 5, 0, 1, 0, 0, 0, 4], 4, 6),
         refused(&[5, 1, 1, 0, 0, 0, 1, 1, 0, 7, 0, 4], 5, 0),
@@ -91,7 +91,37 @@ pub fn cases() -> Vec<Case> {
         refused(&seventeen, 8, 83),
     ];
     cases.extend(first_served());
+    cases.extend(rights());
     cases
+}
+
+/// Keys: places that are entered, left and opened each with a number of its own, and by nobody; records of kind 6 that are refused.
+fn rights() -> Vec<Case> {
+    let record = [6, 1, 0, 7, 0, 7, 0, 7, 0, 7, 0];
+    let with =
+        |at: usize, byte: u8| record.iter().enumerate().map(|(index, &old)| if index == at { byte } else { old }).collect::<Vec<u8>>();
+    vec![
+        alone(
+            "9/5/6/0[] | 7[enter 5.exit 6]",
+            "looked took took left took took came looked took took left took took came done",
+            "9/5/6/0[] | 7[]",
+        ),
+        alone("9/5/6/8[] | 7[enter 9]", "looked took slept asleep", "9/5/6/8[] | 7[enter 9]"),
+        alone("9/5/6/8[7[exit 5]]", "looked took slept asleep", "9/5/6/8[7[exit 5]]"),
+        alone("open 6 | 9/5/6/8[]", "looked took slept asleep", "open 6 | 9/5/6/8[]"),
+        alone("open 8 | 9/5/6/8[1/0/0/0[]]", "looked took took opened done", "1/0/0/0[]"),
+        alone("open 20 | 20/20/20/0[]", "looked took slept asleep", "open 20 | 20/20/20/0[]"),
+        alone("9/7/0/0[] | 7[] | 8/0/0/0[enter 7]", "looked took took left took took came done", "9/7/0/0[8/0/0/0[]] | 7[]"),
+        Case { file: [&record[..], &[4]].concat(), agents: vec![], written: "start 7[]\nend 7[]\n".to_string() },
+        refused(&record, 1, 11),
+        refused(&record[..10], 1, 0),
+        refused(&with(1, 0x40), 3, 0),
+        refused(&with(1, 0), 3, 0),
+        refused(&with(2, 0x40), 13, 0),
+        refused(&with(2, 1), 5, 0),
+        refused(&with(3, 0), 6, 0),
+        refused(&[&record[..], &record].concat(), 4, 11),
+    ]
 }
 
 /// First in, first served: place 3 stands before place 2 in the file; place 1 comes back as the latest, so that place 2 is opened; and of
@@ -133,6 +163,8 @@ pub fn small_files() -> Vec<Vec<u8>> {
         "open 7.open 8 | 7[8[] | enter 8.exit 7]",
         "258[enter 65535] | 65535[exit 258.open 513]",
         "1[2[3[4[5[exit 4.exit 3.exit 2.exit 1]]]]]",
+        "9/5/6/0[] | 7[enter 5.exit 6]",
+        "open 258 | 7/7/7/258[1/0/0/0[exit 7] | 65535/1/65535/513[]]",
     ];
     let mut files: Vec<Vec<u8>> = terms.iter().map(|term| file_of(term)).collect();
     files.push([&[1, 63, 0, 7, 0, 2, 63, 63][..], &[3, 63, 1, 7, 0].repeat(16), &[4]].concat());
@@ -148,7 +180,10 @@ pub fn faulty_records() -> Vec<Vec<u8>> {
     let mut rows: Vec<Vec<u8>> = Vec::new();
     for name in names {
         for number in [0, 1, 2, 63, 64, 255] {
-            rows.extend([0, 1, 2, 3, 63, 64, 255].map(|parent| [&[1, number, parent][..], &name].concat()));
+            for parent in [0, 1, 2, 3, 63, 64, 255] {
+                rows.push([&[1, number, parent][..], &name].concat());
+                rows.extend([[0; 6], [7, 0, 0, 7, 0, 0]].map(|keys| [&[6, number, parent][..], &name, &keys].concat()));
+            }
         }
         for agent in [0, 1, 2, 63, 64, 255] {
             rows.extend([0, 1, 3, 4, 255].map(|kind| [&[3, agent, kind][..], &name].concat()));
@@ -160,7 +195,7 @@ pub fn faulty_records() -> Vec<Vec<u8>> {
     for place in [0, 1, 2, 63, 64, 255] {
         rows.extend([0, 1, 255].map(|byte| vec![5, place, byte, 0, 0, byte]));
     }
-    rows.extend([[0], [4], [6], [255]].map(Vec::from));
+    rows.extend([[0], [4], [7], [255]].map(Vec::from));
     let after: [&[u8]; 4] = [&[4], &[], &[4, 4], &[9]];
     let mut files: Vec<Vec<u8>> = rows.iter().flat_map(|row| after.map(|after| [&before, &row[..], after].concat())).collect();
     files.extend(rows.iter().flat_map(|row| (1..row.len()).map(|cut| [&before, &row[..cut]].concat())));
@@ -171,7 +206,7 @@ pub fn faulty_records() -> Vec<Vec<u8>> {
 pub fn longest_file() -> Vec<u8> {
     let mut file = Vec::new();
     for place in 1..64 {
-        file.extend([1, place, place - 1, 255, 255]);
+        file.extend([6, place, place - 1, 255, 255, 255, 255, 254, 255, 255, 255]);
     }
     for agent in 0..64 {
         file.extend([2, agent, agent]);

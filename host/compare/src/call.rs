@@ -34,19 +34,20 @@ impl fmt::Display for Call {
 /// The field of the struct that a byte belongs to.
 fn field(at: usize) -> String {
     const AGENT: [&str; 6] = ["home", "stage", "remembered", "chosen", "next", "count"];
+    const PLACE: [&str; 5] = ["name", "key for entering", "key for exiting", "key for opening", "parent or way"];
     match at {
-        0..=255 => format!("place {} {}", at / 4, ["name", "name", "parent", "way"][at % 4]),
-        256..=319 => format!("lock {}", at - 256),
-        320..=4799 => {
-            let (agent, within) = ((at - 320) / 70, (at - 320) % 70);
+        0..=639 => format!("place {} {}", at / 10, PLACE[at % 10 / 2]),
+        640..=703 => format!("lock {}", at - 640),
+        704..=5183 => {
+            let (agent, within) = ((at - 704) / 70, (at - 704) % 70);
             match within {
                 0..=5 => format!("agent {agent} {}", AGENT[within]),
                 _ => format!("agent {agent} action {} {}", (within - 6) / 4, ["kind", "padding", "name", "name"][(within - 6) % 4]),
             }
         }
-        4800..=4807 => "used".to_string(),
-        4808..=4815 => "given".to_string(),
-        4816..=5327 => format!("touches {}", (at - 4816) / 8),
-        _ => format!("row at {}", at - 5328),
+        5184..=5191 => "used".to_string(),
+        5192..=5199 => "given".to_string(),
+        5200..=5711 => format!("touches {}", (at - 5200) / 8),
+        _ => format!("row at {}", at - 5712),
     }
 }

@@ -11,6 +11,8 @@ pub struct Counts {
     pub words: BTreeMap<&'static str, u64>,
     pub choices: u64,
     pub not_lowest: u64,
+    pub keyed: u64,
+    pub by_key: u64,
     pub pooled: u64,
     pub touches: u64,
     pub touches_refused: BTreeMap<u8, u64>,
@@ -37,6 +39,7 @@ impl fmt::Display for Counts {
             "choices         {:>9}   (among several, without a fitting wish; {} not the lowest number)",
             self.choices, self.not_lowest
         )?;
+        writeln!(out, "places by kind 6 {:>8}   ({} moves by a key that is not the name)", self.keyed, self.by_key)?;
         let refused: u64 = self.touches_refused.values().sum();
         write!(out, "touch calls     {:>9}   ({} refused:", self.touches, refused)?;
         self.touches_refused.iter().try_for_each(|(number, count)| write!(out, " {count} with {number}"))?;

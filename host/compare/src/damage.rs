@@ -1,5 +1,5 @@
-//! What somebody else may write into a lent cell: any byte, a field of something in use, touch counts, the row, or whole agents set to other
-//! stages.
+//! What somebody else may write into a lent cell: any byte, a field of something in use, keys, touch counts, the row, or whole agents set to
+//! other stages.
 
 use crate::call::Call;
 use crate::random::Random;
@@ -7,16 +7,20 @@ use crate::rows::ORDER;
 use crate::touches;
 use model::{holds, Kind, Table, SIZE};
 
-/// Where the locks, the agents and the sets start, and the size of an agent.
-const LOCKS: usize = 256;
-const AGENTS: usize = 320;
+/// The size of a place, and in it where parent and way are; where the locks, the agents and the sets start, and the size of an agent.
+const PLACE: usize = 10;
+const PARENT: usize = 8;
+const WAY: usize = 9;
+const LOCKS: usize = 640;
+const AGENTS: usize = 704;
 const AGENT: usize = 70;
-const SETS: usize = 4800;
+const SETS: usize = 5184;
 
 /// Writes that change a few bytes of these.
 pub fn writes(random: &mut Random, bytes: &[u8; SIZE]) -> Vec<Call> {
     let mut after = *bytes;
-    match random.below(14) {
+    match random.below(16) {
+        14..=15 => keys(random, &mut after),
         12..=13 => row(random, &mut after),
         10..=11 => counts(random, &mut after),
         0..=2 => after[random.below(SIZE)] = random.byte(),
@@ -70,9 +74,9 @@ fn field(random: &mut Random, bytes: &mut [u8; SIZE]) {
     let agent = AGENTS + AGENT * one_of(random, &agents);
     let value = number(random, &places);
     match random.below(12) {
-        0 => bytes[4 * place + random.below(2)] = random.pick(&[0, 0, 1, value]),
-        1 => bytes[4 * place + 2] = value,
-        2 => bytes[4 * place + 3] = random.pick(&[0, 1, value]),
+        0 => bytes[PLACE * place + random.below(2)] = random.pick(&[0, 0, 1, value]),
+        1 => bytes[PLACE * place + PARENT] = value,
+        2 => bytes[PLACE * place + WAY] = random.pick(&[0, 1, value]),
         3 => bytes[LOCKS + place] = random.pick(&[64, value]),
         4..=9 => {
             let within = random.below(6);
@@ -117,7 +121,7 @@ fn settle_ways(random: &mut Random, bytes: &mut [u8; SIZE]) {
     for (place, _) in table.places_in_use().filter(|(place, _)| *place != 0) {
         let moving = table.agents_in_use().any(|(_, agent)| agent.home == place && (4..=6).contains(&agent.stage));
         if moving || random.percent(98) {
-            bytes[4 * place as usize + 3] = moving as u8;
+            bytes[PLACE * place as usize + WAY] = moving as u8;
         }
     }
 }
@@ -164,6 +168,28 @@ fn counts(random: &mut Random, bytes: &mut [u8; SIZE]) {
         }
         4 => places.iter().for_each(|&place| touches::set(bytes, place, random.pick(&[1 << 58, 1 << 62, MOST / 64, 1]))),
         _ => touches::set(bytes, unused, random.pick(&[large, any])),
+    }
+}
+
+/// Changes keys, some of them to the number of another place's key or to 0: of places in use, which stay sound; of the floor, which does not
+/// unless its keys are 0; of numbers not in use.
+fn keys(random: &mut Random, bytes: &mut [u8; SIZE]) {
+    let places = members(bytes, SETS);
+    for _ in 0..1 + random.below(3) {
+        let place = match random.below(10) {
+            0..=2 => 0,
+            3 => random.below(64),
+            _ => one_of(random, &places),
+        };
+        let at = PLACE * place + 2 + 2 * random.below(3);
+        let from = PLACE * one_of(random, &places) + 2 * random.below(4);
+        let key = match random.below(6) {
+            0 => [0, 0],
+            1 => [0, 1],
+            2 => [random.byte(), random.byte()],
+            _ => [bytes[from], bytes[from + 1]],
+        };
+        bytes[at..at + 2].copy_from_slice(&key);
     }
 }
 

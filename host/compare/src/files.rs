@@ -22,22 +22,25 @@ enum Nesting {
     Any,
 }
 
-/// The places of a file so far, and what names and kinds of actions the rest is made of.
+/// The places of a file so far, with their keys, and what names and kinds of actions the rest is made of; so many places of a hundred have
+/// records with keys.
 struct Maker {
     nesting: Nesting,
     names: Vec<u16>,
     kinds: Vec<u8>,
+    keyed: usize,
     given: Vec<u8>,
     parents: [u8; 64],
-    named: [u16; 64],
+    keys: [[u16; 3]; 64],
 }
 
-/// A file that is accepted: few names, so that actions fire; any mixture of kinds; numbers in any order; touch records of no, some or all
-/// places, anywhere after them.
+/// A file that is accepted: few names, so that actions fire; any mixture of kinds; numbers in any order; keys of no, some or all places; touch
+/// records of no, some or all places, anywhere after them.
 pub fn good(random: &mut Random) -> Vec<u8> {
     let nesting = random.pick(&[Nesting::Flat, Nesting::Deep, Nesting::Any, Nesting::Any]);
     let (names, kinds) = (names(random), kinds(random));
-    let mut maker = Maker { nesting, names, kinds, given: vec![0], parents: [0; 64], named: [0; 64] };
+    let keyed = random.pick(&[0, 30, 100]);
+    let mut maker = Maker { nesting, names, kinds, keyed, given: vec![0], parents: [0; 64], keys: [[0; 3]; 64] };
     let most_actions = random.pick(&[1, 2, 3, 5, 16]);
     let places_first = random.percent(70);
     let mut places = numbers(random, 1, 63);
@@ -79,8 +82,8 @@ pub fn good(random: &mut Random) -> Vec<u8> {
 }
 
 impl Maker {
-    /// The record of one more place.
-    fn place(&mut self, random: &mut Random, number: u8) -> [u8; 5] {
+    /// The record of one more place, of kind 6 where it has keys of its own.
+    fn place(&mut self, random: &mut Random, number: u8) -> Vec<u8> {
         let parent = match self.nesting {
             Nesting::Flat => 0,
             Nesting::Deep => self.given[self.given.len() - 1],
@@ -89,9 +92,18 @@ impl Maker {
         let name = random.pick(&self.names);
         self.given.push(number);
         self.parents[number as usize] = parent;
-        self.named[number as usize] = name;
         let [low, high] = name.to_le_bytes();
-        [1, number, parent, low, high]
+        if !random.percent(self.keyed) {
+            self.keys[number as usize] = [name; 3];
+            return vec![1, number, parent, low, high];
+        }
+        let keys = std::array::from_fn(|_| match random.below(10) {
+            0..=1 => 0,
+            2..=4 => name,
+            _ => random.pick(&self.names),
+        });
+        self.keys[number as usize] = keys;
+        [&[6, number, parent, low, high][..], &keys.map(u16::to_le_bytes).concat()].concat()
     }
 
     /// The record of one more action, mostly one that can fire where the agent lives, if there is any.
@@ -102,7 +114,7 @@ impl Maker {
             for _ in 0..4 {
                 let around = self.around(home, kind);
                 if !around.is_empty() {
-                    name = self.named[random.pick(&around) as usize];
+                    name = self.keys[random.pick(&around) as usize][kind as usize - 1];
                     break;
                 }
                 kind = random.pick(&self.kinds);
@@ -112,7 +124,7 @@ impl Maker {
         [3, agent, kind, low, high]
     }
 
-    /// The places that an action of this kind of an agent with this home can act on.
+    /// The places that an action of this kind of an agent with this home can act on: those that nobody may are none.
     fn around(&self, home: u8, kind: u8) -> Vec<u8> {
         let parent = self.parents[home as usize];
         let fits = |place: u8| match kind {
@@ -120,7 +132,8 @@ impl Maker {
             2 => home != 0 && place == parent,
             _ => self.parents[place as usize] == home,
         };
-        self.given.iter().copied().filter(|&place| place != 0 && fits(place)).collect()
+        let may = |place: u8| self.keys[place as usize][kind as usize - 1] != 0;
+        self.given.iter().copied().filter(|&place| place != 0 && fits(place) && may(place)).collect()
     }
 }
 
@@ -163,9 +176,9 @@ pub fn nearly_good(random: &mut Random) -> Vec<u8> {
         let at = random.below(file.len().max(1));
         match random.below(8) {
             0 if !file.is_empty() => file[at] = random.byte(),
-            1 if !file.is_empty() => file[at] = random.pick(&[0, 1, 2, 3, 4, 5, 6, 63, 64, 65, 255]),
+            1 if !file.is_empty() => file[at] = random.pick(&[0, 1, 2, 3, 4, 5, 6, 7, 63, 64, 65, 255]),
             2 if !file.is_empty() => drop(file.remove(at)),
-            3 => file.insert(at.min(file.len()), random.pick(&[0, 1, 2, 3, 4, 5, 7])),
+            3 => file.insert(at.min(file.len()), random.pick(&[0, 1, 2, 3, 4, 5, 6, 7])),
             4 => file.truncate(at),
             5 => file.push(random.byte()),
             6 => out_of_range(random, &mut file),
@@ -209,7 +222,7 @@ fn swap_records(random: &mut Random, file: &mut Vec<u8>) {
 pub fn wild(random: &mut Random) -> Vec<u8> {
     let length = random.below(60);
     let small = random.percent(80);
-    (0..length).map(|_| if small { random.below(7) as u8 } else { random.byte() }).collect()
+    (0..length).map(|_| if small { random.below(8) as u8 } else { random.byte() }).collect()
 }
 
 /// The records of a file, each as its bytes; what cannot be taken apart is one record more.
@@ -222,6 +235,7 @@ pub fn records(file: &[u8]) -> Vec<Vec<u8>> {
             2 => 3,
             4 => 1,
             5 => 6,
+            6 => 11,
             _ => file.len() - at,
         };
         let end = (at + length).min(file.len());

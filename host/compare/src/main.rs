@@ -2,10 +2,10 @@
 //!
 //!     compare [--quick] [--seconds N] [--seed S] [--walk PROGRAM]
 //!
-//! First document 01's cases, touches up to the most there may be, and every single-byte change and truncation of good files; then rounds of
-//! random files, random orders of steps and touch calls on random cells, and cells with bytes changed, those of the row of places too: a fixed
-//! number of rounds, or as many as fit in N seconds. The same seed gives the same rounds. With a program `walk`, what it writes is compared
-//! too. At a difference the smallest example found is printed and the exit status is 1.
+//! First document 01's cases, touches up to the most there may be, and every single-byte change and truncation of good files; then rounds
+//! of random files, random orders of steps and touch calls on random cells, and cells with bytes changed, those of keys and of the row of
+//! places too: a fixed number of rounds, or as many as fit in N seconds. The same seed gives the same rounds. With a program `walk`, what it
+//! writes is compared too. At a difference the smallest example found is printed and the exit status is 1.
 
 mod answer;
 mod bench;
@@ -16,6 +16,7 @@ mod damage;
 mod demands;
 mod differing;
 mod files;
+mod keys;
 mod orders;
 mod pair;
 mod random;

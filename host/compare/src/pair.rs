@@ -5,6 +5,7 @@ use crate::call::Call;
 use crate::counts::Counts;
 use crate::demands;
 use crate::differing::{differing, forgotten};
+use crate::keys;
 use crate::rows;
 use crate::touches;
 use keeper::lent::Lent;
@@ -13,7 +14,7 @@ use model::{listing, load, permitted, step, touch, Cell, Plain, Stepped, Table, 
 /// A byte that no listing has, with which buffers are filled before they are lent.
 const FILL: u8 = 0xAA;
 /// The longest listing and some bytes more.
-const ROOM: usize = 13_043 + 21;
+const ROOM: usize = 14_177 + 21;
 /// A buffer before it is lent.
 static FILLED: [u8; ROOM] = [FILL; ROOM];
 
@@ -96,6 +97,7 @@ impl Pair {
                 self.plain = Some(Plain::of_load(&cell));
                 self.total = touches::loaded(file);
                 rows::same("a load", self.bytes(), &rows::loaded(file))?;
+                self.counts.keyed += keys::loaded(self.bytes(), file)? as u64;
                 self.cell = Some(cell);
                 self.agree()
             }
@@ -106,6 +108,7 @@ impl Pair {
     fn step(&mut self, agent: u8, wish: u8) -> Result<(), String> {
         let before = self.lent.clone();
         let several = self.cell.as_ref().and_then(|cell| rows::several(cell, agent, wish));
+        let by_key = self.cell.as_ref().is_some_and(|cell| keys::by_key(cell, agent));
         let stepped = match &mut self.cell {
             None => Err(UNSOUND),
             Some(cell) => step(cell, agent, wish),
@@ -122,6 +125,8 @@ impl Pair {
                 *self.counts.words.entry(word.text()).or_default() += 1;
                 self.counts.pooled += touches::pooled(before.bytes(), self.lent.bytes())? as u64;
                 rows::same(word.text(), self.bytes(), &rows::stepped(before.bytes(), agent, word))?;
+                keys::kept(before.bytes(), self.lent.bytes())?;
+                self.counts.by_key += (by_key && matches!(word, Word::Left | Word::Opened)) as u64;
                 if let (Word::Took, Some(found), Some(cell)) = (word, several, &self.cell) {
                     self.counts.choices += 1;
                     self.counts.not_lowest += (cell.agents[&agent].chosen != Some(found[0])) as u64;

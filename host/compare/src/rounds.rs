@@ -127,7 +127,10 @@ impl Session {
         self.start(file.clone())?;
         self.start(Vec::new())?;
         self.start(file.clone())?;
-        for after in [&[0][..], &[4], &[1, 1, 0, 7, 0], &[3, 0, 1, 7, 0, 4], &[5, 9, 0, 0, 0, 0], &[5, 64, 0, 0, 0, 0, 4]] {
+        let keyed = [6, 9, 0, 7, 0, 7, 0, 7, 0, 7, 0, 4];
+        let touched = [&[5, 9, 0, 0, 0, 0][..], &[5, 64, 0, 0, 0, 0, 4]];
+        for after in [&[0][..], &[4], &[1, 1, 0, 7, 0], &[3, 0, 1, 7, 0, 4], &keyed, &keyed[..11], &keyed[..10]].into_iter().chain(touched)
+        {
             self.start([&file[..], after].concat())?;
             self.start([&file[..file.len() - 1], after].concat())?;
         }

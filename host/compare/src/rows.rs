@@ -4,7 +4,7 @@ use crate::files::records;
 use model::{qualifying, Cell, Kind, Table, Word, SIZE};
 
 /// Where the row starts.
-pub const ORDER: usize = 5328;
+pub const ORDER: usize = 5712;
 
 /// The row of a cell's bytes.
 pub fn row(bytes: &[u8; SIZE]) -> &[u8] {
@@ -13,7 +13,7 @@ pub fn row(bytes: &[u8; SIZE]) -> &[u8] {
 
 /// "Loaded places count in file order": the row that an accepted file gives, in which the numbers that it does not give come first.
 pub fn loaded(file: &[u8]) -> Vec<u8> {
-    let given: Vec<u8> = records(file).iter().filter(|row| row[0] == 1).map(|row| row[1]).collect();
+    let given: Vec<u8> = records(file).iter().filter(|row| matches!(row[0], 1 | 6)).map(|row| row[1]).collect();
     (0..64).filter(|number| !given.contains(number)).chain(given.iter().copied()).collect()
 }
 

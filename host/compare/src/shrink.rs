@@ -33,8 +33,10 @@ enum Edit {
     AgentNumber(u8, u8),
     /// A place with another number, everywhere.
     PlaceNumber(u8, u8),
-    /// A name replaced, everywhere.
+    /// A name, key or action's number replaced, everywhere.
     Name([u8; 2], [u8; 2]),
+    /// A place's record without its keys.
+    Keyless(usize, usize),
     /// A byte of a file replaced.
     Byte(usize, usize, u8),
     /// A step without a wish, fewer touches, a listing into less room, a lower byte written.
@@ -135,10 +137,10 @@ fn halves(calls: &[Call]) -> Vec<Edit> {
     edits
 }
 
-/// Each record out, from the end.
+/// Each record out or without its keys, from the end.
 fn rows(calls: &[Call]) -> Vec<Edit> {
-    let each =
-        |(at, file): (usize, &Vec<u8>)| (0..records(file).len()).rev().flat_map(move |row| [Edit::Record(at, row), Edit::Opened(at, row)]);
+    let edits = |at, row| [Edit::Record(at, row), Edit::Opened(at, row), Edit::Keyless(at, row)];
+    let each = |(at, file): (usize, &Vec<u8>)| (0..records(file).len()).rev().flat_map(move |row| edits(at, row));
     loads(calls).flat_map(each).collect()
 }
 
@@ -147,13 +149,12 @@ fn numbers(calls: &[Call]) -> Vec<Edit> {
     let mut edits = Vec::new();
     for row in loads(calls).flat_map(|(_, file)| records(file)) {
         match row[..] {
-            [1, number, _, low, high] => {
-                edits.extend((1..number.min(9)).map(|to| Edit::PlaceNumber(number, to)));
-                edits.extend((1..9).map(|to| Edit::Name([low, high], [to, 0])));
-            }
-            [2, number, _] => edits.extend((0..number.min(9)).map(|to| Edit::AgentNumber(number, to))),
-            [3, _, _, low, high] => edits.extend((1..9).map(|to| Edit::Name([low, high], [to, 0]))),
+            [1 | 6, number, ..] => edits.extend((1..number.min(9)).map(|to| Edit::PlaceNumber(number, to))),
+            [2, number, ..] => edits.extend((0..number.min(9)).map(|to| Edit::AgentNumber(number, to))),
             _ => {}
+        }
+        for name in names(&row).map(|at| [row[at], row[at + 1]]) {
+            edits.extend((1..9).map(|to| Edit::Name(name, [to, 0])));
         }
     }
     edits
@@ -204,7 +205,7 @@ fn edited(calls: &[Call], edit: Edit) -> Option<Vec<Call>> {
         Edit::PlaceNumber(from, to) => {
             each_file(&mut other, |rows| {
                 rows.iter_mut().for_each(|row| match row[0] {
-                    1 => replace(row, &[1, 2], from, to),
+                    1 | 6 => replace(row, &[1, 2], from, to),
                     2 => replace(row, &[2], from, to),
                     5 => replace(row, &[1], from, to),
                     _ => {}
@@ -217,8 +218,24 @@ fn edited(calls: &[Call], edit: Edit) -> Option<Vec<Call>> {
             }
         }
         Edit::Name(from, to) => each_file(&mut other, |rows| {
-            rows.iter_mut().filter(|row| row.len() == 5 && row[3..] == from).for_each(|row| row[3..].copy_from_slice(&to))
+            for row in rows.iter_mut() {
+                names(row)
+                    .filter(|&at| row[at..at + 2] == from)
+                    .collect::<Vec<_>>()
+                    .iter()
+                    .for_each(|&at| row[at..at + 2].copy_from_slice(&to));
+            }
         }),
+        Edit::Keyless(at, row) => {
+            let mut only = vec![other.get(at)?.clone()];
+            each_file(&mut only, |rows| {
+                if let Some([kind @ 6, ..]) = rows.get_mut(row).map(Vec::as_mut_slice) {
+                    *kind = 1;
+                    rows[row].truncate(5);
+                }
+            });
+            other[at] = only.pop()?;
+        }
         Edit::Byte(at, index, to) => match other.get_mut(at)? {
             Call::Load(file) => *file.get_mut(index)? = to,
             _ => return None,
@@ -251,12 +268,18 @@ fn take_out(rows: &mut Vec<Vec<u8>>, row: usize, opened: bool) {
         return;
     }
     let gone = rows.remove(row);
-    if let (true, [1, number, parent, ..]) = (opened, &gone[..]) {
+    if let (true, [1 | 6, number, parent, ..]) = (opened, &gone[..]) {
         rows.retain(|row| !(row[0] == 5 && row.get(1) == Some(number)));
-        for row in rows.iter_mut().filter(|row| matches!(row[0], 1 | 2)) {
+        for row in rows.iter_mut().filter(|row| matches!(row[0], 1 | 2 | 6)) {
             replace(row, &[2], *number, *parent);
         }
     }
+}
+
+/// Where the names, keys or numbers of two bytes stand in a record.
+fn names(row: &[u8]) -> impl Iterator<Item = usize> {
+    let whole = matches!((row[0], row.len()), (1 | 3, 5) | (6, 11));
+    (3..row.len()).step_by(2).filter(move |_| whole)
 }
 
 /// Replaces a number in these bytes of a record.

@@ -48,6 +48,10 @@ fn cases(seed: u64, count: usize) -> Vec<Case> {
     cases.push(Case { cell: Some([&longest[..], &[4]].concat()), order: None });
     cases.push(Case { cell: Some([&longest[..longest.len() - 1], &[9; 4000]].concat()), order: None });
     cases.push(Case { cell: Some([&longest[..longest.len() - 1], &[5, 63, 1, 2, 3, 4, 4], &[5; 4000]].concat()), order: None });
+    cases.push(Case {
+        cell: Some([&longest[..longest.len() - 1], &[6, 63, 0, 7, 0, 7, 0, 7, 0, 7, 0, 4], &[6; 4000]].concat()),
+        order: None,
+    });
     cases.push(Case { cell: Some(longest), order: Some((0..40_001).map(|_| random.byte() % 64).collect()) });
     for _ in 0..count {
         let cell = if random.percent(80) { files::good(&mut random) } else { files::nearly_good(&mut random) };

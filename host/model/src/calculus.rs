@@ -1,12 +1,20 @@
 //! The moves that the ambient calculus permits and what each makes of the tree.
 
-use crate::cell::{Action, Cell, Kind, Places};
+use crate::cell::{Action, Cell, Keys, Kind, Places};
 use std::collections::BTreeMap;
 
-/// A tree as the calculus sees it: each place's name and where it stands (the floor nowhere), each agent's home and unused actions.
+/// A place as the calculus sees it: its name, its keys, and where it stands (the floor nowhere).
+#[derive(Clone, Copy, PartialEq, Eq, Debug)]
+pub struct Ambient {
+    pub name: u16,
+    pub keys: Keys,
+    pub stands: Option<u8>,
+}
+
+/// A tree as the calculus sees it: its places, and each agent's home and unused actions.
 #[derive(Clone, PartialEq, Eq, Debug)]
 pub struct Tree {
-    pub places: BTreeMap<u8, (u16, Option<u8>)>,
+    pub places: BTreeMap<u8, Ambient>,
     pub agents: BTreeMap<u8, (u8, Vec<Action>)>,
 }
 
@@ -26,25 +34,26 @@ impl Tree {
     }
 }
 
-/// Each place's name and its parent, "the destination for a place on its way".
-pub(crate) fn standing(places: &Places) -> BTreeMap<u8, (u16, Option<u8>)> {
-    places.iter().map(|(&number, place)| (number, (place.name, place.around()))).collect()
+/// Each place's name, keys and parent, "the destination for a place on its way".
+pub(crate) fn standing(places: &Places) -> BTreeMap<u8, Ambient> {
+    places.iter().map(|(&number, place)| (number, Ambient { name: place.name, keys: place.keys, stands: place.around() })).collect()
 }
 
 /// "Travelling or not, the calculus permits enter n if another place named n stands beside the agent's own, exit n if its own stands in
-/// a place named n, open n if a place named n stands in its own; only an agent's next action counts."
+/// a place named n, open n if a place named n stands in its own; only an agent's next action counts." Document 02, W6: "An action's number is
+/// compared with the key of its kind on the place entered, left or opened, and the calculus rules .. are read with that comparison."
 pub fn permitted(tree: &Tree) -> Vec<Move> {
     let mut moves = Vec::new();
     for (&agent, (home, unused)) in &tree.agents {
         let Some(action) = unused.first() else { continue };
-        let around = tree.places[home].1;
-        for (&with, &(name, stands)) in &tree.places {
-            let fits = match action.kind {
-                Kind::Enter => with != *home && stands == around && around.is_some(),
+        let around = tree.places[home].stands;
+        for (&with, place) in &tree.places {
+            let there = match action.kind {
+                Kind::Enter => with != *home && place.stands == around && around.is_some(),
                 Kind::Exit => around == Some(with),
-                Kind::Open => stands == Some(*home),
+                Kind::Open => place.stands == Some(*home),
             };
-            if fits && name == action.name {
+            if there && place.keys.fit(*action) {
                 moves.push(Move { agent, kind: action.kind, with });
             }
         }
@@ -59,13 +68,13 @@ pub fn make(tree: &Tree, made: Move) -> Tree {
     let home = agent.0;
     agent.1.remove(0);
     match made.kind {
-        Kind::Enter => after.places.get_mut(&home).expect("a home is in use").1 = Some(made.with),
-        Kind::Exit => after.places.get_mut(&home).expect("a home is in use").1 = tree.places[&made.with].1,
+        Kind::Enter => after.places.get_mut(&home).expect("a home is in use").stands = Some(made.with),
+        Kind::Exit => after.places.get_mut(&home).expect("a home is in use").stands = tree.places[&made.with].stands,
         Kind::Open => {
             after.places.remove(&made.with);
-            for (_, stands) in after.places.values_mut() {
-                if *stands == Some(made.with) {
-                    *stands = Some(home);
+            for place in after.places.values_mut() {
+                if place.stands == Some(made.with) {
+                    place.stands = Some(home);
                 }
             }
             for (lives, _) in after.agents.values_mut() {

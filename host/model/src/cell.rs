@@ -11,11 +11,19 @@ pub enum Kind {
     Open,
 }
 
-/// "An action is a kind .. and a name."
+/// "An action is a kind .. and a name." Document 02, W6, calls the name of an action its number.
 #[derive(Clone, Copy, PartialEq, Eq, Debug)]
 pub struct Action {
     pub kind: Kind,
     pub name: u16,
+}
+
+/// Document 02, W6: "A place gets three two-byte keys: enter, exit, open. .. 0 means nobody may": then there is no key.
+#[derive(Clone, Copy, PartialEq, Eq, Debug)]
+pub struct Keys {
+    pub enter: Option<u16>,
+    pub exit: Option<u16>,
+    pub open: Option<u16>,
 }
 
 /// "A place other than the floor is linked to a parent or on its way to a destination."
@@ -26,10 +34,11 @@ pub enum Stands {
     OnItsWay(u8),
 }
 
-/// A place without its lock: its name, where it stands, and, document 02, W3: "A place carries a touch count, starting at 0."
+/// A place without its lock: its name, its keys (document 02, W6), where it stands, and, W3: "A place carries a touch count, starting at 0."
 #[derive(Clone, Copy, PartialEq, Eq, Debug)]
 pub struct Place {
     pub name: u16,
+    pub keys: Keys,
     pub stands: Stands,
     pub touches: u64,
 }
@@ -78,6 +87,30 @@ impl Kind {
     }
 }
 
+impl Keys {
+    /// The keys with these numbers, those for entering, exiting and opening: "0 means nobody may".
+    pub fn of(numbers: [u16; 3]) -> Keys {
+        let [enter, exit, open] = numbers.map(|number| if number == 0 { None } else { Some(number) });
+        Keys { enter, exit, open }
+    }
+
+    /// The numbers of the keys, in the order of the file: 0 where nobody may.
+    pub fn numbers(self) -> [u16; 3] {
+        [self.enter, self.exit, self.open].map(|key| key.unwrap_or(0))
+    }
+
+    /// "An action's number is compared with the key of its kind": whether the place with these keys may be entered, left or opened by the
+    /// action.
+    pub fn fit(self, action: Action) -> bool {
+        let key = match action.kind {
+            Kind::Enter => self.enter,
+            Kind::Exit => self.exit,
+            Kind::Open => self.open,
+        };
+        key == Some(action.name)
+    }
+}
+
 impl Place {
     /// The parent that the place is linked to, if it is linked.
     pub fn linked_to(&self) -> Option<u8> {
@@ -102,9 +135,9 @@ impl Place {
 }
 
 impl Cell {
-    /// "A load starts from a bare floor": "Place 0 is the floor: name 0, no parent".
+    /// "A load starts from a bare floor": "Place 0 is the floor: name 0, no parent". Of its keys, document 02, W6: "the floor's are 0".
     pub fn bare() -> Cell {
-        let floor = Place { name: 0, stands: Stands::TheFloor, touches: 0 };
+        let floor = Place { name: 0, keys: Keys::of([0; 3]), stands: Stands::TheFloor, touches: 0 };
         let places = BTreeMap::from([(0, floor)]);
         Cell { places, children: Children::default(), locks: BTreeMap::new(), agents: BTreeMap::new() }
     }

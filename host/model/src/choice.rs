@@ -3,11 +3,12 @@
 use crate::cell::{Action, Kind, Places};
 
 /// The places that an enter or open of an agent with this home can choose under p: "Enter n fires if another place linked to p is
-/// named n." "Open n fires if a place linked to p is named n and nothing is on its way to it."
+/// named n." "Open n fires if a place linked to p is named n and nothing is on its way to it." Named n is read with document 02, W6: "An
+/// action's number is compared with the key of its kind on the place entered, left or opened".
 pub fn qualifying(places: &Places, home: u8, p: u8, action: Action) -> Vec<u8> {
     let mut found = Vec::new();
     for (&number, place) in places {
-        if place.linked_to() != Some(p) || place.name != action.name {
+        if place.linked_to() != Some(p) || !place.keys.fit(action) {
             continue;
         }
         let qualifies = match action.kind {
@@ -34,7 +35,7 @@ pub fn choose(places: &Places, under: &[u8], home: u8, p: u8, action: Action, wi
     }
 }
 
-/// "Exit n fires if p is named n and p is linked."
-pub fn can_exit(places: &Places, p: u8, name: u16) -> bool {
-    places[&p].name == name && places[&p].linked_to().is_some()
+/// "Exit n fires if p is named n and p is linked", where named n is read with p's key for exiting (document 02, W6).
+pub fn can_exit(places: &Places, p: u8, action: Action) -> bool {
+    places[&p].keys.fit(action) && places[&p].linked_to().is_some()
 }

@@ -1,6 +1,6 @@
 //! The cell file: "One byte of kind, then a body whose length the kind fixes. Two-byte numbers have the low byte first."
 
-use crate::cell::{Action, Agent, Cell, Kind, Place, Stands};
+use crate::cell::{Action, Agent, Cell, Keys, Kind, Place, Stands};
 use crate::{ACTION_KIND, AFTER_THE_END, AGENT_TOO_LARGE, CUT_SHORT, GIVEN_TWICE, NAME_ZERO, NOT_YET_GIVEN};
 use crate::{PARENT_TOO_LARGE, SEVENTEENTH_ACTION, TOO_LARGE, UNKNOWN_KIND};
 use std::collections::BTreeSet;
@@ -29,7 +29,7 @@ pub fn load(file: &[u8]) -> Result<Cell, Refused> {
         let next = offset + 1 + length;
         let body = file.get(offset + 1..next).ok_or(refused(CUT_SHORT))?;
         match kind {
-            1 => place(&mut cell, body).map_err(refused)?,
+            1 | 6 => place(&mut cell, body).map_err(refused)?,
             2 => agent(&mut cell, body).map_err(refused)?,
             3 => action(&mut cell, body).map_err(refused)?,
             5 => touches(&mut cell, &mut touched, body).map_err(refused)?,
@@ -40,7 +40,8 @@ pub fn load(file: &[u8]) -> Result<Cell, Refused> {
     }
 }
 
-/// The length of a body, from the table of kinds; document 02, W3: "Kind 5 leaves the unknown kinds"; an unknown kind has none.
+/// The length of a body, from the table of kinds; document 02, W3: "Kind 5 leaves the unknown kinds"; W6: "Record kind 6 is number, parent,
+/// name, then the three keys" of two bytes each; an unknown kind has none.
 fn body_length(kind: u8) -> Option<usize> {
     match kind {
         1 => Some(4),
@@ -48,6 +49,7 @@ fn body_length(kind: u8) -> Option<usize> {
         3 => Some(4),
         4 => Some(0),
         5 => Some(5),
+        6 => Some(10),
         _ => None,
     }
 }
@@ -78,9 +80,14 @@ fn to_63(number: u8) -> bool {
 }
 
 /// "1 place | number, parent, name (2 bytes)": "Place numbers in records are 1 to 63; parents .. 0 to 63. A parent .. must have been
-/// given earlier (the floor always is)."
+/// given earlier (the floor always is)." Document 02, W6: "Record kind 6 is number, parent, name, then the three keys", it "is checked as kind
+/// 1 is", and "Kind 1 sets all three to the name".
 fn place(cell: &mut Cell, body: &[u8]) -> Result<(), u8> {
     let (number, parent, name) = (body[0], body[1], two_bytes(body[2], body[3]));
+    let keys = match body[4..] {
+        [a, b, c, d, e, f] => [two_bytes(a, b), two_bytes(c, d), two_bytes(e, f)],
+        _ => [name; 3],
+    };
     in_range(&[(number, is_place, TOO_LARGE), (parent, to_63, PARENT_TOO_LARGE)])?;
     if cell.places.contains_key(&number) {
         return Err(GIVEN_TWICE);
@@ -91,7 +98,7 @@ fn place(cell: &mut Cell, body: &[u8]) -> Result<(), u8> {
     if name == 0 {
         return Err(NAME_ZERO);
     }
-    cell.places.insert(number, Place { name, stands: Stands::Linked(parent), touches: 0 });
+    cell.places.insert(number, Place { name, keys: Keys::of(keys), stands: Stands::Linked(parent), touches: 0 });
     cell.children.comes(number, parent);
     Ok(())
 }

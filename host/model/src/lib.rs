@@ -18,8 +18,8 @@ mod term;
 mod touch;
 mod walk;
 
-pub use calculus::{make, permitted, Move, Tree};
-pub use cell::{Action, Agent, Cell, Kind, Place, Places, Stands};
+pub use calculus::{make, permitted, Ambient, Move, Tree};
+pub use cell::{Action, Agent, Cell, Keys, Kind, Place, Places, Stands};
 pub use children::Children;
 pub use choice::{can_exit, choose, qualifying};
 pub use file::{load, Refused};
@@ -34,7 +34,7 @@ pub use walk::walk;
 
 /// "cut short: a body incomplete, or no end record"
 pub const CUT_SHORT: u8 = 1;
-/// "unknown kind, not 1 to 4"; document 02, W3: "Kind 5 leaves the unknown kinds"
+/// "unknown kind, not 1 to 4"; document 02, W3: "Kind 5 leaves the unknown kinds"; W6: "Kind 6 leaves the unknown kinds"
 pub const UNKNOWN_KIND: u8 = 2;
 /// "number too large, or place number 0"; document 02, W2: "for a place record's own number"; W3: for "a place above 63" in kind 5 and in a
 /// touch call
@@ -43,7 +43,7 @@ pub const TOO_LARGE: u8 = 3;
 pub const GIVEN_TWICE: u8 = 4;
 /// "not yet given"; document 02, W3: "a place not given", and in a touch call "an unused one"
 pub const NOT_YET_GIVEN: u8 = 5;
-/// "name 0 in a place or action"
+/// "name 0 in a place or action"; a key may be 0 (document 02, W6: "0 means nobody may")
 pub const NAME_ZERO: u8 = 6;
 /// "action kind not 1 to 3"
 pub const ACTION_KIND: u8 = 7;

@@ -1,6 +1,6 @@
 //! The listing: "A term, in ASCII: a place writes its contents and contents write places."
 
-use crate::cell::{Agent, Cell, Kind};
+use crate::cell::{Agent, Cell, Kind, Place};
 
 /// The listing of a cell: the floor's contents; "An empty floor is `0`."
 pub fn listing(cell: &Cell) -> String {
@@ -23,10 +23,21 @@ fn contents(cell: &Cell, number: u8) -> String {
     }
     for (&inner, place) in &cell.places {
         if place.around() == Some(number) {
-            parts.push(format!("{}[{}]", place.name, contents(cell, inner)));
+            parts.push(format!("{}[{}]", name(place), contents(cell, inner)));
         }
     }
     parts.join(" | ")
+}
+
+/// Document 02, W6: "A place whose keys all equal its name is listed as before; any other as name and the three keys, a slash before each,
+/// then the bracket."
+fn name(place: &Place) -> String {
+    let [enter, exit, open] = place.keys.numbers();
+    if [enter, exit, open] == [place.name; 3] {
+        place.name.to_string()
+    } else {
+        format!("{}/{enter}/{exit}/{open}", place.name)
+    }
 }
 
 /// "An agent is its unused actions, such as `enter 9.exit 9`."

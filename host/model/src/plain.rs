@@ -10,6 +10,7 @@ use std::collections::BTreeMap;
 /// agent." A travelling place is kept as on its way to where it stands, any other as linked there. It knows of no touches (document 02, W3:
 /// "touch calls .., which the plain tree passes over"): each place's count is 0 here. W5: it "knows this order too, from the file and the
 /// words came and opened, and picks by it": `arrived` says for each place at which of all arrivals it came, `arrivals` how many there were.
+/// W6: it "keeps and compares keys as it does names".
 #[derive(Clone, PartialEq, Eq, Debug)]
 pub struct Plain {
     pub places: Places,
@@ -130,15 +131,13 @@ impl Plain {
     }
 
     /// "The cell equals the plain tree when the same place numbers are in use, with the same names and parents (the destination for a
-    /// place on its way), and each agent has the same home and the same unused actions in order."
+    /// place on its way), and each agent has the same home and the same unused actions in order." Document 02, W6: keys are compared as names
+    /// are.
     pub fn equals(&self, cell: &Cell) -> bool {
+        let named = |place: &Place| (place.name, place.keys, place.around());
         self.places.len() == cell.places.len()
             && self.agents.len() == cell.agents.len()
-            && self
-                .places
-                .iter()
-                .zip(&cell.places)
-                .all(|((mine, place), (theirs, other))| mine == theirs && place.name == other.name && place.around() == other.around())
+            && self.places.iter().zip(&cell.places).all(|((mine, place), (theirs, other))| mine == theirs && named(place) == named(other))
             && self
                 .agents
                 .iter()

@@ -20,9 +20,10 @@ pub fn sound(table: &Table) -> bool {
         && whole_row(table)
 }
 
-/// "the floor is as above": "Place 0 is the floor: name 0, no parent, never moves." Its way is not 0, since it is linked to nothing.
+/// "the floor is as above": "Place 0 is the floor: name 0, no parent, never moves." Its way is not 0, since it is linked to nothing. Of its
+/// keys, document 02, W6: "the floor's are 0"; those of another place may be any.
 fn floor(table: &Table) -> bool {
-    table.place(0).is_some_and(|floor| floor.name == 0 && floor.parent == 0 && floor.way != 0)
+    table.place(0).is_some_and(|floor| floor.name == 0 && floor.keys == [0; 3] && floor.parent == 0 && floor.way != 0)
 }
 
 /// "every parent, destination, home and remembered place is in use".

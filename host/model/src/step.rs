@@ -109,7 +109,7 @@ fn holding_one(cell: &mut Cell, agent: u8, wish: u8) -> Stepped {
     }
     let chosen = choose(&cell.places, cell.children.under(p), home, p, action, wish);
     let fires = match action.kind {
-        Kind::Exit => can_exit(&cell.places, p, action.name),
+        Kind::Exit => can_exit(&cell.places, p, action),
         Kind::Enter | Kind::Open => chosen.is_some(),
     };
     if !fires {
@@ -135,7 +135,7 @@ fn holding_both(cell: &mut Cell, agent: u8) -> Stepped {
     let action = next_action(cell, agent);
     let chosen = cell.agents[&agent].chosen;
     let fires = match chosen {
-        None => can_exit(&cell.places, p, action.name),
+        None => can_exit(&cell.places, p, action),
         Some(chosen) => qualifying(&cell.places, home, p, action).contains(&chosen),
     };
     release(cell, agent);

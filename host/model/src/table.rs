@@ -1,15 +1,17 @@
 //! The table as a host lends it: numbers in a struct of C, any of which may be wrong.
 
-use crate::cell::{Action, Agent, Cell, Kind, Place, Stands};
+use crate::cell::{Action, Agent, Cell, Keys, Kind, Place, Stands};
 use crate::children::Children;
 use crate::sound::sound;
 use std::collections::BTreeMap;
 
-/// The size of the struct in bytes: places 4 bytes each, locks 1, agents 70, two sets of 8 bytes, a count of 8 bytes for each place, and a row
+/// The size of the struct in bytes: places 10 bytes each, locks 1, agents 70, two sets of 8 bytes, a count of 8 bytes for each place, and a row
 /// of 64 numbers.
 pub const SIZE: usize = ORDER + 64;
+/// The size of a place: a name and three keys of two bytes each, and two bytes.
+const PLACE: usize = 4 * 2 + 2;
 /// Where the locks start.
-const LOCKS: usize = 64 * 4;
+const LOCKS: usize = 64 * PLACE;
 /// Where the agents start.
 const AGENTS: usize = LOCKS + 64;
 /// The size of an agent: six bytes and sixteen actions of four bytes.
@@ -21,11 +23,12 @@ const TOUCHES: usize = SETS + 8 + 8;
 /// Where the row starts.
 const ORDER: usize = TOUCHES + 64 * 8;
 
-/// A place's record: way 0 is linked to the parent, any other way is on its way to it; the floor has
-/// name 0, parent 0 and a way other than 0.
+/// A place's record: its name, its keys for entering, exiting and opening; way 0 is linked to the parent, any other way is on its way to it;
+/// the floor has name 0, keys 0, parent 0 and a way other than 0.
 #[derive(Clone, Copy, PartialEq, Eq, Debug)]
 pub struct PlaceRecord {
     pub name: u16,
+    pub keys: [u16; 3],
     pub parent: u8,
     pub way: u8,
 }
@@ -89,8 +92,8 @@ impl Table {
     pub fn read(bytes: &[u8; SIZE]) -> Table {
         let two = |at: usize| u16::from_ne_bytes([bytes[at], bytes[at + 1]]);
         let place = |number: usize| {
-            let at = 4 * number;
-            PlaceRecord { name: two(at), parent: bytes[at + 2], way: bytes[at + 3] }
+            let at = PLACE * number;
+            PlaceRecord { name: two(at), keys: [two(at + 2), two(at + 4), two(at + 6)], parent: bytes[at + 8], way: bytes[at + 9] }
         };
         let agent = |number: usize| {
             let at = AGENTS + AGENT * number;
@@ -145,7 +148,8 @@ impl Table {
                 (_, 0) => Stands::Linked(record.parent),
                 _ => Stands::OnItsWay(record.parent),
             };
-            cell.places.insert(number, Place { name: record.name, stands, touches: self.touches[number as usize] });
+            let touches = self.touches[number as usize];
+            cell.places.insert(number, Place { name: record.name, keys: Keys::of(record.keys), stands, touches });
             if self.locks[number as usize] != 64 {
                 cell.locks.insert(number, self.locks[number as usize]);
             }

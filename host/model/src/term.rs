@@ -1,7 +1,7 @@
 //! Cell files from terms, so that examples can be written as the listing writes them.
 
-/// The cell file of a term such as `7[enter 9] | 9[exit 7]` (`0` is the empty floor): places are numbered from 1 and agents from 0, in
-/// the order in which they appear.
+/// The cell file of a term such as `7[enter 9] | 9[exit 7]` (`0` is the empty floor) or, with keys, `9/5/6/0[]`: places are numbered from 1
+/// and agents from 0, in the order in which they appear. A place written with keys has a record of kind 6, any other one of kind 1.
 pub fn file_of(term: &str) -> Vec<u8> {
     let mut writer = Writer { text: term.as_bytes(), at: 0, file: Vec::new(), places: 0, agents: 0 };
     if term != "0" {
@@ -32,12 +32,18 @@ impl Writer<'_> {
         }
     }
 
-    /// A place: its name, `[`, contents, `]`.
+    /// A place: its name and, if there are any, its keys, a slash before each; `[`, contents, `]`.
     fn place(&mut self, parent: u8) {
         self.places += 1;
         let number = self.places;
         let name = self.name();
-        self.file.extend([1, number, parent, name[0], name[1]]);
+        let kind = if self.text[self.at] == b'/' { 6 } else { 1 };
+        self.file.extend([kind, number, parent, name[0], name[1]]);
+        while self.text[self.at] == b'/' {
+            self.at += 1;
+            let key = self.name();
+            self.file.extend(key);
+        }
         self.at += 1;
         self.contents(number);
         self.at += 1;
@@ -64,7 +70,7 @@ impl Writer<'_> {
         }
     }
 
-    /// A decimal name, low byte first.
+    /// A decimal name or key, low byte first.
     fn name(&mut self) -> [u8; 2] {
         let mut name: u16 = 0;
         while let Some(digit @ b'0'..=b'9') = self.text.get(self.at) {

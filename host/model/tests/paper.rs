@@ -136,7 +136,7 @@ fn moves_of_one_agent() {
 fn the_longest_file_and_the_longest_listing() {
     let mut file = Vec::new();
     for place in 1..64 {
-        file.extend([1, place, 0, 0xFF, 0xFF]);
+        file.extend([6, place, 0, 0xFF, 0xFF, 0x10, 0x27, 0x10, 0x27, 0x10, 0x27]);
     }
     for agent in 0..64 {
         file.extend([2, agent, 0]);
@@ -148,15 +148,19 @@ fn the_longest_file_and_the_longest_listing() {
         file.extend([5, place, 0xFF, 0xFF, 0xFF, 0xFF]);
     }
     file.push(4);
-    assert_eq!(file.len(), 6_012);
-    assert_eq!(listing(&load(&file).unwrap()).len(), 13_043);
-    // any record more is refused, and the last one that can decide has six bytes
+    assert_eq!(file.len(), 6_390);
+    assert_eq!(listing(&load(&file).unwrap()).len(), 14_177);
+    // any record more is refused, and the longest one that can decide has eleven bytes
     file.pop();
-    for record in [[1, 63, 0, 7, 0, 4], [2, 63, 0, 4, 4, 4], [3, 63, 1, 7, 0, 4], [5, 63, 0, 0, 0, 0]] {
-        let refused = refusal(&[&file[..], &record].concat());
-        assert!(matches!(refused, (4 | 8, 6_011)));
-        assert_eq!(refusal(&[&file[..], &record, &[4; 99]].concat()), refused);
+    let records: [&[u8]; 5] =
+        [&[1, 63, 0, 7, 0], &[2, 63, 0], &[3, 63, 1, 7, 0], &[5, 63, 0, 0, 0, 0], &[6, 63, 0, 7, 0, 7, 0, 7, 0, 7, 0]];
+    for record in records {
+        let refused = refusal(&[&file[..], record].concat());
+        assert!(matches!(refused, (4 | 8, 6_389)));
+        assert_eq!(refusal(&[&file[..], record, &[4; 99]].concat()), refused);
+        assert_eq!(refusal(&[&file[..], &record[..record.len() - 1]].concat()), (1, 6_389));
     }
+    assert_eq!(file.len() + records[4].len(), 6_400);
 }
 
 #[test]

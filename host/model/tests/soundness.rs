@@ -11,7 +11,7 @@ fn table(cell: &Cell) -> Table {
             Stands::Linked(parent) => (parent, 0),
             Stands::OnItsWay(destination) => (destination, 1),
         };
-        table.places[number as usize] = PlaceRecord { name: place.name, parent, way };
+        table.places[number as usize] = PlaceRecord { name: place.name, keys: place.keys.numbers(), parent, way };
         table.locks[number as usize] = cell.locks.get(&number).copied().unwrap_or(64);
         table.touches[number as usize] = place.touches;
         table.used[number as usize] = true;
@@ -86,6 +86,20 @@ fn in_range() {
 }
 
 #[test]
+fn keys() {
+    for key in 0..3 {
+        for number in [1, 7, 65_535] {
+            assert!(!stays(CELL, &[], |t| t.places[0].keys[key] = number), "the floor's are 0");
+            assert!(stays(CELL, &[], |t| t.places[1].keys[key] = number));
+        }
+        assert!(stays(CELL, &[], |t| t.places[1].keys[key] = 0), "nobody may");
+    }
+    assert!(stays(CELL, &[], |t| t.places[2].keys = [0; 3]));
+    assert!(!stays(CELL, &[], |t| t.places[0].keys = [5; 3]));
+    assert!(!stays(CELL, &[], |t| (t.places[3].name, t.places[3].keys) = (0, [9; 3])), "a name is asked for, whatever the keys are");
+}
+
+#[test]
 fn one_tree() {
     assert!(!stays(CELL, &[], |t| t.places[1].parent = 2));
     assert!(!stays(CELL, &[], |t| t.places[3].parent = 3));
@@ -119,7 +133,7 @@ fn stage_three() {
     assert!(!stays(CELL, &[0, 0, 0], chosen(2)));
     assert!(!stays(CELL, &[0, 0, 0], chosen(0)));
     assert!(stays(CELL, &[0, 0, 0], chosen(1)), "stage 3 is sound without firing");
-    assert!(stays(CELL, &[0, 0, 0], |t| t.places[3].name = 5), "stage 3 is sound without firing");
+    assert!(stays(CELL, &[0, 0, 0], |t| t.places[3].keys = [5; 3]), "stage 3 is sound without firing");
     assert!(!stays(CELL, &[1, 1, 1], |t| t.places[2].parent = 3));
     assert!(!stays(CELL, &[2, 2, 2], |t| t.places[2].parent = 3));
 }
@@ -190,7 +204,7 @@ fn the_row() {
 
 #[test]
 fn what_is_not_asked() {
-    assert!(stays(CELL, &[], |t| t.places[9] = PlaceRecord { name: 0, parent: 200, way: 3 }));
+    assert!(stays(CELL, &[], |t| t.places[9] = PlaceRecord { name: 0, keys: [0, 7, 9], parent: 200, way: 3 }));
     assert!(stays(CELL, &[], |t| t.locks[9] = 200));
     assert!(stays(CELL, &[], |t| t.agents[9].stage = 200));
     assert!(stays(CELL, &[], |t| t.agents[0].remembered = 200));
@@ -206,21 +220,23 @@ fn what_is_not_asked() {
 #[test]
 fn reading_bytes() {
     let mut bytes = [0; SIZE];
-    bytes[3] = 1;
-    bytes[256..320].fill(64);
-    bytes[4800..4808].copy_from_slice(&(1u64 | 1 << 63).to_ne_bytes());
-    bytes[4808..4816].copy_from_slice(&(1u64 << 63).to_ne_bytes());
-    bytes[252..254].copy_from_slice(&513u16.to_ne_bytes());
-    bytes[5320..5328].copy_from_slice(&70_000u64.to_ne_bytes());
-    (0..64).for_each(|number| bytes[5391 - number] = number as u8);
-    let agent = 320 + 63 * 70;
+    bytes[9] = 1;
+    bytes[640..704].fill(64);
+    bytes[5184..5192].copy_from_slice(&(1u64 | 1 << 63).to_ne_bytes());
+    bytes[5192..5200].copy_from_slice(&(1u64 << 63).to_ne_bytes());
+    for (at, number) in [(630, 513u16), (632, 258), (634, 0), (636, 65_535)] {
+        bytes[at..at + 2].copy_from_slice(&number.to_ne_bytes());
+    }
+    bytes[5704..5712].copy_from_slice(&70_000u64.to_ne_bytes());
+    (0..64).for_each(|number| bytes[5775 - number] = number as u8);
+    let agent = 704 + 63 * 70;
     bytes[agent..agent + 6].copy_from_slice(&[63, 0, 0, 0, 15, 16]);
     bytes[agent + 66] = 2;
     bytes[agent + 68..agent + 70].copy_from_slice(&7u16.to_ne_bytes());
     let cell = Table::read(&bytes).cell().expect("sound");
-    assert_eq!(model::listing(&cell), "513[exit 7]");
+    assert_eq!(model::listing(&cell), "513/258/0/65535[exit 7]");
     assert_eq!((cell.places[&0].touches, cell.places[&63].touches), (0, 70_000));
     assert_eq!(cell.children.under(0), [63]);
-    bytes[5328] = 62;
+    bytes[5712] = 62;
     assert_eq!(Table::read(&bytes).cell(), None);
 }

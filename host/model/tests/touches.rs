@@ -49,7 +49,7 @@ fn refused_records() {
         assert_eq!(refusal(&[5, 64, 1, 0, 0, 0][..length]), (1, 0), "a cut body is 1, whatever its bytes say");
     }
     assert_eq!(refusal(&[5, 0, 1, 0, 0, 0]), (1, 6));
-    assert_eq!(refusal(&[6]), (2, 0));
+    assert_eq!(refusal(&[7]), (2, 0));
 }
 
 #[test]

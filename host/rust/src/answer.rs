@@ -38,7 +38,7 @@ pub enum Word {
 pub enum Refusal {
     /// 1: the file is cut short: a body incomplete, or no end record. A file of length 0 is not: it is a bare floor.
     CutShort,
-    /// 2: a record of unknown kind, not 1 to 5.
+    /// 2: a record of unknown kind, not 1 to 6.
     UnknownKind,
     /// 3: a place record's own number is above 63, or 0; or the place of a touch record or of a touch call is above 63.
     TooLarge,
@@ -46,7 +46,7 @@ pub enum Refusal {
     GivenTwice,
     /// 5: a parent, home, agent or touched place not yet given; of a touch call, a place that is not in use.
     NotYetGiven,
-    /// 6: name 0 in a place or action.
+    /// 6: name 0 in a place or action; a key may be 0.
     NameZero,
     /// 7: an action kind that is not 1 to 3.
     ActionKind,
@@ -200,7 +200,7 @@ impl Refusal {
     pub fn text(self) -> &'static str {
         match self {
             Refusal::CutShort => "cut short: a body incomplete, or no end record",
-            Refusal::UnknownKind => "unknown kind, not 1 to 5",
+            Refusal::UnknownKind => "unknown kind, not 1 to 6",
             Refusal::TooLarge => "place number above 63, or 0 in a place record",
             Refusal::GivenTwice => "number or touches given twice",
             Refusal::NotYetGiven => "not yet given, or not in use",

@@ -8,7 +8,7 @@ use crate::VERSION;
 use core::mem::{offset_of, size_of};
 
 /// The size of a cell in bytes.
-pub const SIZE: usize = 5_392;
+pub const SIZE: usize = 5_776;
 
 /// The number of places that a cell has room for; place 0 is the floor.
 pub const PLACES: usize = 64;
@@ -22,12 +22,28 @@ pub const ACTIONS: usize = 16;
 /// The lock of a place that no agent holds.
 pub const FREE: u8 = 64;
 
+/// A name with its three keys. An action's number is compared with the key of its kind on the place entered, left or opened, and not with
+/// the name; a key of 0 fits no action, so that nobody may. In a cell file a place record of kind 1 sets all three keys to the name, one of
+/// kind 6 gives each of them.
+#[repr(C)]
+#[derive(Clone, Copy, PartialEq, Eq, Debug)]
+pub struct Name {
+    /// What the place is called and listed by, from 1 on; the floor's is 0.
+    pub name: u16,
+    /// The key for entering: `enter n` takes a place into one where this is n. The floor's is 0.
+    pub entering: u16,
+    /// The key for exiting: `exit n` takes a place out of one where this is n. The floor's is 0.
+    pub exiting: u16,
+    /// The key for opening: `open n` opens a place where this is n. The floor's is 0.
+    pub opening: u16,
+}
+
 /// A place.
 #[repr(C)]
 #[derive(Clone, Copy, PartialEq, Eq, Debug)]
 pub struct Place {
-    /// Its name, from 1 on; the floor's is 0.
-    pub name: u16,
+    /// Its name with its keys.
+    pub name: Name,
     /// The place that it is linked to, or on its way to; the floor's is 0.
     pub parent: u8,
     /// 0 where it is linked, else it is on its way; the floor's is 1.
@@ -42,7 +58,8 @@ pub struct Action {
     pub kind: u8,
     /// Means nothing.
     pub padding: u8,
-    /// The name of the place that it acts on, from 1 on.
+    /// The number that the key of that kind must be on the place that it acts on, from 1 on; where the place has no keys of its own, that is
+    /// its name.
     pub name: u16,
 }
 
@@ -86,14 +103,16 @@ pub struct Lent {
     pub order: [u8; PLACES],
 }
 
-const _: () = assert!(size_of::<Place>() == 4 && offset_of!(Place, parent) == 2 && offset_of!(Place, way) == 3);
+const _: () = assert!(size_of::<Name>() == 8 && offset_of!(Name, entering) == 2);
+const _: () = assert!(offset_of!(Name, exiting) == 4 && offset_of!(Name, opening) == 6);
+const _: () = assert!(size_of::<Place>() == 10 && offset_of!(Place, parent) == 8 && offset_of!(Place, way) == 9);
 const _: () = assert!(size_of::<Action>() == 4 && offset_of!(Action, padding) == 1 && offset_of!(Action, name) == 2);
 const _: () = assert!(size_of::<Agent>() == 70 && offset_of!(Agent, stage) == 1 && offset_of!(Agent, remembered) == 2);
 const _: () = assert!(offset_of!(Agent, chosen) == 3 && offset_of!(Agent, next) == 4 && offset_of!(Agent, count) == 5);
 const _: () = assert!(offset_of!(Agent, actions) == 6 && size_of::<Lent>() == SIZE);
-const _: () = assert!(offset_of!(Lent, locks) == 256 && offset_of!(Lent, agents) == 320);
-const _: () = assert!(offset_of!(Lent, used) == 4800 && offset_of!(Lent, given) == 4808 && offset_of!(Lent, touches) == 4816);
-const _: () = assert!(offset_of!(Lent, order) == 5328);
+const _: () = assert!(offset_of!(Lent, locks) == 640 && offset_of!(Lent, agents) == 704);
+const _: () = assert!(offset_of!(Lent, used) == 5184 && offset_of!(Lent, given) == 5192 && offset_of!(Lent, touches) == 5200);
+const _: () = assert!(offset_of!(Lent, order) == 5712);
 
 extern "C" {
     fn keeper_version() -> u64;
@@ -149,7 +168,8 @@ impl Lent {
     pub fn zeros() -> Lent {
         let action = Action { kind: 0, padding: 0, name: 0 };
         let agent = Agent { home: 0, stage: 0, remembered: 0, chosen: 0, next: 0, count: 0, actions: [action; ACTIONS] };
-        let places = [Place { name: 0, parent: 0, way: 0 }; PLACES];
+        let name = Name { name: 0, entering: 0, exiting: 0, opening: 0 };
+        let places = [Place { name, parent: 0, way: 0 }; PLACES];
         Lent { places, locks: [0; PLACES], agents: [agent; AGENTS], used: 0, given: 0, touches: [0; PLACES], order: [0; PLACES] }
     }
 

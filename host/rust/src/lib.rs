@@ -31,6 +31,18 @@
 //! assert_eq!(cell.touch(1, 300)?, 1_500);
 //! assert_eq!(cell.touches(1)?, 1_500);
 //!
+//! // Rights: place 1, named 20, may be entered with 20 and left with 20, and nobody may open it. Agent 0 takes place 2, named 40, into it;
+//! // the open 20 of agent 1, which lives on the floor, never fires.
+//! let file = [6, 1, 0, 20, 0, 20, 0, 20, 0, 0, 0, 1, 2, 0, 40, 0, 2, 0, 2, 3, 0, 1, 20, 0, 2, 1, 0, 3, 1, 3, 20, 0, 4];
+//! let mut cell = Cell::load(&file)?;
+//! while !cell.idle()? {
+//!     cell.step(0, 255)?;
+//!     cell.step(1, 255)?;
+//! }
+//! let length = cell.list(&mut text)?;
+//! assert_eq!(&text[..length], b"open 20 | 20/20/20/0[40[]]");
+//! assert_eq!(cell.lent().places[1].name.opening, 0);
+//!
 //! // A file of length 0 is a bare floor: a line with nothing on it yet.
 //! let cell = Cell::load(&[])?;
 //! let length = cell.list(&mut text)?;
@@ -61,16 +73,16 @@ use lent::Lent;
 
 /// The version of the library that this crate was made for: the major number from bit 16 on, the minor one in bits 8 to 15, the patch in
 /// bits 0 to 7.
-pub const VERSION: u64 = 196_608;
+pub const VERSION: u64 = 262_144;
 
 /// The longest cell file that can be accepted.
-pub const FILE_LONGEST: usize = 6_012;
+pub const FILE_LONGEST: usize = 6_390;
 
 /// How many bytes of a file, at its start, always decide the answer to it: of a longer file a host may read and load those.
-pub const FILE_DECIDING: usize = 6_017;
+pub const FILE_DECIDING: usize = 6_400;
 
 /// The longest listing: with a text of this size, [`Cell::list`] is never refused with 12.
-pub const LISTING_LONGEST: usize = 13_043;
+pub const LISTING_LONGEST: usize = 14_177;
 
 /// The touches that the places in use may have together, at most.
 pub const TOUCHES_MOST: u64 = 1_000_000_000_000;
@@ -99,7 +111,7 @@ impl Cell {
     }
 
     /// The cell that the cell file says. A file of length 0 is a bare floor with no agents, as `[4]` is; one that begins and lacks its end is
-    /// cut short.
+    /// cut short. A place record of kind 6 gives the place's keys for entering, exiting and opening; one of kind 1 sets them to the name.
     ///
     /// # Errors
     ///
@@ -126,7 +138,8 @@ impl Cell {
     /// One lock step of an agent. `wish` is the number of the place that an enter or open should choose where several qualify. It counts
     /// in the call in which the agent, holding its first lock, chooses. A wish for a place that does not qualify, or for none, such as 255,
     /// is passed over, and the qualifying place is chosen that has been under its parent longest: first in, first served. Loaded places count in
-    /// file order; a place that comes is the latest, and so are those that an opening frees, in the order in which they stood.
+    /// file order; a place that comes is the latest, and so are those that an opening frees, in the order in which they stood. Which places
+    /// qualify, their keys say ([`lent::Name`]).
     ///
     /// # Errors
     ///
@@ -137,7 +150,8 @@ impl Cell {
         Ok(Stepped { word: Word::of((answer >> 8) as u8), woken: (answer >> 16) as u8 })
     }
 
-    /// Writes the listing, in ASCII, to the start of the text and answers its length; bytes past it are as they were.
+    /// Writes the listing, in ASCII, to the start of the text and answers its length; bytes past it are as they were. A place whose three keys
+    /// are its name is written as `7[]`, any other with its keys for entering, exiting and opening after the name, as `7/8/9/0[]`.
     ///
     /// # Errors
     ///

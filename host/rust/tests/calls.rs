@@ -1,7 +1,7 @@
 //! Each call of the crate: what it answers, and that a refusal changes nothing.
 
 use keeper::lent::{cell_bytes, fits, version, Lent, SIZE};
-use keeper::{check_library, Cell, Refusal, Refused, Stepped, Word, FILE_DECIDING, FILE_LONGEST, LISTING_LONGEST, TOUCHES_MOST, VERSION};
+use keeper::{check_library, Cell, Refusal, Refused, Stepped, Word, TOUCHES_MOST, VERSION};
 
 /// The worked example's cell: `7[enter 9] | 9[exit 7]`.
 const FILE: [u8; 27] = [1, 1, 0, 7, 0, 1, 2, 0, 9, 0, 2, 0, 1, 3, 0, 1, 9, 0, 2, 1, 2, 3, 1, 2, 7, 0, 4];
@@ -138,7 +138,7 @@ fn refused_touch_records() {
         (&[5, 1, 0, 0, 0, 0, 4], Refusal::GivenTwice),
         (&[5, 2, 1, 0, 0, 0, 4], Refusal::NotYetGiven),
         (&[5, 64, 1, 0, 0], Refusal::CutShort),
-        (&[6, 0, 0, 0, 0, 0, 4], Refusal::UnknownKind),
+        (&[7, 0, 0, 0, 0, 0, 4], Refusal::UnknownKind),
     ];
     for (record, refusal) in rows {
         let file = [&[1, 1, 0, 7, 0, 5, 1, 4, 3, 2, 1], record].concat();
@@ -244,24 +244,6 @@ fn an_idle_cell() {
     assert_eq!(Cell::bare().listing().unwrap(), "0");
     assert_eq!(Cell::load(&[2, 5, 0, 4]).unwrap().idle(), Ok(true));
     assert_eq!(Cell::load(&[2, 5, 0, 4]).unwrap().step(5, 0), Ok(Stepped { word: Word::Done, woken: 0 }));
-}
-
-#[test]
-fn the_longest() {
-    let mut file = Vec::new();
-    for place in 1..64 {
-        file.extend([1, place, 0, 255, 255]);
-    }
-    for agent in 0..64 {
-        file.extend([2, agent, 0]);
-        file.extend([3, agent, 1, 255, 255].repeat(16));
-        file.extend([5, agent, 255, 255, 255, 255]);
-    }
-    file.push(4);
-    assert_eq!(file.len(), FILE_LONGEST);
-    assert_eq!(Cell::load(&file).unwrap().listing().unwrap().len(), LISTING_LONGEST);
-    file.resize(FILE_DECIDING, 4);
-    assert_eq!(Cell::load(&file).unwrap_err(), Refused { refusal: Refusal::AfterTheEnd, offset: Some(FILE_LONGEST) });
 }
 
 #[test]

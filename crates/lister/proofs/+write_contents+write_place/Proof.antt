@@ -23,7 +23,7 @@ use Rattle.lister.proofs.+write_contents+write_place.Lts-write_place as
 use Rattle.lister.proofs.write_bar.Reads as write-bar-reads
 use Rattle.lister.proofs.members.Reads as members-reads
 use Rattle.lister.proofs.write_agents.Reads as write-agents-reads
-use Rattle.lister.proofs.write_head.Reads as write-head-reads
+use Rattle.lister.proofs.names.write_head.Reads as write-head-reads
 use Rattle.sets.proofs.Set.first.Reads as first-reads
 use Rattle.sets.proofs.Set.rest.Reads as rest-reads
 use Rattle.lister.proofs.+write_contents+write_place.{statement}

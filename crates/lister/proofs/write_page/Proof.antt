@@ -7,6 +7,7 @@ use lib.Seq.{length-take-le}
 use borrow.Author.Needs.{needs}
 use Rattle.text.specs.Wrote.{capped}
 use Rattle.text.specs.TextLaws.{wrote-as, wrote-length}
+use Rattle.lengths.specs.Longest.{longestListing}
 use Rattle.lister.specs.Sheet.{sheetOf, floorOn}
 use Rattle.lister.specs.WriteLaws.{page-fits, page-long, page-holds, wholly, partly, not-at-all}
 use Rattle.lister.proofs.write_page.Statement.{statement}
@@ -33,9 +34,9 @@ write-page-spec =
     (λ c. search needs) (λ c κs. let a = c .before .before .args in let sheet = sheetOf (a .places .now) (a .agents .now) (a .names .now) (a .kinds .now) (a .numbers .now) (a .firsts .now) (a .ends .now) in let f = page-fits (floorOn sheet) (c .before .before .pre) in f) (λ c κs. search needs) returns
     (λ c. let a = c .before .before .before .before .before .before .args in let sheet = sheetOf (a .places .now) (a .agents .now) (a .names .now) (a .kinds .now) (a .numbers .now) (a .firsts .now) (a .ends .now) in let f = page-fits (floorOn sheet) (c .before .before .before .before .before .before .pre) in let n = page-long f (c .before .before .before .write-floor .ensures) in omega (arith, c .before .before .before .before .before .before .pre))
     (λ c. let a = c .before .before .before .before .before .before .before .args in let sheet = sheetOf (a .places .now) (a .agents .now) (a .names .now) (a .kinds .now) (a .numbers .now) (a .firsts .now) (a .ends .now) in let f = page-fits (floorOn sheet) (c .before .before .before .before .before .before .before .pre) in let n = page-long f (c .before .before .before .before .write-floor .ensures) in
-    sym (length-take-le _ _ (omega (arith, c .before .before .before .before .before .before .before .pre, wrote-length (c .before .before .before .before .write-floor .ensures), length-replicate {A = ℕ} 13043 0))))
+    sym (length-take-le _ _ (omega (arith, c .before .before .before .before .before .before .before .pre, wrote-length (c .before .before .before .before .write-floor .ensures), length-replicate {A = ℕ} longestListing 0))))
     (λ c κs. search needs) (λ c. wrote-length (c .before .before .write-bytes .ensures)) returns-2
     (λ c. let a = c .before .before .before .before .before .args in let sheet = sheetOf (a .places .now) (a .agents .now) (a .names .now) (a .kinds .now) (a .numbers .now) (a .firsts .now) (a .ends .now) in let f = page-fits (floorOn sheet) (c .before .before .before .before .before .pre) in let n = page-long f (c .before .before .write-floor .ensures) in omega (arith, c .before .before .before .before .before .pre))
     (λ c. let a = c .before .before .before .before .before .before .args in let sheet = sheetOf (a .places .now) (a .agents .now) (a .names .now) (a .kinds .now) (a .numbers .now) (a .firsts .now) (a .ends .now) in let f = page-fits (floorOn sheet) (c .before .before .before .before .before .before .pre) in let n = page-long f (c .before .before .before .write-floor .ensures) in
-    sym (length-take-le _ _ (omega (arith, c .before .before .before .before .before .before .pre, wrote-length (c .before .before .before .write-floor .ensures), length-replicate {A = ℕ} 13043 0))))
+    sym (length-take-le _ _ (omega (arith, c .before .before .before .before .before .before .pre, wrote-length (c .before .before .before .write-floor .ensures), length-replicate {A = ℕ} longestListing 0))))
     (λ c κs. search needs) (λ c. wrote-length (c .before .before .write-bytes2 .ensures)) returns-3)

@@ -2,9 +2,10 @@
 use native.Mathlib.Omega.{arith}
 use borrow.Author.Needs.{needs}
 use mathlib.Core.Path.{refl, _∙_, sym}
-use Prim.Native.Nat.{_-_, _<_}
+use Prim.Native.Nat.{ℕ, _-_, _<_}
 use lib.ListN.{length}
-use Rattle.reader.specs.LoadRest.{Rest, rest-all, answer-refused, answer-accepted, answer-empty}
+use Rattle.meaning.specs.File.{byteAt}
+use Rattle.reader.specs.LoadRest.{Rest, five-bytes, eleven-bytes, rest-all, answer-refused, answer-accepted, answer-empty}
 use Rattle.reader.specs.LoadLaws.{stopped, past-end, ended, finished, has-place, rest-place, rest-touches, rest-agent, rest-action, has-room, short}
 use Rattle.reader.proofs.Tags.{is-end}
 use Rattle.reader.proofs.load.Statement.{statement}
@@ -94,11 +95,18 @@ room c =
 
 loop-again-4 : tie.Need-loop-again-4 Inv-loop μ-loop
 loop-again-4 c =
-    let m = c .before .before .before .before .before in
+    let b = c .before .before in
+    let m = b .before .before .before .before .before in
     let l = m .before .before .before .before .loop in
     let t = m .before .before .before .loop-test .taken in
-    rest-place _ (l .at) (l .d) (l .full) (l .counted) (l .came) (l .many) (l .inv) t _ _ _ _ _ (sym (c .before .before .before .r .given .1) ∙ m .record-at .ensures)
-    (c .before .at4 .ensures) (c .insert3 .ensures)
+    rest-place _ (l .at) (l .d) (l .full) (l .counted) (l .came) (l .many) (l .inv) t _ _ _ _ _ _ (sym (b .before .before .before .r .given .1) ∙ m .record-at .ensures)
+    (b .before .at4 .ensures) (b .insert3 .ensures) (c .place-length .ensures)
+
+-- the kind of a place record, by which its length goes
+abbrev kind-read : tie.After-place-length Inv-loop μ-loop → ℕ
+kind-read c =
+    let t = c .before .before .before .before .before .before .before .before .before .before in
+    byteAt (t .before .before .before .before .before .args .s .now) (t .before .loop .at)
 
 pub load-spec : {M : Type 1} → statement M
 load-spec =
@@ -122,7 +130,11 @@ load-spec =
     (λ c κs. search needs) (λ c. search needs) (λ c. search needs) (λ c κs. search needs) (λ c. search needs) (λ c. search needs)
     (λ c κs. search needs) (λ c. search needs) (λ c. search needs) loop-again-3
     -- a place
-    (λ c κs. search needs) (λ c. search needs) (λ c. search needs) (λ c κs. search needs) room (λ c. let r = room c in omega arith) (λ c. search needs) (λ c. search needs)
-    loop-again-4
+    (λ c κs. search needs) (λ c. search needs) (λ c. search needs) (λ c κs. search needs) room (λ c. let r = room c in omega arith)
+    (λ c. search needs) (λ c κs. search needs)
+    (λ c. let l = eleven-bytes (kind-read c) _ (c .place-length .ensures) in
+    let t = c .before .before .before .before .before .before .before .before .before .before in
+    omega (arith, t .loop-test .taken, t .before .before .before .before .before .good))
+    (λ c. let l = five-bytes (kind-read c) _ (c .place-length .ensures) in omega (arith, c .before .before .before .before .before .before .before .before .before .before .loop-test .taken)) loop-again-4
     -- the file ends without an end record
     (λ c. let l = c .before .loop in answer-refused _ _ 1 _ (short _ (l .at) (l .d) (l .full) (l .counted) (l .came) (l .many) (l .inv) (c .loop-test .left))))

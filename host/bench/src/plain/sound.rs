@@ -1,6 +1,6 @@
 //! Whether a table is sound: a pass over the agents, one over the places, from each place the way to the floor, the touches, and the row.
 
-use crate::cell::{has, Action, Agent, Cell, MOST_TOUCHES, NONE};
+use crate::cell::{has, Action, Agent, Cell, Name, MOST_TOUCHES, NONE};
 
 const EXIT: u8 = 2;
 const OPEN: u8 = 3;
@@ -139,9 +139,9 @@ fn place_fits(cell: &Cell, q: u8, held: u64, going: u64) -> bool {
         return false;
     }
     if q == 0 {
-        place.name == 0 && place.parent == 0 && place.way != 0 && !has(going, q)
+        place.name == Name::NONE && place.parent == 0 && place.way != 0 && !has(going, q)
     } else {
-        place.name != 0 && has(cell.used, place.parent) && has(going, q) == (place.way != 0)
+        place.name.name != 0 && has(cell.used, place.parent) && has(going, q) == (place.way != 0)
     }
 }
 

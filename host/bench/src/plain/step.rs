@@ -102,12 +102,14 @@ fn awaited(cell: &Cell, q: u8) -> bool {
 
 /// Whether enter or open fires on q, for an agent that lives in home and holds p.
 fn fires(cell: &Cell, action: Action, home: u8, p: u8, q: u8) -> bool {
-    linked_to(cell, q, p) && cell.places[q as usize].name == action.name && if action.kind == ENTER { q != home } else { !awaited(cell, q) }
+    linked_to(cell, q, p)
+        && cell.places[q as usize].name.key(action.kind) == action.name
+        && if action.kind == ENTER { q != home } else { !awaited(cell, q) }
 }
 
 /// Whether exit fires on p.
-fn exits(cell: &Cell, name: u16, p: u8) -> bool {
-    linked(cell, p) && cell.places[p as usize].name == name
+fn exits(cell: &Cell, key: u16, p: u8) -> bool {
+    linked(cell, p) && cell.places[p as usize].name.exiting == key
 }
 
 /// The wished place if the action fires on it, else the one on which it does that has been there longest; p for exit.
@@ -207,7 +209,7 @@ fn open(cell: &mut Cell, x: u8, p: u8, t: u8) -> Answer {
             cell.places[q as usize].parent = p;
         }
     }
-    cell.places[t as usize] = Place { name: 0, parent: 0, way: 0 };
+    cell.places[t as usize] = Place::NONE;
     cell.touches[p as usize] += cell.touches[t as usize];
     cell.touches[t as usize] = 0;
     cell.used &= !(1 << t);

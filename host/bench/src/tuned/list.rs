@@ -1,6 +1,6 @@
 //! The listing of a sound table: its length first, then its bytes.
 
-use crate::cell::{members, Agent, Cell};
+use crate::cell::{members, Agent, Cell, Name};
 
 /// Writes the listing and answers its length; nothing is written where it does not fit.
 pub fn list(cell: &Cell, text: &mut [u8]) -> Option<usize> {
@@ -50,7 +50,7 @@ impl Contents {
         if self.is_empty(0) {
             return 1;
         }
-        let names: usize = members(cell.used & !1).map(|q| digits(cell.places[q as usize].name) + 2).sum();
+        let names: usize = members(cell.used & !1).map(|q| name_length(&cell.places[q as usize].name) + 2).sum();
         let rows: usize = members(cell.given).map(|x| row_length(&cell.agents[x as usize])).sum();
         let parts: u32 = self.agents.iter().chain(&self.places).map(|set| set.count_ones()).sum();
         let filled = members(cell.used).filter(|&q| !self.is_empty(q)).count();
@@ -70,7 +70,7 @@ impl Contents {
             if !std::mem::take(&mut first) {
                 writer.bytes(b" | ");
             }
-            writer.number(cell.places[q as usize].name);
+            writer.name(&cell.places[q as usize].name);
             writer.bytes(b"[");
             self.write(cell, q, writer);
             writer.bytes(b"]");
@@ -87,6 +87,17 @@ fn digits(number: u16) -> usize {
         1000..=9999 => 4,
         _ => 5,
     }
+}
+
+/// Whether a name's keys all equal it, so that it is listed without them.
+fn is_plain(name: &Name) -> bool {
+    *name == Name::plain(name.name)
+}
+
+/// The length of a name and, where they are listed, its keys.
+fn name_length(name: &Name) -> usize {
+    let keys = if is_plain(name) { 0 } else { 3 + digits(name.entering) + digits(name.exiting) + digits(name.opening) };
+    digits(name.name) + keys
 }
 
 fn kind_text(kind: u8) -> &'static [u8] {
@@ -122,6 +133,16 @@ impl Writer<'_> {
             number /= 10;
         }
         self.at += length;
+    }
+
+    fn name(&mut self, name: &Name) {
+        self.number(name.name);
+        if !is_plain(name) {
+            for key in [name.entering, name.exiting, name.opening] {
+                self.bytes(b"/");
+                self.number(key);
+            }
+        }
     }
 
     fn row(&mut self, agent: &Agent) {

@@ -1,6 +1,6 @@
 //! The cell of a cell file: one record after another, from a bare floor.
 
-use crate::cell::{has, members, Action, Cell, Place};
+use crate::cell::{has, members, Action, Cell, Name, Place};
 
 /// A refused file: the number and the byte offset.
 pub struct Refused {
@@ -10,7 +10,7 @@ pub struct Refused {
 
 /// A record taken apart.
 enum Record {
-    Place { number: u8, parent: u8, name: u16 },
+    Place { number: u8, parent: u8, name: Name, length: usize },
     Agent { number: u8, home: u8 },
     Action { agent: u8, action: Action },
     Touches { place: u8, count: u32 },
@@ -30,12 +30,12 @@ pub fn load(file: &[u8]) -> Result<Cell, Refused> {
     while at < file.len() {
         let record = record(&cell, touched, &file[at..]).map_err(|number| Refused { number, offset: at })?;
         match record {
-            Record::Place { number, parent, name } => {
+            Record::Place { number, parent, name, length } => {
                 cell.places[number as usize] = Place { name, parent, way: 0 };
                 cell.used |= 1 << number;
                 came[count] = number;
                 count += 1;
-                at += 5;
+                at += length;
             }
             Record::Agent { number, home } => {
                 cell.agents[number as usize].home = home;
@@ -69,24 +69,29 @@ pub fn load(file: &[u8]) -> Result<Cell, Refused> {
 /// The record at the start of the bytes, or the number of its refusal; `touched` are the places that had a touch record.
 fn record(cell: &Cell, touched: u64, bytes: &[u8]) -> Result<Record, u8> {
     match *bytes {
-        [1, number, parent, low, high, ..] => place(cell, number, parent, u16::from_le_bytes([low, high])),
+        [1, number, parent, low, high, ..] => place(cell, number, parent, Name::plain(u16::from_le_bytes([low, high])), 5),
         [2, number, home, ..] => agent(cell, number, home),
         [3, agent, kind, low, high, ..] => action(cell, agent, Action { kind, name: u16::from_le_bytes([low, high]) }),
         [4, ..] => Ok(Record::End),
         [5, place, a, b, c, d, ..] => touches(cell, touched, place, u32::from_le_bytes([a, b, c, d])),
-        [1..=3 | 5, ..] => Err(1),
+        [6, number, parent, a, b, c, d, e, f, g, h, ..] => {
+            let [name, entering, exiting, opening] = [[a, b], [c, d], [e, f], [g, h]].map(u16::from_le_bytes);
+            place(cell, number, parent, Name { name, entering, exiting, opening }, 11)
+        }
+        [1..=3 | 5 | 6, ..] => Err(1),
         _ => Err(2),
     }
 }
 
-fn place(cell: &Cell, number: u8, parent: u8, name: u16) -> Result<Record, u8> {
+/// A place by a record of so many bytes.
+fn place(cell: &Cell, number: u8, parent: u8, name: Name, length: usize) -> Result<Record, u8> {
     match () {
         _ if number == 0 || number > 63 => Err(3),
         _ if parent > 63 => Err(13),
         _ if has(cell.used, number) => Err(4),
         _ if !has(cell.used, parent) => Err(5),
-        _ if name == 0 => Err(6),
-        _ => Ok(Record::Place { number, parent, name }),
+        _ if name.name == 0 => Err(6),
+        _ => Ok(Record::Place { number, parent, name, length }),
     }
 }
 

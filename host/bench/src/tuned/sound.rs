@@ -1,6 +1,6 @@
 //! Whether a table is sound: one pass over the agents, one over the places, the way to the floor, and one pass over the row.
 
-use crate::cell::{has, members, Agent, Cell, MOST_TOUCHES, NONE};
+use crate::cell::{has, members, Agent, Cell, Name, MOST_TOUCHES, NONE};
 
 /// Whether the table is sound.
 pub fn sound(cell: &Cell) -> bool {
@@ -86,9 +86,9 @@ impl Seen {
         self.touches += touches;
         (cell.locks[q as usize] == NONE || has(self.held, q))
             && if q == 0 {
-                place.name == 0 && place.parent == 0 && place.way != 0 && !going
+                place.name == Name::NONE && place.parent == 0 && place.way != 0 && !going
             } else {
-                place.name != 0 && has(cell.used, place.parent) && going == (place.way != 0)
+                place.name.name != 0 && has(cell.used, place.parent) && going == (place.way != 0)
             }
     }
 }

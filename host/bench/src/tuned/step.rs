@@ -115,8 +115,8 @@ fn look(cell: &mut Cell, x: u8) -> Answer {
 
 /// Whether an action of an agent that lives in home and holds p fires on q; exit fires on p itself.
 fn fires(cell: &Cell, action: Action, home: u8, p: u8, q: u8) -> bool {
-    let named = has(cell.used, q) && cell.places[q as usize].name == action.name;
-    named
+    let keyed = has(cell.used, q) && cell.places[q as usize].name.key(action.kind) == action.name;
+    keyed
         && match action.kind {
             ENTER => q != home && linked_to(cell, q, p),
             EXIT => q == p && linked(cell, p),
@@ -237,7 +237,7 @@ fn open(cell: &mut Cell, x: u8, p: u8, t: u8) -> Answer {
         }
     }
     later(&mut cell.order, freed);
-    cell.places[t as usize] = Place { name: 0, parent: 0, way: 0 };
+    cell.places[t as usize] = Place::NONE;
     cell.touches[p as usize] += std::mem::take(&mut cell.touches[t as usize]);
     cell.used &= !(1 << t);
     let agent = &mut cell.agents[x as usize];

@@ -14,15 +14,15 @@ use Rattle.table.specs.BaseLaws.{getD-tab}
 use Rattle.table.specs.Cell.{noPlace}
 use Rattle.table.specs.SweepLaws.{below, sweep-start, sweep-skip, sweep-hit, sweep-end}
 use Rattle.table.specs.declared.Place.{Place}
-use Rattle.lister.specs.Sheet.{namesOf, parentsOf}
+use Rattle.lister.specs.Sheet.{packedOf, namesOf, parentsOf}
 use Rattle.lister.specs.PartLaws.{taken-lt, left-over, left-less}
 use Rattle.lister.specs.GroupLaws.{row-of, wordsTo, words-none, words-filed, words-all}
 use Rattle.lister.proofs.sheet.stand.Statement.{statement}
 use Rattle.lister.proofs.sheet.stand.Tie as tie
 
--- the name at q, where q is in use
+-- the word of the name at q, where q is in use
 abbrev nameAt : Set → List Place → ℕ → ℕ
-nameAt used ps q = cond (member used q) (getD ps q noPlace .name) 0
+nameAt used ps q = cond (member used q) (packedOf (getD ps q noPlace .name)) 0
 
 abbrev Inv-loop : tie.InvT-loop
 Inv-loop names₀ words₀ ps left₀ names words left =
@@ -35,8 +35,8 @@ abbrev μ-loop : tie.MeasureT-loop
 low : (m : tie.After-first Inv-loop μ-loop) → m .first .result < 64
 low m = taken-lt (m .before .before .before .loop .inv .1 .0) (m .before .if1 .taken) (m .first .ensures)
 
-unnamed : (used : Set) (ps : List Place) (q : ℕ) (b : Bool) → member used q ≡ b → nameAt used ps q ≡ cond b (getD ps q noPlace .name) 0
-unnamed used ps q b e = ap (λ (z : Bool). cond z (getD ps q noPlace .name) 0) e
+unnamed : (used : Set) (ps : List Place) (q : ℕ) (b : Bool) → member used q ≡ b → nameAt used ps q ≡ cond b (packedOf (getD ps q noPlace .name)) 0
+unnamed used ps q b e = ap (λ (z : Bool). cond z (packedOf (getD ps q noPlace .name)) 0) e
 
 loop-holds : tie.Need-loop-holds Inv-loop μ-loop
 loop-holds c =
@@ -53,19 +53,19 @@ loop-holds c =
 
 loop-again : tie.Need-loop-again Inv-loop μ-loop
 loop-again c =
-    let k = c .before .before .before .before .before .before .if1 .taken in
-    let l = c .before .before .before .before .before .before .before .before .loop in
+    let k = c .before .before .before .before .before .before .before .before .if1 .taken in
+    let l = c .before .before .before .before .before .before .before .before .before .before .loop in
     let v = l .inv .1 in
-    let e = c .before .before .before .before .before .first .ensures in
-    let h = low (c .before .before .before .before .before) in
-    let a = c .before .before .before .before .before .before .before .before .before .args in
+    let e = c .before .before .before .before .before .before .before .first .ensures in
+    let h = low (c .before .before .before .before .before .before .before) in
+    let a = c .before .before .before .before .before .before .before .before .before .before .before .args in
     let g = nameAt (a .used) (a .t2) in
     let q = ap (member (a .used)) e ∙ rest-member (v .0) k in (
-      c .before .before .before .before .before .first .result + 1,
+      c .before .before .before .before .before .before .before .first .result + 1,
       (
-        left-over (v .0) k e (c .before .before .before .rest .ensures),
+        left-over (v .0) k e (c .before .before .before .before .before .rest .ensures),
         (
-          sweep-hit 0 (λ _. 0) g _ _ _ h (sym (unnamed (a .used) (a .t2) _ _ q))
+          sweep-hit 0 (λ _. 0) g _ _ _ h (c .before .before .before .packed .ensures ∙ sym (unnamed (a .used) (a .t2) _ _ q))
               (sweep-skip 0 (λ _. 0) g _ (l .inv .0) _ (omega (arith, rest-from (v .0) k))
               (λ j m n. unnamed (a .used) (a .t2) j _ (rest-skip (v .0) k j m (omega arith))) (v .1 .0)),
           words-filed (a .used) (parentsOf (a .t2)) (v .0) k _ _ _ _ e
@@ -91,6 +91,6 @@ stand-spec =
     tie.close
     (tie.spec Inv-loop μ-loop
     loop-holds (λ c κs. search needs) (λ c. let h = low c in omega arith) (λ c. let h = low c in omega arith) (λ c. let h = low c in omega arith)
-    (λ c κs. search needs) (λ c. let h = low (c .before .before) in omega arith) (λ c. let h = low (c .before .before) in omega arith)
+    (λ c κs. search needs) (λ c κs. search needs) (λ c. let h = low (c .before .before .before .before) in omega arith) (λ c. let h = low (c .before .before .before .before) in omega arith)
     (λ c κs. search needs) (λ c κs. search needs)
-    (λ c. left-less (c .before .before .before .before .before .before .before .before .loop .inv .1 .0) (c .before .before .before .before .before .before .if1 .taken) (c .before .before .before .rest .ensures)) loop-again returns)
+    (λ c. left-less (c .before .before .before .before .before .before .before .before .before .before .loop .inv .1 .0) (c .before .before .before .before .before .before .before .before .if1 .taken) (c .before .before .before .before .before .rest .ensures)) loop-again returns)

@@ -3,46 +3,47 @@
 -- that is handed out was read before the walk.
 use Prim.Native.Nat.{ℕ}
 use mathlib.Core.Path.{_≡_, sym, ap, ap₂, _∙_, subst}
-use mathlib.Core.Bool.{true, _&&_}
+use mathlib.Core.Bool.{true, false, _&&_}
 use native.Mathlib.Omega.{arith}
 use borrow.Author.Tests.{not-true}
 use Rattle.sets.specs.Set.{inserted}
 use Rattle.sets.specs.declared.Set.{Set}
 use Rattle.table.specs.Cell.{cellOf}
-use Rattle.table.specs.SoundParts.{core-fails, core-holds}
-use Rattle.table.specs.Sound.{firstHeld, secondHeldIn, goingFrom, agentFits, coreSound, booksSound, touchSum}
+use Rattle.table.specs.SoundParts.{core-holds}
+use Rattle.table.specs.Sound.{firstHeld, secondHeldIn, goingFrom, agentFits, booksSound, touchSum}
 use Rattle.soundness.specs.Pass.{quiet}
 use Rattle.soundness.specs.AgentLaws.{home-out, row-out}
 use Rattle.soundness.specs.PassLaws.{Passed, passed-are, passed-start, passed-twice, passed-quiet, passed-busy}
-use Rattle.soundness.specs.SoundLaws.{lands-same}
 use Rattle.order.specs.Row.{rowFits}
 use Rattle.soundness.specs.Left.{leftOf}
 use Rattle.soundness.specs.declared.touches.Left.{Left}
 use Rattle.table.proofs.Facts.{sized}
 use Rattle.soundness.proofs.sound.see.Statement.{statement}
 use Rattle.soundness.proofs.sound.see.Tie as tie
-use Rattle.soundness.proofs.sound.see.Proof.Turn.{Inv-loop, μ-loop, seen-as, small, table, good, number, agent, this, some-left, lowest, fewer, moved-to, refused, unfit, kept, is-still, fits-still, second-is, fits-busy, moves}
+use Rattle.soundness.proofs.sound.see.Proof.Turn.{Inv-loop, μ-loop, Inv-loop2, μ-loop2, small, table, good, number, agent, this, some-left, lowest, fewer, moved-to, refused, unfit, kept, is-still, fits-still, second-is, fits-busy, moves}
+use Rattle.soundness.proofs.sound.see.Proof.Lands as lands
 mod Turn
+mod Lands
 
-loop-holds : tie.Need-loop-holds Inv-loop μ-loop
+loop-holds : tie.Need-loop-holds Inv-loop μ-loop Inv-loop2 μ-loop2
 loop-holds c =
     let x = c .before .before .before .before .args .t1 in
     passed-start x (sized x (c .before .before .before .before .good .0))
 
-returns : tie.Need-returns Inv-loop μ-loop
+returns : tie.Need-returns Inv-loop μ-loop Inv-loop2 μ-loop2
 returns c =
     let h = c .before .before in
     c .unsound .ensures
     ∙ unfit h (home-out (table h) (sized (table h) (good h)) (number h) (this h) (sym (h .has .ensures) ∙ not-true _ (c .before .if2 .taken)))
 
-returns-2 : tie.Need-returns-2 Inv-loop μ-loop
+returns-2 : tie.Need-returns-2 Inv-loop μ-loop Inv-loop2 μ-loop2
 returns-2 c =
     let h = c .before .before .before .before .before in
     c .unsound2 .ensures
     ∙ unfit h (row-out (table h) (sized (table h) (good h)) (number h) (this h)
     (sym (c .before .before .before .row-of .ensures .0) ∙ not-true _ (c .before .if3 .taken)))
 
-loop-again : tie.Need-loop-again Inv-loop μ-loop
+loop-again : tie.Need-loop-again Inv-loop μ-loop Inv-loop2 μ-loop2
 loop-again c =
     let h = c .before .before .before .before .before .before .before .before .before .before .before in
     let l = h .before .before .before .before .before .before .loop in
@@ -51,7 +52,7 @@ loop-again c =
     (moved-to h (agentFits (cellOf (table h))) true (fits-still (c .before) ∙ kept _ (c .if5 .left)))
     (moved-to h (λ n a. quiet (a .stage)) true (is-still (c .before .before .before .before))))
 
-returns-4 : tie.Need-returns-4 Inv-loop μ-loop
+returns-4 : tie.Need-returns-4 Inv-loop μ-loop Inv-loop2 μ-loop2
 returns-4 c =
     let second = c .before .before .before .before .before .before .before .before in
     let h = second .before .before .before .before .before .before .before .before .before .before .before .before .before in
@@ -60,7 +61,7 @@ returns-4 c =
     ∙ refused h (passed-twice (table h) (sized (table h) (good h)) (l .claimed) (l .going) (l .rest) (l .inv) (some-left h)
     (moves (c .before .before) ∙ c .before .if6 .taken))
 
-loop-again-2 : tie.Need-loop-again-2 Inv-loop μ-loop
+loop-again-2 : tie.Need-loop-again-2 Inv-loop μ-loop Inv-loop2 μ-loop2
 loop-again-2 c =
     let busy = c .before .before .before .before in
     let move = busy .before .before in
@@ -79,35 +80,26 @@ loop-again-2 c =
     (passed-busy (table h) (sized (table h) (good h)) (l .claimed) (l .going) (l .rest) (l .inv) (some-left h)
     (moved-to h (agentFits (cellOf x)) true (fits-busy busy ∙ kept _ (c .before .before .before .if7 .left))) (moves move ∙ busy .before .if6 .left))
 
--- once nobody is left, the places decide
-placed : (c : tie.After-lands-fit Inv-loop μ-loop) → c .lands-fit .result ≡ coreSound (cellOf (c .before .before .before .before .before .before .before .before .before .before .args .t1))
-placed c =
-    let l = c .before .before .before .before .before in
-    let s = l .before .before .before .before in
-    let x = s .before .args .t1 in
-    c .lands-fit .ensures
-    ∙ lands-same x (sized x (s .before .good .0)) (l .loop .claimed) (l .loop .going) (l .loop .rest) (l .loop .inv) (c .before .before .before .if1 .left)
-
-returns-6 : tie.Need-returns-6 Inv-loop μ-loop
+-- once nobody is left, the floor
+returns-6 : tie.Need-returns-6 Inv-loop μ-loop Inv-loop2 μ-loop2
 returns-6 c =
-    let s = c .before .before .before .before .before .before .before .before .before .before .before in
-    c .unsound6 .ensures
-    ∙ seen-as s _ (core-fails (cellOf (s .before .args .t1)) (sym (sym (placed (c .before .before)) ∙ not-true _ (c .before .if8 .taken))))
+    let f = c .before .before in
+    c .unsound6 .ensures ∙ lands.refused f (lands.placed f false (not-true _ (c .before .if8 .taken)))
 
 -- and then the touches and the row
-returns-7 : tie.Need-returns-7 Inv-loop μ-loop
+returns-9 : tie.Need-returns-9 Inv-loop μ-loop Inv-loop2 μ-loop2
 unfolding booksSound leftOf touchSum cellOf
-returns-7 c =
+returns-9 c =
     let t = c .before .before in
     let p = t .before .before .before .before in
-    let s = p .before .before .before .before .before .before .before .before .before in
-    seen-as s _ (c .books-fit .ensures ∙ ap (λ (l : Left). l .fits && rowFits (s .before .args .t1 .order)) (t .touches-left .ensures)
-    ∙ core-holds (cellOf (s .before .args .t1)) (sym (placed p) ∙ kept _ (t .before .before .before .if8 .left)))
+    let x = lands.cell (lands.led-from p) in
+    lands.answered (lands.led-from p) _ (c .books-fit .ensures ∙ ap (λ (l : Left). l .fits && rowFits (x .order)) (t .touches-left .ensures)
+    ∙ core-holds (cellOf x) (sym (lands.led p) ∙ kept _ (t .before .before .before .if11 .left)))
 
 pub see-spec : {M : Type 1} → statement M
 see-spec =
     tie.close
-    (tie.spec Inv-loop μ-loop
+    (tie.spec Inv-loop μ-loop Inv-loop2 μ-loop2
     (λ c κs. tt) (λ c. omega arith) (λ c. omega arith) loop-holds
     -- the agent of the turn: its home and its row
     (λ c κs. tt) (λ c κs. tt)
@@ -135,5 +127,10 @@ see-spec =
     (λ c.
     let second = c .before .before .before .before .before .before .before .before .before .before .before .before in
     fewer (second .before .before .before .before .before .before .before .before .before .before .before .before .before)) loop-again-2
-    -- nobody is left
-    (λ c κs. tt) (λ c κs. tt) returns-6 (λ c κs. tt) (λ c κs. tt) returns-7)
+    -- nobody is left: the floor, the other places, the touches and the row
+    (λ c. omega arith) (λ c. omega arith) (λ c κs. tt) (λ c κs. tt) returns-6
+    (λ c κs. tt) lands.loop2-holds (λ c κs. tt) (λ c κs. tt)
+    (λ c. let h = lands.small c in omega arith) (λ c. let h = lands.small c in omega arith) (λ c. let h = lands.small c in omega arith)
+    (λ c. let h = lands.small (c .before) in omega arith) (λ c κs. tt) (λ c κs. tt) (λ c κs. tt) (λ c κs. tt) (λ c κs. tt) lands.returns-7
+    (λ c. let h = lands.small (c .before .before .before .before .before .before .before) in omega arith) (λ c κs. tt)
+    lands.loop2-less lands.loop2-again lands.all-lead-requires (λ c κs. tt) lands.returns-8 (λ c κs. tt) (λ c κs. tt) returns-9)

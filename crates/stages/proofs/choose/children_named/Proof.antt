@@ -10,7 +10,7 @@ use borrow.Author.Needs.{needs}
 use Rattle.sets.specs.Set.{member}
 use Rattle.sets.specs.WalkLaws.{rest-lt, removed-less}
 use Rattle.sets.specs.declared.Set.{Set}
-use Rattle.table.specs.Cell.{noPlace}
+use Rattle.table.specs.Cell.{noPlace, keyOf}
 use Rattle.updates.specs.GatherLaws.{Gathered, gathered-start, gathered-end, gathered-more}
 use Rattle.stages.specs.Changes.{rowless}
 use Rattle.stages.specs.ChildLaws.{child-split}
@@ -18,11 +18,11 @@ use Rattle.stages.proofs.choose.children_named.Statement.{statement}
 use Rattle.stages.proofs.choose.children_named.Tie as tie
 
 abbrev Inv-loop : tie.InvT-loop
-Inv-loop p n ps found₀ rest₀ found rest =
-    Gathered (member rest₀) (λ q. eqb (getD ps q noPlace .way) 0 && eqb (getD ps q noPlace .parent) p && eqb (getD ps q noPlace .name) n) found rest
+Inv-loop kind p n ps found₀ rest₀ found rest =
+    Gathered (member rest₀) (λ q. eqb (getD ps q noPlace .way) 0 && eqb (getD ps q noPlace .parent) p && eqb (keyOf kind (getD ps q noPlace .name)) n) found rest
 
 abbrev μ-loop : tie.MeasureT-loop
-μ-loop p n ps found₀ rest₀ found rest = rest .bits
+μ-loop kind p n ps found₀ rest₀ found rest = rest .bits
 
 -- the place of this turn is below 64
 small : (c : tie.After-rest Inv-loop μ-loop) → c .before .first .result < 64
@@ -42,12 +42,12 @@ loop-again c =
     rw (c .insert-if .ensures, c .before .before .before .rest .ensures, q .first .ensures)
     (gathered-more (l .loop .inv) (pos-of-ne-zero (q .before .if1 .taken)) (c .before .child-named .result)
     (c .before .child-named .ensures
-    ∙ ap (λ (i : ℕ). eqb (getD (a .t1) i noPlace .way) 0 && eqb (getD (a .t1) i noPlace .parent) (a .p) && eqb (getD (a .t1) i noPlace .name) (a .n))
+    ∙ ap (λ (i : ℕ). eqb (getD (a .t1) i noPlace .way) 0 && eqb (getD (a .t1) i noPlace .parent) (a .p) && eqb (keyOf (a .kind) (getD (a .t1) i noPlace .name)) (a .n))
     (q .first .ensures)))
 
 returns : tie.Need-returns Inv-loop μ-loop
 returns c = let a = c .before .before .before .args in
-    gathered-end (c .before .before .loop .inv) (c .if1 .left) ∙ child-split (rowless (a .t1) (a .used)) (a .p) (a .n)
+    gathered-end (c .before .before .loop .inv) (c .if1 .left) ∙ child-split (a .kind) (rowless (a .t1) (a .used)) (a .p) (a .n)
 
 pub children-named-spec : {M : Type 1} → statement M
 children-named-spec =

@@ -1,4 +1,4 @@
--- The test of linked, then the name.
+-- The test of linked, then the key.
 use mathlib.Core.Path.{sym, _∙_}
 use borrow.Author.Needs.{needs}
 use Rattle.stages.proofs.choose.exits.Statement.{statement}

@@ -1,4 +1,5 @@
--- What each turn of the walk over the agents learns of its agent, in the words of the definition.
+-- What holds before each turn of the two walks, and what each turn of the walk over the agents learns of its agent, in the words of the
+-- definition.
 use native.Mathlib.Nat.{pos-of-ne-zero}
 use Prim.Native.Nat.{ℕ, _<_}
 use mathlib.Core.Path.{_≡_, refl, sym, ap, ap₂, _∙_, subst}
@@ -14,6 +15,7 @@ use Rattle.table.specs.Sound.{coreSound, sound, actionsFit, secondHeld, secondH
 use Rattle.soundness.specs.Pass.{quiet}
 use Rattle.soundness.specs.AgentLaws.{second-same, busy-same, quiet-same}
 use Rattle.soundness.specs.Seen.{seenOf}
+use Rattle.soundness.specs.LandLaws.{Climbed}
 use Rattle.soundness.specs.PassLaws.{Passed, passed-stop}
 use Rattle.table.specs.declared.Agent.{Agent}
 use Rattle.table.specs.declared.Cell.{Cell}
@@ -27,24 +29,31 @@ Inv-loop agent c own mine used claimed₀ going₀ rest₀ claimed going rest = 
 abbrev pub μ-loop : tie.MeasureT-loop
 μ-loop agent c own mine used claimed₀ going₀ rest₀ claimed going rest = rest .bits
 
+abbrev pub Inv-loop2 : tie.InvT-loop2
+Inv-loop2 agent c own mine used claimed going lock up₀ top₀ high₀ others₀ up top high others =
+    Climbed (c .places) (c .locks) (c .used) claimed going up top high others
+
+abbrev pub μ-loop2 : tie.MeasureT-loop2
+μ-loop2 agent c own mine used claimed going lock up₀ top₀ high₀ others₀ up top high others = others .bits
+
 -- an answer of its two parts
 abbrev pub seen : Bool → Agent → Seen
 seen b a = record { sound = b; agent = a }
 
 -- the agent that was read first is the one that the call is for
-module _ (c : tie.After-at Inv-loop μ-loop) where
+module _ (c : tie.After-at Inv-loop μ-loop Inv-loop2 μ-loop2) where
   pub seen-as : (b : Bool) → b ≡ sound (cellOf (c .before .args .t1))
       → seen b (getD (c .before .args .t1 .agents) (c .at .result) noAgent) ≡ seenOf (c .before .args .t1) (c .before .args .agent)
   seen-as b e = ap₂ seen e (ap (λ (n : ℕ). getD (c .before .args .t1 .agents) n noAgent) (c .at .ensures))
 
 -- the turn's agent is below 64
-pub small : (c : tie.After-rest2 Inv-loop μ-loop) → c .before .first .result < 64
+pub small : (c : tie.After-rest2 Inv-loop μ-loop Inv-loop2 μ-loop2) → c .before .first .result < 64
 small c = let l = c .before .before .before .before .loop in
     subst (λ (n : ℕ). n < 64) (sym (c .before .first .ensures)) (rest-lt (l .inv .tested .left) (pos-of-ne-zero (c .before .before .if1 .taken)))
 
 -- ---- the turn's agent, its home tested
 
-module _ (c : tie.After-has Inv-loop μ-loop) where
+module _ (c : tie.After-has Inv-loop μ-loop Inv-loop2 μ-loop2) where
   abbrev pub table : Cell
   table = c .before .before .before .before .before .before .before .before .before .before .before .args .t1
 
@@ -101,7 +110,7 @@ kept false e = sym e
 
 -- ---- its home is in use and its actions are in range
 
-module _ (c : tie.Else3 Inv-loop μ-loop) where
+module _ (c : tie.Else3 Inv-loop μ-loop Inv-loop2 μ-loop2) where
   home-in : has (table (c .before .before .before .before) .used .bits) (this (c .before .before .before .before) .home) ≡ true
   home-in = sym (c .before .before .before .before .has .ensures) ∙ kept _ (c .before .before .before .if2 .left)
 
@@ -115,15 +124,15 @@ module _ (c : tie.Else3 Inv-loop μ-loop) where
   kind-is = c .before .before .row-of .ensures .1 row-in
 
 -- at a quiet stage
-pub is-still : (c : tie.Then4 Inv-loop μ-loop) → quiet (this (c .before .before .before .before .before .before .before) .stage) ≡ true
+pub is-still : (c : tie.Then4 Inv-loop μ-loop Inv-loop2 μ-loop2) → quiet (this (c .before .before .before .before .before .before .before) .stage) ≡ true
 is-still c = sym (c .before .is-quiet .ensures) ∙ c .if4 .taken
 
-module _ (c : tie.After-quiet-fits Inv-loop μ-loop) where
+module _ (c : tie.After-quiet-fits Inv-loop μ-loop Inv-loop2 μ-loop2) where
   -- its row and its home, as they were tested
-  abbrev still-row : tie.Else3 Inv-loop μ-loop
+  abbrev still-row : tie.Else3 Inv-loop μ-loop Inv-loop2 μ-loop2
   still-row = c .before .before .before .before .before .before
 
-  abbrev still-home : tie.After-has Inv-loop μ-loop
+  abbrev still-home : tie.After-has Inv-loop μ-loop Inv-loop2 μ-loop2
   still-home = still-row .before .before .before .before
 
   pub fits-still : agentFits (cellOf (table still-home)) (number still-home) (this still-home) ≡ c .quiet-fits .result
@@ -134,11 +143,11 @@ module _ (c : tie.After-quiet-fits Inv-loop μ-loop) where
       ∙ rw (← c .before .before .before .before .before .has2 .ensures) (sym (c .quiet-fits .ensures))
 
 -- at any other stage: what it holds
-module _ (c : tie.After-second-held Inv-loop μ-loop) where
-  abbrev held-row : tie.Else3 Inv-loop μ-loop
+module _ (c : tie.After-second-held Inv-loop μ-loop Inv-loop2 μ-loop2) where
+  abbrev held-row : tie.Else3 Inv-loop μ-loop Inv-loop2 μ-loop2
   held-row = c .before .before .before .before .before .before .before .before .before
 
-  abbrev held-home : tie.After-has Inv-loop μ-loop
+  abbrev held-home : tie.After-has Inv-loop μ-loop Inv-loop2 μ-loop2
   held-home = held-row .before .before .before .before
 
   pub second-is : c .second-held .result ≡ secondHeldIn (cellOf (table held-home)) (this held-home)
@@ -149,12 +158,12 @@ module _ (c : tie.After-second-held Inv-loop μ-loop) where
       (c .before .before .before .before .before .at2 .ensures)
       ∙ second-same (table h) (sized (table h) (good h)) (number h) (this h) (home-in held-row) (row-fits held-row) _ (kind-is held-row)
 
-module _ (c : tie.After-busy-fits Inv-loop μ-loop) where
+module _ (c : tie.After-busy-fits Inv-loop μ-loop Inv-loop2 μ-loop2) where
   -- what it holds, and its home, as they were read
-  abbrev busy-held : tie.After-second-held Inv-loop μ-loop
+  abbrev busy-held : tie.After-second-held Inv-loop μ-loop Inv-loop2 μ-loop2
   busy-held = c .before .before .before .before .before .before .before .before
 
-  abbrev busy-home : tie.After-has Inv-loop μ-loop
+  abbrev busy-home : tie.After-has Inv-loop μ-loop Inv-loop2 μ-loop2
   busy-home = held-home busy-held
 
   pub fits-busy : agentFits (cellOf (table busy-home)) (number busy-home) (this busy-home) ≡ c .busy-fits .result
@@ -172,8 +181,8 @@ module _ (c : tie.After-busy-fits Inv-loop μ-loop) where
         ← c .before .before .before .before .before .before .at5 .ensures,
       ) (sym (c .busy-fits .ensures))
 
-module _ (c : tie.After-has3 Inv-loop μ-loop) where
-  abbrev moved-home : tie.After-has Inv-loop μ-loop
+module _ (c : tie.After-has3 Inv-loop μ-loop Inv-loop2 μ-loop2) where
+  abbrev moved-home : tie.After-has Inv-loop μ-loop Inv-loop2 μ-loop2
   moved-home = held-home (c .before .before .before .before .before .before)
 
   -- the places that agents before it moved

@@ -1,0 +1,59 @@
+-- "0 means nobody may" (document 02, W6): the calculus permits no action on a place whose key of the action's kind is 0.
+-- Idea: a permitted action has the number of that key, and an action in range has a number that is not 0.
+use mathlib.Core.Path.{_≡_, ap, _∙_}
+use mathlib.Core.Bool.{true, false, not, _&&_}
+use Prim.Native.Nat.{ℕ}
+use native.Mathlib.Omega.{arith}
+use lib.Dec.{eqb}
+use borrow.Author.Tests.{eqb-true}
+use Rattle.table.specs.BaseLaws.{Told, yea, nay, told, clash, and-right}
+use Rattle.table.specs.Cell.{enterKind, exitKind, openKind, keyOf}
+use Rattle.meaning.specs.Calculus.{Tree, nextOf, standsAt, mayEnter, mayExit, mayOpen, permits}
+use Rattle.calculus.specs.Formed.{Formed}
+use Rattle.calculus.specs.MoveFormed.{good-first}
+
+module _ (t : Tree) (a m : ℕ) where
+  -- n is the key of place m for actions of this kind and the number of the agent's next action
+  abbrev Fits : ℕ → Type 0
+  Fits kind = keyOf kind (t .name m) ≡ nextOf t a .name
+
+  enter-key : mayEnter t a m ≡ true → Fits enterKind
+  unfolding mayEnter
+  enter-key e = eqb-true _ _ (and-right (not (eqb m (t .home a))) _ (and-right (standsAt t m (t .parent (t .home a))) _ (and-right (not (eqb (t .home a) 0)) _ e)))
+
+  exit-key : mayExit t a m ≡ true → Fits exitKind
+  unfolding mayExit
+  exit-key e = eqb-true _ _ (and-right (eqb m (t .parent (t .home a))) _ (and-right (not (eqb (t .home a) 0)) _ e))
+
+  open-key : mayOpen t a m ≡ true → Fits openKind
+  unfolding mayOpen
+  open-key e = eqb-true _ _ (and-right (standsAt t m (t .home a)) _ e)
+
+  -- a permitted action is one of the three kinds, and its number is the key of that kind on the place
+  pub data Permitted : Type 0 where
+    enters : nextOf t a .kind ≡ enterKind → Fits enterKind → Permitted
+    exits : nextOf t a .kind ≡ exitKind → Fits exitKind → Permitted
+    opens : nextOf t a .kind ≡ openKind → Fits openKind → Permitted
+
+  pub permitted-key : permits t a m ≡ true → Permitted
+  unfolding permits
+  permitted-key e = go (told (eqb (nextOf t a .kind) enterKind)) (told (eqb (nextOf t a .kind) exitKind)) (told (eqb (nextOf t a .kind) openKind))
+    where
+      go : Told (eqb (nextOf t a .kind) enterKind) → Told (eqb (nextOf t a .kind) exitKind) → Told (eqb (nextOf t a .kind) openKind) → Permitted
+      go (yea k) _ _ = enters (eqb-true _ _ k) (enter-key (rw k at e))
+      go (nay k) (yea l) _ = exits (eqb-true _ _ l) (exit-key (rw (k, l) at e))
+      go (nay k) (nay l) (yea n) = opens (eqb-true _ _ n) (open-key (rw (k, l, n) at e))
+      go (nay k) (nay l) (nay n) = clash e (rw (k, l, n))
+
+  -- "0 means nobody may"
+  pub nobody-may : Formed t → keyOf (nextOf t a .kind) (t .name m) ≡ 0 → permits t a m ≡ false
+  nobody-may w z = go (told (permits t a m))
+    where
+      none : Permitted → ⊥
+      none (enters k n) = omega (arith, good-first (w .good a) (omega arith), ap (λ (i : ℕ). keyOf i (t .name m)) k, z, n)
+      none (exits k n) = omega (arith, good-first (w .good a) (omega arith), ap (λ (i : ℕ). keyOf i (t .name m)) k, z, n)
+      none (opens k n) = omega (arith, good-first (w .good a) (omega arith), ap (λ (i : ℕ). keyOf i (t .name m)) k, z, n)
+
+      go : Told (permits t a m) → permits t a m ≡ false
+      go (yea e) = absurd (none (permitted-key e))
+      go (nay e) = e
