@@ -82,6 +82,13 @@ EXAMPLES = {
         keyed(1, 0, 20, 20, 20, 0) + place(2, 1, 30) + place(3, 0, 40)
         + agent(0, 3, (ENTER, 20), (EXIT, 20), (OPEN, 20)) + agent(1, 0, (OPEN, 40)) + END,
         calls([0] * 17 + [1] * 4 + [0] * 4)),
+    # open 50 | 20[30[exit 20.enter 40] | 31[]] | 40[50[] | 51[exit 40]]: two hosts number the same carriers and agents each in its own way
+    "one-layout-first-host": (
+        place(1, 0, 20) + place(2, 0, 40) + place(3, 1, 30) + place(4, 1, 31) + place(5, 2, 50) + place(6, 2, 51) + agent(1, 6, (EXIT, 40))
+        + agent(0, 3, (EXIT, 20), (ENTER, 40)) + agent(2, 0, (OPEN, 50)) + END, calls([0] * 14 + [1] * 7 + [2] * 3)),
+    "one-layout-second-host": (
+        place(9, 0, 40) + place(3, 9, 51) + place(7, 9, 50) + place(8, 0, 20) + place(2, 8, 31) + place(1, 8, 30) + agent(9, 0, (OPEN, 50))
+        + agent(5, 3, (EXIT, 40)) + agent(8, 1, (EXIT, 20), (ENTER, 40)) + END, calls([8] * 14 + [5] * 7 + [9] * 3)),
     # a line on which nothing is defined yet: a file of length 0, and a dispatcher that calls agents that are not there
     "empty-line": (
         b"",
@@ -194,6 +201,29 @@ CASES = {
         + agent(0, 3, (ENTER, 7), (EXIT, 9), (ENTER, 7)) + END,
         calls([0] * 14) + calls([0] * 7, 1)),
     "full-keys": (full_keys(), calls([x for y in mixed(11, 180) for x in [y] * 14 + [y % 5] * 4])),
+    # one layout, one listing: agents before places, each group in byte order of its texts, here numbered across it and in another way
+    "listed-by-text": (
+        place(1, 0, 7) + place(2, 0, 70) + keyed(3, 0, 7, 1, 1, 1) + place(4, 0, 7) + place(5, 4, 9) + place(6, 4, 10) + place(7, 0, 7)
+        + agent(0, 0, (OPEN, 12)) + agent(1, 0, (OPEN, 1), (EXIT, 2)) + agent(2, 0, (OPEN, 1)) + agent(3, 0, (ENTER, 9))
+        + agent(4, 7, (ENTER, 7)) + agent(5, 6, (EXIT, 7)) + agent(6, 6, (ENTER, 9)) + END, calls([5] * 7)),
+    "listed-by-text-renumbered": (
+        place(60, 0, 7) + place(9, 60, 10) + place(8, 60, 9) + place(63, 0, 70) + place(1, 0, 7) + place(2, 0, 7) + keyed(40, 0, 7, 1, 1, 1)
+        + agent(63, 9, (EXIT, 7)) + agent(2, 9, (ENTER, 9)) + agent(62, 2, (ENTER, 7)) + agent(9, 0, (ENTER, 9)) + agent(8, 0, (OPEN, 1))
+        + agent(7, 0, (OPEN, 1), (EXIT, 2)) + agent(6, 0, (OPEN, 12)) + END, calls([63] * 7)),
+    # 63 places of one name, whose agents differ in the last of sixteen actions, the highest number first
+    "late-differing-siblings": (
+        b"".join(place(q, 0, 65535) for q in range(1, 64))
+        + b"".join(agent(x, x, *[(ENTER, 65535)] * 15, (EXIT, 65535 - x)) for x in range(64)) + END,
+        calls([x for x in (63, 1, 30) for _ in range(7)])),
+    # a chain of places with even numbers, each beside an empty one with a lower number; all agents live in the innermost place
+    "caterpillar": (
+        b"".join(place(q, (q - 1) // 2 * 2, 7) for q in range(1, 64)) + agent(63, 63, (EXIT, 7), (EXIT, 7))
+        + b"".join(agent(x, 63, *[(EXIT, 65535 - x % 5)] * (1 + x % 3)) for x in range(63)) + END, calls([63] * 14)),
+    # two places in each, all of one name, and agents that are alike but for the one in the last place
+    "tree-of-equals": (
+        b"".join(place(q, (q - 1) // 2, 7) for q in range(1, 63)) + place(63, 62, 7) + agent(0, 63, (ENTER, 7))
+        + b"".join(agent(x, x, (EXIT, 7)) for x in range(31, 63)) + END,
+        calls([x for x in (62, 31, 40, 0) for _ in range(7)])),
     "given-twice": (place(1, 0, 7) + place(1, 0, 8) + END, NONE),
     "not-yet-given": (place(5, 5, 7) + END, NONE),
     "name-zero": (place(1, 0, 0) + END, NONE),
@@ -206,7 +236,7 @@ CASES = {
     "no-order": (TWO, NONE),
     "odd-order": (TWO, calls([0, 0]) + bytes([0])),
     "no-such-agent": (TWO, calls([0, 1, 63, 64, 255, 0])),
-    "wishes": (place(1, 0, 7) + place(2, 0, 9) + place(3, 0, 9) + agent(0, 1, (ENTER, 9)) + END,
+    "wishes": (place(1, 0, 7) + place(2, 0, 9) + place(3, 0, 9) + place(4, 3, 6) + agent(0, 1, (ENTER, 9)) + END,
                calls([0, 0], 3) + calls([0], 3) + calls([0, 0, 0, 0], 64)),
     # first in, first served: file order and not number order; a wish for the younger one; a tray that left and came back; freed children
     "first-in-first-served": (
@@ -214,7 +244,8 @@ CASES = {
         + place(6, 4, 1) + place(7, 3, 2) + agent(0, 1, (ENTER, 9)) + agent(1, 0, (OPEN, 9), (OPEN, 9)) + END,
         calls([0] * 7 + [1] * 9)),
     "wish-for-the-younger": (
-        place(1, 0, 7) + place(4, 0, 9) + place(3, 0, 9) + place(2, 0, 8) + agent(0, 1, (ENTER, 9), (EXIT, 9), (ENTER, 9)) + END,
+        place(1, 0, 7) + place(4, 0, 9) + place(3, 0, 9) + place(2, 0, 8) + place(5, 3, 6)
+        + agent(0, 1, (ENTER, 9), (EXIT, 9), (ENTER, 9)) + END,
         calls([0] * 14, 3) + calls([0] * 7, 2)),
     "came-back-is-latest": (
         place(4, 0, 20) + place(2, 0, 50) + place(3, 0, 50) + place(5, 3, 60)

@@ -23,6 +23,9 @@
 **     answer = keeper_touch(&cell, place, touches);
 **     if (keeper_refusal(answer) == 0)
 **         printf("%llu touches\n", (unsigned long long)keeper_count(answer));
+**     answer = keeper_list(&cell, text, sizeof text);
+**     if (keeper_refusal(answer) == 0)
+**         printf("%.*s\n", (int)keeper_length(answer), (const char *)text);
 **
 ** What the caller owes, in every call:
 **
@@ -53,7 +56,7 @@ extern "C" {
 ** anew: another layout of a cell, other arguments, another meaning of an answer. The minor number changes when something is added: a
 ** call, a word, a refusal. The patch number changes with anything else.
 */
-#define KEEPER_MAJOR 4
+#define KEEPER_MAJOR 5
 #define KEEPER_MINOR 0
 #define KEEPER_PATCH 0
 #define KEEPER_VERSION (KEEPER_MAJOR * 65536 + KEEPER_MINOR * 256 + KEEPER_PATCH)
@@ -81,13 +84,14 @@ extern "C" {
 #define KEEPER_LISTING_LONGEST 14177
 
 /* The stack that a call uses, in bytes, at most. This is measured and not proved: host/c/stack.c measures it on the library at hand and
-** fails where it is more. It found 32 KB for keeper_list on 63 nested places, 18 KB or less for the others. */
+** fails where it is more; keeper_list needs the most. */
 #define KEEPER_STACK 65536
 
 /*
 ** The memory of a cell. It is plain data: a host may copy it, keep it in a file for the same kind of machine and the same KEEPER_MAJOR, and
-** read its fields. A host that writes the fields itself can make the table unsound; keeper_check tells. Fields of numbers that are not in
-** use mean nothing, nor does the byte between an action's kind and its name; but every place number stands in `order`.
+** read its fields. A cell that a host of version 4 kept is one of version 5 too. A host that writes the fields itself can make the table
+** unsound; keeper_check tells. Fields of numbers that are not in use mean nothing, nor does the byte between an action's kind and its
+** name; but every place number stands in `order`.
 */
 
 /* A name with its three keys, which say who may enter, leave and open the place: `enter n` acts on a place whose `entering` is n, `exit n`
@@ -264,6 +268,17 @@ keeper_answer keeper_step(keeper_cell *cell, uint8_t agent, uint8_t wish);
 ** keeper_list: writes the listing of the cell, in ASCII and without a closing zero byte, to text[0] and on. `room` is how many bytes may
 ** be written there. A place whose three keys are its name is written as `7[]`, any other with its keys for entering, exiting and opening
 ** after the name, as `7/8/9/0[]`.
+**
+** One layout has one listing. Of what a place holds, the agents come first and then the places, each of the two in byte order of their
+** texts, as memcmp orders bytes, a shorter text before any that continues it: `70[] | 7[]`, `7[] | 7[enter 7]`. Numbers and the order in
+** which places came play no part. So two cells hold the same layout exactly if their listings are equal (proved: crate demands,
+** `same-listings`), however their hosts numbered the carriers: two lines are compared by eye, two files of listings by diff, and two
+** listings in memory by
+**
+**     keeper_length(one) == keeper_length(other) && memcmp(text_of_one, text_of_other, keeper_length(one)) == 0
+**
+** The same layout is the same places with the same names and keys in each other and the same agents with unused actions in them. Locks,
+** stages, touch counts, who came first, and whether a place is still on its way are not in it.
 **
 ** Answers the listing's length in keeper_length(answer); bytes past it are as they were. Refused with 10 where the table is unsound, else
 ** with 12 where the listing is longer than `room`; then the whole text is as it was. The cell is only read.

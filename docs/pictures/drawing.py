@@ -190,8 +190,8 @@ def draw_box(svg, box, x, y, h=0):
         across += size_of(p)[0] + GAP
 
 
-def panels(name, title, description, rows):
-    """A picture of boxes side by side, each under a heading and over a listing, with arrows between them."""
+def panels(name, title, description, rows, arrows=True):
+    """A picture of boxes side by side, each under a heading and over a listing, with arrows between them where one comes from the other."""
     margin, between, top = 20, 56, 44
     sizes = [size_of(box) for _, box, _ in rows]
     widths = [max(w, width_of(head, 15, True), width_of(listing, 13)) for (w, _), (head, _, listing) in zip(sizes, rows)]
@@ -202,7 +202,7 @@ def panels(name, title, description, rows):
         svg.text(x, 28, head, 15, bold=True)
         draw_box(svg, box, x, top, h=tall)
         svg.text(x, top + tall + 28, listing, 13, mono=True)
-        if i + 1 < len(rows):
+        if arrows and i + 1 < len(rows):
             svg.path([(x + max(widths[i], sizes[i][0]) + 10, top + tall / 2), (x + widths[i] + between - 10, top + tall / 2)],
                      thick=2.4)
         x += widths[i] + between

@@ -32,8 +32,8 @@ def exit_():
     """Before, on its way, and after an exit."""
     panels("exit.svg", "Exit 9", "Place 7 stands in place 9, is then on its way out of it, and at last stands beside it.", [
         ("Before", place("floor", 0, place("9", 1, place("7", 2, agent(0, "exit 9")))), "9[7[exit 9]]"),
-        ("After left", place("floor", 0, place("9", 1), place("7", 2, spent(0), away=True)), "9[] | 7[]"),
-        ("After came", place("floor", 0, place("9", 1), place("7", 2, spent(0))), "9[] | 7[]")])
+        ("After left", place("floor", 0, place("7", 2, spent(0), away=True), place("9", 1)), "7[] | 9[]"),
+        ("After came", place("floor", 0, place("7", 2, spent(0)), place("9", 1)), "7[] | 9[]")])
 
 
 def open_():
@@ -114,9 +114,9 @@ def touches():
                       place("30 holder", 3, agent(1, "enter 20"), touches=1200), touches=0),
                 "20[open 50 | 50[]] | 30[enter 20]"),
                ("After came and 300 added: 1,540 in all",
-                place("floor", 0, place("20 bonder", 1, agent(0, "open 50"), place("50 tray", 2, touches=40),
-                                        place("30 holder", 3, spent(1), touches=1500), touches=0), touches=0),
-                "20[open 50 | 50[] | 30[]]"),
+                place("floor", 0, place("20 bonder", 1, agent(0, "open 50"), place("30 holder", 3, spent(1), touches=1500),
+                                        place("50 tray", 2, touches=40), touches=0), touches=0),
+                "20[open 50 | 30[] | 50[]]"),
                ("After opened: 1,540 in all",
                 place("floor", 0, place("20 bonder", 1, spent(0), place("30 holder", 3, spent(1), touches=1500), touches=40), touches=0),
                 "20[30[]]")])
@@ -127,9 +127,23 @@ def served():
     panels("served.svg", "First in, first served",
            "Two trays named 50 stand on the floor: place 4 has been there longest, place 3 came after it. Holder 30 goes into place 4.", [
                ("Start: place 4 stands before place 3 in the file",
-                place("floor", 0, place("30", 1, agent(0, "enter 50")), place("50, 2nd", 3), place("50, 1st", 4)),
+                place("floor", 0, place("30", 1, agent(0, "enter 50")), place("50, 1st", 4), place("50, 2nd", 3)),
                 "30[enter 50] | 50[] | 50[]"),
-               ("After came", place("floor", 0, place("50, 2nd", 3), place("50, 1st", 4, place("30", 1, spent(0)))), "50[] | 50[30[]]")])
+               ("After came", place("floor", 0, place("50, 1st", 4, place("30", 1, spent(0))), place("50, 2nd", 3)), "50[30[]] | 50[]")])
+
+
+def layouts():
+    """One layout as two hosts number it, and its one listing."""
+    listing = "20[30[exit 20]] | 40[50[] | 51[]]"
+    panels("layouts.svg", "One layout, one listing",
+           "Two hosts number the same carriers: in the first, bonder 20 is place 1 and magazine 40 place 2; in the second, the magazine is "
+           "place 1 and the bonder place 4. Under both stands the same listing.", [
+               ("One host's numbers",
+                place("floor", 0, place("20 bonder", 1, place("30 holder", 3, agent(0, "exit 20"))),
+                      place("40 magazine", 2, place("50 tray", 4), place("51 tray", 5))), listing),
+               ("Another host's numbers",
+                place("floor", 0, place("40 magazine", 1, place("51 tray", 2), place("50 tray", 3)),
+                      place("20 bonder", 4, place("30 holder", 5, agent(9, "exit 20")))), listing)], arrows=False)
 
 
 def rights():
@@ -247,5 +261,5 @@ def stages():
 
 
 if __name__ == "__main__":
-    for draw in (cell, stages, enter, exit_, open_, touches, served, rights, example_trees, example_held, example_locks, slips):
+    for draw in (cell, stages, enter, exit_, open_, touches, served, layouts, rights, example_trees, example_held, example_locks, slips):
         draw()

@@ -1,4 +1,5 @@
-/* What the tests of keeper.h share: a test that ends the program, copies of bytes in memory of exactly their size, and refused loads. */
+/* What the tests of keeper.h share: a test that ends the program, copies of bytes in memory of exactly their size, refused loads, and
+** listings. */
 #ifndef HOLDS_H
 #define HOLDS_H
 
@@ -47,6 +48,19 @@ static inline keeper_answer refused(keeper_cell *cell, const uint8_t *bytes, siz
     free(before);
     free(file);
     return answer;
+}
+
+/* Whether the listing is this text; a buffer of one byte less is refused. */
+static inline int lists(const keeper_cell *cell, const char *text)
+{
+    size_t length = strlen(text);
+    uint8_t *room = exactly(text, length);
+    int is_so = keeper_list(cell, room, length - 1) == KEEPER_LISTING_TOO_LONG && memcmp(room, text, length) == 0;
+
+    memset(room, '.', length);
+    is_so = is_so && keeper_list(cell, room, length) == (keeper_answer)length << 8 && memcmp(room, text, length) == 0;
+    free(room);
+    return is_so;
 }
 
 #endif

@@ -15,19 +15,6 @@ static int is_named(const keeper_cell *cell, int place, unsigned name, unsigned 
     return found->name == name && found->entering == entering && found->exiting == exiting && found->opening == opening;
 }
 
-/* Whether the listing is this text; a buffer of one byte less is refused. */
-static int lists(const keeper_cell *cell, const char *text)
-{
-    size_t length = strlen(text);
-    uint8_t *room = exactly(text, length);
-    int is_so = keeper_list(cell, room, length - 1) == KEEPER_LISTING_TOO_LONG && memcmp(room, text, length) == 0;
-
-    memset(room, '.', length);
-    is_so = is_so && keeper_list(cell, room, length) == (keeper_answer)length << 8 && memcmp(room, text, length) == 0;
-    free(room);
-    return is_so;
-}
-
 /* So many steps of an agent, after each of which the table is sound; the last word. */
 static unsigned steps(keeper_cell *cell, uint8_t agent, int count)
 {

@@ -1,6 +1,8 @@
 /*
 ** How much stack the calls use: each runs in a thread whose stack was filled with a pattern, and what has lost it below the caller was
-** used. The cells are full: all places in each other or side by side, all agents with sixteen actions; all agents step, many times.
+** used. The cells are full: all places in each other, side by side, or in a chain with one beside each, numbered against the order in
+** which they are listed; all agents with sixteen actions. All agents step, many times. A listing is also made in a room that not every
+** listing fits.
 */
 #define _POSIX_C_SOURCE 200809L
 #include "../keeper.h"
@@ -12,7 +14,7 @@
 
 #define ROOM (1024 * 1024)
 #define PATTERN 0xA5
-#define CALLS 8
+#define CALLS 9
 
 static keeper_cell cell;
 static uint8_t file[KEEPER_FILE_LONGEST];
@@ -24,6 +26,7 @@ static void bare(void) { keeper_bare(&cell); }
 static void load(void) { keeper_load(&cell, file, file_length); }
 static void step(void) { keeper_step(&cell, agent, 255); }
 static void list(void) { keeper_list(&cell, text, sizeof text); }
+static void list_short(void) { keeper_list(&cell, text, sizeof text - 1); }
 static void check(void) { keeper_check(&cell); }
 static void idle(void) { keeper_idle(&cell); }
 static void touch(void) { keeper_touch(&cell, agent, 1); }
@@ -76,13 +79,16 @@ static void record(const uint8_t *bytes, size_t length)
     file_length += length;
 }
 
-/* A full cell: places in each other or side by side, with keys, an agent in each, with sixteen actions of this kind, and touches of each
-** place. */
-static void make_file(int nested, uint8_t kind)
+/* A full cell: places side by side (shape 0), in each other (1), or in a chain of odd numbers with one beside each (2), with names that fall
+** and keys, an agent in each, with sixteen actions of this kind, and touches of each place. */
+static void make_file(int shape, uint8_t kind)
 {
     file_length = 0;
-    for (uint8_t place = 1; place < 64; place++)
-        record((uint8_t[]){6, place, (uint8_t)(nested ? place - 1 : 0), 255, 255, 255, 255, 255, 255, 254, 255}, 11);
+    for (int place = 1; place < 64; place++) {
+        int parent = shape == 0 ? 0 : shape == 1 ? place - 1 : place < 3 ? 0 : place - (place % 2 == 1 ? 2 : 3);
+
+        record((uint8_t[]){6, (uint8_t)place, (uint8_t)parent, (uint8_t)(255 - place), 255, 255, 255, 255, 255, 254, 255}, 11);
+    }
     for (uint8_t number = 0; number < 64; number++) {
         record((uint8_t[]){2, number, number}, 3);
         for (int action = 0; action < 16; action++)
@@ -95,15 +101,15 @@ static void make_file(int nested, uint8_t kind)
 int main(void)
 {
     size_t used[CALLS] = {0};
-    void (*const calls[CALLS])(void) = {bare, load, check, idle, list, touch, touches, step};
-    const char *const names[CALLS] = {"bare", "load", "check", "idle", "list", "touch", "touches", "step"};
+    void (*const calls[CALLS])(void) = {bare, load, check, idle, list, list_short, touch, touches, step};
+    const char *const names[CALLS] = {"bare", "load", "check", "idle", "list", "list in a short room", "touch", "touches", "step"};
     size_t most = 0;
 
     if (!keeper_fits())
         return 1;
     for (uint8_t kind = 1; kind <= 3; kind++) {
-        for (int nested = 0; nested < 2; nested++) {
-            make_file(nested, kind);
+        for (int shape = 0; shape < 3; shape++) {
+            make_file(shape, kind);
             measure(bare, &used[0]);
             agent = 63;
             for (int call = 1; call < CALLS - 1; call++)

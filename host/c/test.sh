@@ -47,13 +47,17 @@ case_of 'touches' '\001\001\000\007\000\005\001\001\000\000\000\005\000\377\377\
 case_of 'touches of place 64' '\005\100\001\000\000\000\004' "$order" 'refused 3 0\n'
 case_of 'touches given twice' '\005\000\001\000\000\000\005\000\001\000\000\000\004' "$order" 'refused 4 6\n'
 case_of 'touches of no place' '\005\001\001\000\000\000\004' "$order" 'refused 5 0\n'
-case_of 'first in the file' '\001\001\000\007\000\001\003\000\011\000\001\002\000\011\000\002\000\001\003\000\001\011\000\004' \
-    '\000\377\000\377\000\377\000\377' 'start 7[enter 9] | 9[] | 9[]\n0 looked 0\n0 took 0\n0 took 0\n0 left 0\nend 9[] | 9[7[]]\n'
+case_of 'first in the file' \
+    '\001\001\000\007\000\001\003\000\011\000\001\002\000\011\000\001\004\003\006\000\002\000\001\003\000\001\011\000\004' \
+    '\000\377\000\377\000\377\000\377' \
+    'start 7[enter 9] | 9[6[]] | 9[]\n0 looked 0\n0 took 0\n0 took 0\n0 left 0\nend 9[6[] | 7[]] | 9[]\n'
 case_of 'keys' '\006\001\000\011\000\005\000\006\000\000\000\001\002\000\007\000\002\000\002\003\000\001\005\000\003\000\003\011\000\004' \
-    '\000\377\000\377\000\377\000\377' 'start 9/5/6/0[] | 7[enter 5.open 9]\n0 looked 0\n0 took 0\n0 took 0\n0 left 0\nend 9/5/6/0[7[open 9]]\n'
+    '\000\377\000\377\000\377\000\377' 'start 7[enter 5.open 9] | 9/5/6/0[]\n0 looked 0\n0 took 0\n0 took 0\n0 left 0\nend 9/5/6/0[7[open 9]]\n'
 case_of 'keys of place 64' '\006\100\100\007\000\007\000\007\000\007\000\004' "$order" 'refused 3 0\n'
 case_of 'keys cut' '\006\001\000\007\000\007\000\007\000\007' "$order" 'refused 1 0\n'
 case_of 'keys and name 0' '\006\001\000\000\000\007\000\007\000\007\000\004' "$order" 'refused 6 0\n'
+case_of 'by text and not by number' '\001\001\000\011\000\001\002\001\007\000\002\000\002\003\000\002\011\000\004' \
+    '\000\377\000\377\000\377\000\377' 'start 9[7[exit 9]]\n0 looked 0\n0 took 0\n0 took 0\n0 left 0\nend 7[] | 9[]\n'
 case_of 'action of agent 64' '\002\000\000\003\100\001\007\000\004' "$order" 'refused 14 3\n'
 
 # a file that is there and cannot be read does not pass for an empty one: a folder, and a path through a file
@@ -80,7 +84,7 @@ if [ "$status" -ne 1 ] || [ -s "$folder/printed" ]; then
 fi
 passed=$((passed + 1))
 
-for program in calls calls-sanitized served served-sanitized keys keys-sanitized header; do
+for program in calls calls-sanitized served served-sanitized keys keys-sanitized layouts layouts-sanitized header; do
     printf '%s: ' "$program"
     "target/$program"
     passed=$((passed + 1))

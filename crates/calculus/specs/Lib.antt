@@ -19,3 +19,15 @@ pub mod PartsHeld
 pub mod ReductionsMove
 pub mod Published
 pub mod Rights
+pub mod TermListing
+pub mod OneListing
+pub mod TextParts
+pub mod Decimals
+pub mod NameTexts
+pub mod RowTexts
+pub mod TermParts
+pub mod RowTerms
+pub mod ListedTerms
+pub mod TreeNumbers
+pub mod TreeListed
+pub mod SameListing

@@ -48,7 +48,7 @@ tree-formed c i = record {
     absent x l (nay g) = unfold treeOf in rw g
 
 -- the moves of a history, one after the other
-history-moves : {t u : Tree} {calls : List Call} {answers : List Reply} → History t calls answers u → Moves t u
+pub history-moves : {t u : Tree} {calls : List Call} {answers : List Reply} → History t calls answers u → Moves t u
 history-moves start = moves-none
 history-moves (moved e m h) = moves-then m (history-moves h)
 history-moves (stayed e h) = history-moves h

@@ -2,23 +2,24 @@
 -- Idea: a cell and its tree differ only where nothing is in use, and there nothing is written. An agent's text goes over sixteen numbers, its
 -- row over its unused actions.
 use mathlib.Core.Path.{_≡_, refl, sym, ap, ap₂, _∙_, fun-ext}
-use mathlib.Core.Bool.{false}
+use mathlib.Core.Bool.{true, false, not, _&&_}
 use mathlib.Core.List.{List, []}
 use Prim.Native.Nat.{ℕ, zero, suc, _+_, _-_, _≤_}
 use native.Mathlib.Omega.{arith}
-use lib.Dec.{ltb, leb}
+use lib.Dec.{ltb, leb, eqb}
 use lib.ListN.{length, getD}
 use borrow.Author.Tests.{leb-true, leb-false, lt-ltb, le-ltb, ltb-true, ltb-false}
 use Rattle.table.specs.Base.{tab, foldUp}
-use Rattle.table.specs.BaseLaws.{Told, yea, nay, told, and-right, length-tab}
+use Rattle.table.specs.BaseLaws.{Told, yea, nay, told, and-left, and-right, length-tab}
 use Rattle.table.specs.Cell.{State, noAction, hasAction, rowEnd, unused, hasUnused}
 use Rattle.table.specs.declared.Action.{Action}
 use Rattle.table.specs.declared.Agent.{Agent}
 use Rattle.meaning.specs.Text.{ascii, joined}
 use Rattle.meaning.specs.Plain.{treeOf}
-use Rattle.meaning.specs.Listing.{actionText, isUnused, actionTurn, agentText, listsIn, agentTurn, agentsText, standsUnder}
-use Rattle.meaning.specs.Listing.{placeTurn, contentsText, listing, Alike}
-use Rattle.meaning.specs.TreeListing.{rowText, actsIn, rowTurn, treeAgents, standTurn, treeContents, treeListing}
+use Rattle.meaning.specs.Listing.{actionText, isUnused, actionTurn, agentText, listsIn, agentTexts, standsUnder, bracketed}
+use Rattle.meaning.specs.Listing.{placeTexts, inOrder, contentsText, listing, Alike}
+use Rattle.meaning.specs.TreeListing.{rowText, actsIn, treeAgents, treePlaces, treeContents, treeListing}
+use Rattle.meaning.specs.TextsLaws.{texts-same}
 use Rattle.demands.specs.Actions.{end-most, end-past}
 
 -- ---- an agent's text is its row of unused actions
@@ -98,35 +99,54 @@ module _ (a : Agent) where
 -- ---- a cell and its tree
 
 module _ (c : State) where
-  -- an agent is written with the same text
-  agent-turn : (p x : ℕ) (s : List ℕ) → agentTurn c p x s ≡ rowTurn (treeOf c) p x s
+  -- an agent is listed where the tree has its row,
+  agent-both : (p x : ℕ) → listsIn (c .given x) (c .agent x) p ≡ actsIn (treeOf c) x p
   unfolding listsIn actsIn treeOf
-  agent-turn p x s = go (told (c .given x))
+  agent-both p x = go (told (c .given x))
     where
-      go : Told (c .given x) → agentTurn c p x s ≡ rowTurn (treeOf c) p x s
-      go (yea g) = rw (g, row-left (c .agent x), agent-row (c .agent x))
+      go : Told (c .given x) → listsIn (c .given x) (c .agent x) p ≡ actsIn (treeOf c) x p
+      go (yea g) = rw (g, row-left (c .agent x))
       go (nay g) = rw g
 
-  agents-same : (p : ℕ) → agentsText c p ≡ treeAgents (treeOf c) p
-  unfolding agentsText treeAgents
-  agents-same p = ap (λ (f : ℕ → List ℕ → List ℕ). foldUp f 64 []) (fun-ext (λ x. fun-ext (agent-turn p x)))
+  -- with the same text
+  agent-same : (p x : ℕ) → listsIn (c .given x) (c .agent x) p ≡ true → agentText (c .agent x) ≡ rowText [] (treeOf c .unused x)
+  unfolding listsIn treeOf
+  agent-same p x e = rw (and-left (c .given x) (hasUnused (c .agent x) && eqb (c .agent x .home) p) e) (agent-row (c .agent x))
 
-  -- a place is written with the same name
-  place-turn : (p : ℕ) (text : ℕ → List ℕ) (q : ℕ) (s : List ℕ) → placeTurn (c .land) p text q s ≡ standTurn (treeOf c) p text q s
+  -- so of all the agents of p
+  agents-same : (p : ℕ) → agentTexts c p ≡ treeAgents (treeOf c) p
+  unfolding agentTexts treeAgents
+  agents-same p = texts-same (λ x. listsIn (c .given x) (c .agent x) p) (λ x. actsIn (treeOf c) x p) (λ x. agentText (c .agent x))
+      (λ x. rowText [] (treeOf c .unused x)) (agent-both p) (agent-same p) 64
+
+  -- a place is listed where the tree has it,
+  place-both : (p q : ℕ) → standsUnder (c .land .used q) q (c .land .place q .parent) p ≡ standsUnder (treeOf c .used q) q (treeOf c .parent q) p
   unfolding standsUnder treeOf
-  place-turn p text q s = go (told (c .land .used q))
+  place-both p q = go (told (c .land .used q))
     where
-      go : Told (c .land .used q) → placeTurn (c .land) p text q s ≡ standTurn (treeOf c) p text q s
+      go : Told (c .land .used q)
+          → standsUnder (c .land .used q) q (c .land .place q .parent) p ≡ standsUnder (treeOf c .used q) q (treeOf c .parent q) p
       go (yea u) = rw u
       go (nay u) = rw u
 
+  -- with the same name
+  place-same : (p q : ℕ) → standsUnder (c .land .used q) q (c .land .place q .parent) p ≡ true → c .land .place q .name ≡ treeOf c .name q
+  unfolding standsUnder treeOf
+  place-same p q e = rw (and-left (c .land .used q) (not (eqb q 0) && eqb (c .land .place q .parent) p) e)
+
+  -- so of all the places in p
+  places-same : (p : ℕ) (text : ℕ → List ℕ) → placeTexts (c .land) p text ≡ treePlaces (treeOf c) p text
+  unfolding placeTexts treePlaces
+  places-same p text = texts-same (λ q. standsUnder (c .land .used q) q (c .land .place q .parent) p)
+      (λ q. standsUnder (treeOf c .used q) q (treeOf c .parent q) p) (λ q. bracketed (c .land .place q .name) (text q))
+      (λ q. bracketed (treeOf c .name q) (text q)) (place-both p) (λ q e. ap (λ n. bracketed n (text q)) (place-same p q e)) 64
+
+  -- level by level
   contents-same : (depth p : ℕ) → contentsText depth c p ≡ treeContents depth (treeOf c) p
   unfolding contentsText treeContents
   contents-same zero p = refl
-  contents-same (suc depth) p = ap₂ (λ (f : ℕ → List ℕ → List ℕ) (s : List ℕ). foldUp f 64 s)
-      (fun-ext (λ q. fun-ext (λ s. place-turn p (contentsText depth c) q s
-      ∙ ap (λ (text : ℕ → List ℕ). standTurn (treeOf c) p text q s) (fun-ext (contents-same depth)))))
-      (agents-same p)
+  contents-same (suc depth) p = ap₂ inOrder (agents-same p)
+      (places-same p (contentsText depth c) ∙ ap (treePlaces (treeOf c) p) (fun-ext (contents-same depth)))
 
   -- so the listings are the same
   pub tree-listing : listing c ≡ treeListing (treeOf c)
@@ -137,7 +157,7 @@ module _ (c : State) where
 pub same-tree-alike : (c d : State) → treeOf c ≡ treeOf d → Alike c d
 same-tree-alike c d e = tree-listing c ∙ ap treeListing e ∙ sym (tree-listing d)
 
--- ---- alike is an equivalence
+-- ---- alike is an equivalence, and SameListings says which: that of terms
 
 pub alike-itself : (c : State) → Alike c c
 alike-itself c = refl

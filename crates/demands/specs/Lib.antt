@@ -7,6 +7,7 @@ pub mod Agrees
 pub mod NoMore
 pub mod TouchTotal
 pub mod FirstCome
+pub mod SameListings
 -- the theorems
 pub mod DemandOne
 pub mod DemandTwo
@@ -16,6 +17,7 @@ pub mod AgreesLaws
 pub mod NoMoreLaws
 pub mod TouchTotalLaws
 pub mod FirstComeLaws
+pub mod SameListingsLaws
 -- the invariant and the ways a step can go
 pub mod Reading
 pub mod ReadingLaws
@@ -58,6 +60,7 @@ pub mod Loading
 pub mod LoadingRecords
 pub mod LoadingFile
 pub mod LoadingLaws
+pub mod LoadingNumbers
 -- while an agent is awake, somebody can go on
 pub mod Live
 -- the plain tree beside the cell

@@ -12,15 +12,15 @@ use Rattle.table.specs.Cell.{lastKind}
 use Rattle.table.specs.declared.Name.{Name}
 use Rattle.meaning.specs.declared.Record.{Record}
 use Rattle.meaning.specs.declared.Record.the-variants.{PlaceRecord, AgentRecord, ActionRecord, EndRecord, TouchRecord, Faulty}
-use Rattle.meaning.specs.File.{byteAt, countAt, placeRecord, agentRecord, actionRecord, touchRecord, givesPlace, placeLength, Known, recordAt}
+use Rattle.meaning.specs.File.{byteAt, nameAt, nameGiven, countAt, placeRecord, agentRecord, actionRecord, touchRecord, givesPlace, placeLength, Known, recordAt}
 
 module _ (s : List ℕ) (at : ℕ) where
   -- the kind that a record has at the offset: 1 for a place or 6 for one with keys, 2, 3, 4, 5
   pub data Stands : Record → Type 0 where
-    a-place : {number parent : ℕ} {name : Name} → (byteAt s at ≡ 1) ⊎ (byteAt s at ≡ 6) → number ≡ byteAt s (at + 1)
+    a-place : {number parent : ℕ} {name : Name} → (byteAt s at ≡ 1) ⊎ (byteAt s at ≡ 6) → number ≡ byteAt s (at + 1) → name ≡ nameGiven s at
         → Stands (PlaceRecord number parent name)
     an-agent : {number home : ℕ} → byteAt s at ≡ 2 → Stands (AgentRecord number home)
-    an-action : {agent kind name : ℕ} → byteAt s at ≡ 3 → Stands (ActionRecord agent kind name)
+    an-action : {agent kind name : ℕ} → byteAt s at ≡ 3 → name ≡ nameAt s at → Stands (ActionRecord agent kind name)
     the-end : byteAt s at ≡ 4 → Stands EndRecord
     touches : {q : ℕ} → byteAt s at ≡ 5 → Stands (TouchRecord q (countAt s at))
     at-fault : {number : ℕ} → Stands (Faulty number)
@@ -37,20 +37,20 @@ module _ (s : List ℕ) (at : ℕ) where
   where-known : (b : Bool) (number : ℕ) (x : Record) → Stands x → Stands (cond b x (Faulty number))
   where-known b number x g = either b x (Faulty number) (λ _. g) (λ _. at-fault)
 
-  place-stands : (taken known : Bool) (n p : ℕ) (m : Name) → (byteAt s at ≡ 1) ⊎ (byteAt s at ≡ 6) → n ≡ byteAt s (at + 1)
+  place-stands : (taken known : Bool) (n p : ℕ) (m : Name) → (byteAt s at ≡ 1) ⊎ (byteAt s at ≡ 6) → n ≡ byteAt s (at + 1) → m ≡ nameGiven s at
       → Stands (placeRecord taken known n p m)
   unfolding placeRecord
-  place-stands taken known n p m e f = unless (ltb n 1) _ _ (unless (leb 64 n) _ _ (unless (leb 64 p) _ _ (unless taken _ _
-      (where-known known _ _ (unless (ltb (m .name) 1) _ _ (a-place e f))))))
+  place-stands taken known n p m e f g = unless (ltb n 1) _ _ (unless (leb 64 n) _ _ (unless (leb 64 p) _ _ (unless taken _ _
+      (where-known known _ _ (unless (ltb (m .name) 1) _ _ (a-place e f g))))))
 
   agent-stands : (taken known : Bool) (n h : ℕ) → byteAt s at ≡ 2 → Stands (agentRecord taken known n h)
   unfolding agentRecord
   agent-stands taken known n h e = unless (leb 64 n) _ _ (unless (leb 64 h) _ _ (unless taken _ _ (where-known known _ _ (an-agent e))))
 
-  action-stands : (known full : Bool) (n k m : ℕ) → byteAt s at ≡ 3 → Stands (actionRecord known full n k m)
+  action-stands : (known full : Bool) (n k m : ℕ) → byteAt s at ≡ 3 → m ≡ nameAt s at → Stands (actionRecord known full n k m)
   unfolding actionRecord
-  action-stands known full n k m e = unless (leb 64 n) _ _ (where-known known _ _ (unless (ltb k 1) _ _ (unless (ltb lastKind k) _ _
-      (unless (ltb m 1) _ _ (unless full _ _ (an-action e))))))
+  action-stands known full n k m e f = unless (leb 64 n) _ _ (where-known known _ _ (unless (ltb k 1) _ _ (unless (ltb lastKind k) _ _
+      (unless (ltb m 1) _ _ (unless full _ _ (an-action e f))))))
 
   touches-stand : (taken known : Bool) (q : ℕ) → byteAt s at ≡ 5 → Stands (touchRecord taken known q (countAt s at))
   unfolding touchRecord
@@ -66,8 +66,8 @@ module _ (s : List ℕ) (at : ℕ) where
   unfolding recordAt
   record-stands k =
       either (givesPlace (byteAt s at)) _ _ (λ e. unless (ltb (length s - at) (placeLength (byteAt s at))) _ _
-      (place-stands _ _ _ _ _ (gives-place e (told (eqb (byteAt s at) 1))) refl))
+      (place-stands _ _ _ _ _ (gives-place e (told (eqb (byteAt s at) 1))) refl refl))
       (λ _. either (eqb (byteAt s at) 2) _ _ (λ e. unless (ltb (length s - at) 3) _ _ (agent-stands _ _ _ _ (eqb-true _ 2 e)))
-      (λ _. either (eqb (byteAt s at) 3) _ _ (λ e. unless (ltb (length s - at) 5) _ _ (action-stands _ _ _ _ _ (eqb-true _ 3 e)))
+      (λ _. either (eqb (byteAt s at) 3) _ _ (λ e. unless (ltb (length s - at) 5) _ _ (action-stands _ _ _ _ _ (eqb-true _ 3 e) refl))
       (λ _. either (eqb (byteAt s at) 4) _ _ (λ e. the-end (eqb-true _ 4 e))
       (λ _. either (eqb (byteAt s at) 5) _ _ (λ e. unless (ltb (length s - at) 6) _ _ (touches-stand _ _ _ (eqb-true _ 5 e))) (λ _. at-fault)))))

@@ -1,11 +1,11 @@
 -- How long a listing can be: 14,177 bytes at most for every table, since names and keys have 16 bits. Assumes nothing.
 use mathlib.Core.Path.{_≡_}
 use mathlib.Core.Bool.{Bool, true, false, cond}
-use mathlib.Core.List.{List, [], _++_}
+use mathlib.Core.List.{List, [], _∷_, _++_}
 use Prim.Native.Nat.{ℕ, zero, suc, _+_, _*_, _≤_}
 use native.Mathlib.Nat.{le-refl}
 use native.Mathlib.Omega.{arith}
-use lib.Dec.{eqb}
+use lib.Dec.{eqb, leb}
 use lib.ListN.{length, length-append, getD}
 use borrow.Author.Tests.{le-leb}
 use Rattle.table.specs.Base.{tab, sumBelow}
@@ -16,13 +16,15 @@ use Rattle.table.specs.Sound.{sound}
 use Rattle.table.specs.Bounds.{Name16, Names16}
 use Rattle.table.specs.declared.Name.{Name}
 use Rattle.table.specs.declared.Cell.{Cell}
-use Rattle.meaning.specs.Refusals.{unsoundTable}
+use Rattle.meaning.specs.Refusals.{unsoundTable, tooLong}
 use Rattle.meaning.specs.Text.{ascii, decimal}
-use Rattle.meaning.specs.Listing.{kindText, actionText, isUnused, actionTurn, agentText, listsIn, agentTurn, agentsText, standsUnder, isPlain, slashed, nameText, bracketed, placeTurn, contentsText, listing, listAnswer}
+use Rattle.meaning.specs.Sorted.{sorted}
+use Rattle.meaning.specs.Listing.{kindText, actionText, isUnused, actionTurn, agentText, listsIn, textsOf, agentTexts, standsUnder, isPlain, slashed, nameText, bracketed, placeTexts}
+use Rattle.meaning.specs.Listing.{inOrder, contentsText, listing, listAnswer}
 use Rattle.meaning.specs.declared.Listed.the-variants.{Length, Unlisted}
 use Rattle.lengths.specs.Longest.{longestListing, longestAny}
 use Rattle.lengths.specs.Sums.{pick, pick-le}
-use Rattle.lengths.specs.Parts.{digits-short, digits-most, room, room-none, length-room, room-length, room-turn, room-fold}
+use Rattle.lengths.specs.Parts.{digits-short, digits-most, room, room-none, length-room, room-length, room-turn, room-fold, weight, sorted-weight, append-weight, texts-weight, room-all}
 use Rattle.lengths.specs.Levels.{heap, heap-floor}
 
 -- a name and its keys are written with at most w digits each
@@ -86,6 +88,18 @@ name-length w x n = omega (
       length-append (slashed (x .exiting)) (slashed (x .opening)),
     )
 
+-- an empty floor is written with one byte
+floor-length : (s : List ℕ) (m : ℕ) → 1 ≤ m → length s ≤ m → length (cond (eqb (length s) 0) (48 ∷ []) s) ≤ m
+floor-length s m one l = go (told (eqb (length s) 0))
+  where
+    go : Told (eqb (length s) 0) → length (cond (eqb (length s) 0) (48 ∷ []) s) ≤ m
+    go (yea e) = rw e one
+    go (nay e) = rw e l
+
+-- a listing for which there is room is not too long
+roomy : (b : Bool) (n m : ℕ) → n ≤ m → cond b (cond (leb n m) (Length n) (Unlisted tooLong)) (Unlisted unsoundTable) ≡ cond b (Length n) (Unlisted unsoundTable)
+roomy b n m l = rw (le-leb n m l)
+
 module _ (w : ℕ) (c : State) (n : Named w c) where
   action-length : (x j : ℕ) → length (actionText (getD (c .agent x .actions) j noAction)) ≤ 6 + w
   unfolding actionText
@@ -106,13 +120,12 @@ module _ (w : ℕ) (c : State) (n : Named w c) where
         )) 16 [],
   ))
 
-  agents-room : (p : ℕ) → room (ascii " | ") (agentsText c p) ≤ sumBelow (λ x. pick (listsIn (c .given x) (c .agent x) p) (agentRoom w)) 64
-  unfolding agentsText tab
-  agents-room p = omega (
+  agents-weight : (p : ℕ) → weight 3 (sorted (agentTexts c p)) ≤ sumBelow (λ x. pick (listsIn (c .given x) (c .agent x) p) (agentRoom w)) 64
+  unfolding agentTexts
+  agents-weight p = omega (
     arith,
-    room-none (ascii " | "),
-    room-fold (ascii " | ") (agentTurn c p) (λ x. pick (listsIn (c .given x) (c .agent x) p) (agentRoom w))
-        (λ x s. room-turn (ascii " | ") (listsIn (c .given x) (c .agent x) p) s (agentText (c .agent x)) (agentRoom w) (omega (arith, agent-length x))) 64 [],
+    sorted-weight 3 (textsOf (λ x. listsIn (c .given x) (c .agent x) p) (λ x. agentText (c .agent x)) 64),
+    texts-weight 3 (λ x. listsIn (c .given x) (c .agent x) p) (λ x. agentText (c .agent x)) (λ x. agentRoom w) (λ x. omega (arith, agent-length x)) 64,
   )
 
   place-length : (q : ℕ) (s : List ℕ) → length (bracketed (c .land .place q .name) s) ≤ 5 + 4 * w + length s
@@ -125,28 +138,34 @@ module _ (w : ℕ) (c : State) (n : Named w c) where
     length-append ((nameText (c .land .place q .name) ++ ascii "[") ++ s) (ascii "]"),
   )
 
+  places-weight : (p : ℕ) (text : ℕ → List ℕ) (f : ℕ → ℕ) → ((q : ℕ) → length (text q) ≤ f q)
+      → weight 3 (sorted (placeTexts (c .land) p text)) ≤ sumBelow (λ q. pick (standsUnder (c .land .used q) q (c .land .place q .parent) p) (placeRoom w + f q)) 64
+  unfolding placeTexts
+  places-weight p text f h = omega (
+    arith,
+    sorted-weight 3 (textsOf (λ q. standsUnder (c .land .used q) q (c .land .place q .parent) p) (λ q. bracketed (c .land .place q .name) (text q)) 64),
+    texts-weight 3 (λ q. standsUnder (c .land .used q) q (c .land .place q .parent) p) (λ q. bracketed (c .land .place q .name) (text q)) (λ q. placeRoom w + f q)
+        (λ q. omega (arith, place-length q (text q), h q)) 64,
+  )
+
   contents-room : (depth p : ℕ) → room (ascii " | ") (contentsText depth c p) ≤ heap c (agentRoom w) (placeRoom w) depth p
-  unfolding contentsText heap tab
+  unfolding contentsText inOrder heap tab
   contents-room zero p = omega (arith, room-none (ascii " | "))
   contents-room (suc depth) p = omega (
     arith,
-    agents-room p,
-    room-fold (ascii " | ") (placeTurn (c .land) p (contentsText depth c))
-        (λ q. pick (standsUnder (c .land .used q) q (c .land .place q .parent) p) (placeRoom w + heap c (agentRoom w) (placeRoom w) depth q))
-        (λ q s. room-turn (ascii " | ") (standsUnder (c .land .used q) q (c .land .place q .parent) p) s (bracketed (c .land .place q .name) (contentsText depth c q)) _
-        (omega (arith, place-length q (contentsText depth c q), length-room (ascii " | ") (contentsText depth c q), contents-room depth q)))
-        64 (agentsText c p),
+    room-none (ascii " | "),
+    agents-weight p,
+    places-weight p (contentsText depth c) (heap c (agentRoom w) (placeRoom w) depth)
+        (λ q. omega (arith, length-room (ascii " | ") (contentsText depth c q), contents-room depth q)),
+    append-weight 3 (sorted (agentTexts c p)) (sorted (placeTexts (c .land) p (contentsText depth c))),
+    room-all (ascii " | ") [] (sorted (agentTexts c p) ++ sorted (placeTexts (c .land) p (contentsText depth c))),
   )
 
   -- no cell has more agents and places than these
   pub listing-length : length (listing c) ≤ wholeRoom w
   unfolding listing tab
-  listing-length = go (told (eqb (length (contentsText 65 c 0)) 0))
-    where
-      go : Told (eqb (length (contentsText 65 c 0)) 0) → length (listing c) ≤ wholeRoom w
-      go (yea e) = rw e (omega arith)
-      go (nay e) = rw e (room-length (ascii " | ") (contentsText 65 c 0) (wholeRoom w)
-          (omega (arith, contents-room 65 0, heap-floor c (agentRoom w) (placeRoom w) 65)))
+  listing-length = floor-length (contentsText 65 c 0) (wholeRoom w) (omega arith)
+      (room-length (ascii " | ") (contentsText 65 c 0) (wholeRoom w) (omega (arith, contents-room 65 0, heap-floor c (agentRoom w) (placeRoom w) 65)))
 
 -- ---- every cell, and every table
 
@@ -181,4 +200,4 @@ listing-longest t n = omega (
 pub enough-room : (t : Cell) → Names16 t → (b : List ℕ) → longestListing ≤ length b
     → listAnswer (cellOf t) b ≡ cond (sound (cellOf t)) (Length (length (listing (cellOf t)))) (Unlisted unsoundTable)
 unfolding listAnswer
-enough-room t n b l = rw (le-leb (length (listing (cellOf t))) (length b) (omega (arith, listing-longest t n)))
+enough-room t n b l = roomy (sound (cellOf t)) (length (listing (cellOf t))) (length b) (omega (arith, listing-longest t n))

@@ -11,7 +11,9 @@ use lib.ListN.{length, length-append}
 use borrow.Author.Tests.{eqb-true, ltb-false}
 use Rattle.table.specs.Base.{foldUp, sumBelow}
 use Rattle.table.specs.BaseLaws.{Told, yea, nay, told}
-use Rattle.meaning.specs.Text.{digits, gap, joined}
+use Rattle.meaning.specs.Text.{digits, gap, joined, joinedAll}
+use Rattle.meaning.specs.Sorted.{leq, insert, sorted}
+use Rattle.meaning.specs.Listing.{textsOf}
 use Rattle.lengths.specs.Sums.{pick}
 
 -- ---- decimals
@@ -79,3 +81,49 @@ module _ (by : List ℕ) where
   unfolding foldUp sumBelow
   room-fold f g h zero s = omega arith
   room-fold f g h (suc n) s = omega (arith, room-fold f g h n s, h n (foldUp f n s))
+
+-- ---- parts in order
+
+-- the lengths of the parts, each with a gap
+unfoldable pub weight : ℕ → List (List ℕ) → ℕ
+weight g [] = 0
+weight g (x ∷ parts) = length x + g + weight g parts
+
+insert-weight : (g : ℕ) (x : List ℕ) (parts : List (List ℕ)) → weight g (insert x parts) ≡ length x + g + weight g parts
+unfolding weight insert
+insert-weight g x [] = refl
+insert-weight g x (y ∷ parts) = go (told (leq y x)) (insert-weight g x parts)
+  where
+    go : Told (leq y x) → weight g (insert x parts) ≡ length x + g + weight g parts
+        → weight g (insert x (y ∷ parts)) ≡ length x + g + weight g (y ∷ parts)
+    go (yea t) e = rw t (omega (arith, e))
+    go (nay t) e = rw t
+
+-- put in order they are as long
+pub sorted-weight : (g : ℕ) (parts : List (List ℕ)) → weight g (sorted parts) ≡ weight g parts
+unfolding weight sorted
+sorted-weight g [] = refl
+sorted-weight g (x ∷ parts) = omega (arith, insert-weight g x (sorted parts), sorted-weight g parts)
+
+pub append-weight : (g : ℕ) (parts more : List (List ℕ)) → weight g (parts ++ more) ≡ weight g parts + weight g more
+unfolding weight
+append-weight g [] more = omega arith
+append-weight g (x ∷ parts) more = omega (arith, append-weight g parts more)
+
+-- the texts of those that are meant, where none is longer than f tells
+pub texts-weight : (g : ℕ) (meant : ℕ → Bool) (text : ℕ → List ℕ) (f : ℕ → ℕ) → ((i : ℕ) → length (text i) + g ≤ f i)
+    → (n : ℕ) → weight g (textsOf meant text n) ≤ sumBelow (λ i. pick (meant i) (f i)) n
+unfolding weight textsOf sumBelow
+texts-weight g meant text f h zero = omega arith
+texts-weight g meant text f h (suc n) = go (told (meant n)) (texts-weight g meant text f h n)
+  where
+    go : Told (meant n) → weight g (textsOf meant text n) ≤ sumBelow (λ i. pick (meant i) (f i)) n
+        → weight g (textsOf meant text (suc n)) ≤ sumBelow (λ i. pick (meant i) (f i)) (suc n)
+    go (yea t) e = rw t (omega (arith, e, h n))
+    go (nay t) e = rw t (omega (arith, e))
+
+-- all parts joined after a text
+pub room-all : (by s : List ℕ) (parts : List (List ℕ)) → room by (joinedAll by s parts) ≤ room by s + weight (length by) parts
+unfolding weight joinedAll
+room-all by s [] = omega arith
+room-all by s (x ∷ parts) = omega (arith, room-all by (joined by s x) parts, room-turn by true s x (length x + length by) (omega arith))

@@ -3,20 +3,17 @@
 use mathlib.Core.Path.{_≡_, refl, sym, ap, _∙_}
 use mathlib.Core.Logic.{_≢_}
 use mathlib.Core.Bool.{Bool, true, not, _&&_}
-use mathlib.Core.List.{List}
 use Prim.Native.Nat.{ℕ, zero, suc, _+_, _<_, _≤_}
 use native.Mathlib.Omega.{arith}
 use lib.Dec.{eqb}
 use borrow.Author.Tests.{eqb-true, eqb-false, not-true}
 use Rattle.table.specs.Base.{allBelow, iter}
-use Rattle.table.specs.BaseLaws.{and-left, and-right, cond-cong, all-at}
+use Rattle.table.specs.BaseLaws.{and-left, and-right, all-at}
 use Rattle.table.specs.Cell.{State}
 use Rattle.table.specs.Sound.{coreSound, sound, leads, agentSound, placeSound}
 use Rattle.table.specs.SoundParts.{sound-core}
-use Rattle.meaning.specs.Text.{joined}
-use Rattle.meaning.specs.Listing.{standsUnder, bracketed, agentsText, contentsText}
-use Rattle.lister.specs.Sheet.{bar}
-use Rattle.lister.specs.PartLaws.{fold-ext}
+use Rattle.meaning.specs.Listing.{standsUnder, bracketed, agentTexts, placeTexts, inOrder, contentsText}
+use Rattle.lister.specs.MemberLaws.{texts-ext}
 
 module _ (c : State) (s : sound c ≡ true) where
   -- where a place stands
@@ -55,10 +52,10 @@ module _ (c : State) (s : sound c ≡ true) where
 
   -- one level more changes nothing
   deeper : (d n p : ℕ) → p < 64 → c .land .used p ≡ true → Far n p → 65 ≤ n + d → contentsText d c p ≡ contentsText (suc d) c p
-  unfolding contentsText Far
+  unfolding contentsText placeTexts Far
   deeper zero n p l u h k = absurd (h 64 (omega arith) (to-floor p l u))
-  deeper (suc d) n p l u h k = fold-ext _ _ 64 (agentsText c p) (λ q m z. cond-cong (under p q) _ _ z (λ e.
-      ap (λ (x : List ℕ). joined bar z (bracketed (c .land .place q .name) x)) (deeper d (suc n) q m (used-under p q e) (farther n p q h e) (omega arith))))
+  deeper (suc d) n p l u h k = ap (inOrder (agentTexts c p)) (texts-ext (under p) (under p) _ _ 64 (λ q m. refl) (λ q m e.
+      ap (bracketed (c .land .place q .name)) (deeper d (suc n) q m (used-under p q e) (farther n p q h e) (omega arith))))
 
   near : Far 0 0
   unfolding Far

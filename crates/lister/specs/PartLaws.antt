@@ -9,17 +9,17 @@ use native.Mathlib.Omega.{arith}
 use lib.Dec.{eqb}
 use lib.ListN.{length, length-append}
 use Rattle.sets.specs.Set.{removed}
-use Rattle.sets.specs.WalkLaws.{lowestIn, Rest, rest-lt, rest-member, rest-from, rest-skip, rest-end, rest-more, removed-less}
+use Rattle.sets.specs.WalkLaws.{lowestIn, Rest, rest-lt, rest-more, removed-less}
 use Rattle.sets.specs.declared.Set.{Set}
 use Rattle.table.specs.Base.{foldUp}
-use Rattle.table.specs.BaseLaws.{eq?, fold-more}
+use Rattle.table.specs.BaseLaws.{eq?}
 use Rattle.meaning.specs.Text.{gap, joined}
 use Rattle.text.specs.Wrote.{Wrote, Fits}
 use Rattle.text.specs.TextLaws.{join, join-more, part, back, gap-at, wrote-as}
 use Rattle.text.specs.RoomLaws.{fits-less, fits-as, fits-first, fits-exactly, first-in, fits-next, then-next}
 
 -- turns that change nothing
-pub fold-skip : {S : Type 0} (f : ℕ → S → S) (s : S) (n m : ℕ) → n ≤ m → ((j : ℕ) → n ≤ j → j < m → (t : S) → f j t ≡ t) → foldUp f n s ≡ foldUp f m s
+fold-skip : {S : Type 0} (f : ℕ → S → S) (s : S) (n m : ℕ) → n ≤ m → ((j : ℕ) → n ≤ j → j < m → (t : S) → f j t ≡ t) → foldUp f n s ≡ foldUp f m s
 unfolding foldUp
 fold-skip f s n zero l h = let e : n ≡ 0 = omega arith in ap (λ (k : ℕ). foldUp f k s) e
 fold-skip {S} f s n (suc m) l h = go (eq? n (suc m)) (fold-skip f s n m)
@@ -95,11 +95,6 @@ module _ (by : List ℕ) (g : ℕ → Bool) (F : ℕ → List ℕ) (s₀ : List 
   pub skipped : (i m : ℕ) → i ≤ m → ((j : ℕ) → i ≤ j → j < m → g j ≡ false) → foldUp (join by g F s₀) i s₀ ≡ foldUp (join by g F s₀) m s₀
   skipped i m l h = fold-skip (join by g F s₀) s₀ i m l (λ j a b t. ap (λ (z : Bool). cond z (joined by t (F j)) t) (h j a b))
 
-  -- before the first turn
-  pub walk-start : {b e : List ℕ} {at n : ℕ} → Wrote s₀ at b e n → Wrote (foldUp (join by g F s₀) 0 s₀) at b e n
-  unfolding foldUp
-  walk-start w = w
-
   -- no turn makes the text shorter
   turn-grows : (b : Bool) (k : ℕ) (s : List ℕ) → length s ≤ length (cond b (joined by s (F k)) s)
   turn-grows true k s = omega (arith, length-append (s ++ gap by s) (F k), length-append s (gap by s))
@@ -118,23 +113,3 @@ module _ (by : List ℕ) (g : ℕ → Bool) (F : ℕ → List ℕ) (s₀ : List 
   -- a part that is joined has room where the whole text has
   pub turn-fits : {b : List ℕ} {at : ℕ} (k n : ℕ) → g k ≡ true → k < n → Fits (foldUp (join by g F s₀) n s₀) at b → Fits (joined by (foldUp (join by g F s₀) k s₀) (F k)) at b
   turn-fits k n p l f = fits-less (let e = ap length (join-more by g F s₀ k p) in omega (arith, grows (k + 1) n (omega arith))) f
-
-  module _ {i : ℕ} {s : Set} (r : Rest g i s) where
-    module _ (k : 0 < s .bits) {x : ℕ} (e : x ≡ lowestIn s) where
-      taken-is : foldUp (join by g F s₀) i s₀ ≡ foldUp (join by g F s₀) x s₀
-      taken-is = skipped i (lowestIn s) (rest-from r k) (rest-skip r k) ∙ ap (λ (z : ℕ). foldUp (join by g F s₀) z s₀) (sym e)
-
-      member-is : g x ≡ true
-      member-is = ap g e ∙ rest-member r k
-
-      -- one member more has room
-      pub walk-fits : {b : List ℕ} {at : ℕ} → Fits (foldUp (join by g F s₀) 64 s₀) at b → Fits (joined by (foldUp (join by g F s₀) i s₀) (F x)) at b
-      walk-fits f = fits-as (ap (λ (t : List ℕ). joined by t (F x)) (sym taken-is)) (turn-fits x 64 member-is (taken-lt r k e) f)
-
-      -- one member more
-      pub walk-more : {b xs : List ℕ} {at n : ℕ} → Wrote (joined by (foldUp (join by g F s₀) i s₀) (F x)) at b xs n → Wrote (foldUp (join by g F s₀) (x + 1) s₀) at b xs n
-      walk-more w = wrote-as (ap (λ (t : List ℕ). joined by t (F x)) taken-is ∙ join-more by g F s₀ x member-is) w
-
-    -- none is left
-    pub walk-done : {b e : List ℕ} {at n : ℕ} → s .bits ≡ 0 → Wrote (foldUp (join by g F s₀) i s₀) at b e n → Wrote (foldUp (join by g F s₀) 64 s₀) at b e n
-    walk-done k w = wrote-as (skipped i 64 (r .end) (rest-end r k)) w

@@ -6,21 +6,22 @@ use mathlib.Core.Bool.{Bool, true, false, _&&_, cond}
 use mathlib.Core.List.{List, [], _++_}
 use Prim.Native.Nat.{ℕ, _+_, _*_, _<_, _≤_, zero-le}
 use native.Mathlib.Omega.{arith}
-use lib.Dec.{ltb, leb}
-use lib.ListN.{length, getD, set, length-set}
+use lib.Dec.{eqb, ltb, leb}
+use lib.ListN.{length, length-append, getD, set, length-set}
 use lib.Seq.{getD-set-same, getD-set-other}
 use borrow.Author.Tests.{le-leb, lt-leb, lt-ltb, le-ltb, leb-true, leb-false, ltb-true, ltb-false}
 use Rattle.sets.specs.declared.Set.{Set}
 use Rattle.table.specs.Base.{foldUp, tab}
 use Rattle.table.specs.BaseLaws.{Told, yea, nay, told, eq?, clash, cond-cong, and-left, and-right}
-use Rattle.table.specs.Cell.{noAgent}
+use Rattle.table.specs.Cell.{noAgent, noAction, hasUnused, enterKind, exitKind}
+use Rattle.table.specs.declared.Action.{Action}
 use Rattle.table.specs.declared.Agent.{Agent}
-use Rattle.meaning.specs.Text.{decimal, joined}
-use Rattle.meaning.specs.Listing.{kindText, actionText, agentText}
+use Rattle.meaning.specs.Text.{ascii, decimal, gap, joined}
+use Rattle.meaning.specs.Listing.{kindText, actionText, isUnused, agentText}
 use Rattle.text.specs.Wrote.{least}
-use Rattle.text.specs.TextLaws.{join, least-le}
+use Rattle.text.specs.TextLaws.{join, join-more, least-le}
 use Rattle.lister.specs.Sheet.{dot, isListed, kindOf, numberOf, Copied, Rows, actionOn, rowFrom, rowText}
-use Rattle.lister.specs.PartLaws.{fold-ext, skipped}
+use Rattle.lister.specs.PartLaws.{fold-ext, skipped, grows}
 
 -- ---- copies
 
@@ -198,3 +199,36 @@ rows-text {given} {crew} {firsts} {ends} {kinds} {numbers} r x l e =
         both : Told (ltb (getD crew x noAgent .count) 16) → j < least (getD crew x noAgent .count) 16
         both (yea t) = unfold least in rw t low
         both (nay t) = unfold least in rw t m
+
+-- an action has a text
+action-some : (x : Action) → 0 < length (actionText x)
+unfolding actionText
+action-some x = omega (arith, length-append (kindText (x .kind)) (decimal (x .name)), kind-some (x .kind))
+  where
+    kind-some : (k : ℕ) → 0 < length (kindText k)
+    kind-some k = unfold kindText tab in go (eqb k enterKind) (eqb k exitKind)
+      where
+        go : (a b : Bool) → 0 < length (cond a (ascii "enter ") (cond b (ascii "exit ") (ascii "open ")))
+        go true b = omega arith
+        go false true = omega arith
+        go false false = omega arith
+
+-- and so has an agent with an unused one
+pub agent-some : (a : Agent) → hasUnused a ≡ true → 0 < length (agentText a)
+unfolding agentText tab
+agent-some a e =
+    let l : a .next < 16 = ltb-true (a .next) 16 (and-left (ltb (a .next) 16) (ltb (a .next) (a .count)) e) in
+    let m : a .next < a .count = ltb-true (a .next) (a .count) (and-right (ltb (a .next) 16) (ltb (a .next) (a .count)) e) in
+    let n = ap length (join-more dot (isUnused a) text [] (a .next) (rw (le-leb (a .next) (a .next) (omega arith), lt-ltb (a .next) (a .count) m))) in
+    omega (
+      arith,
+      action-some (getD (a .actions) (a .next) noAction),
+      length-append (before ++ gap dot before) (text (a .next)),
+      grows dot (isUnused a) text [] (a .next + 1) 16 (omega arith),
+    )
+  where
+    text : ℕ → List ℕ
+    text j = actionText (getD (a .actions) j noAction)
+
+    before : List ℕ
+    before = foldUp (join dot (isUnused a) text []) (a .next) []

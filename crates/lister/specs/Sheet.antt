@@ -15,8 +15,9 @@ use Rattle.table.specs.declared.Name.{Name}
 use Rattle.table.specs.declared.Agent.{Agent}
 use Rattle.table.specs.declared.Place.{Place}
 use Rattle.meaning.specs.Text.{ascii, decimal, gap, joined, overlay}
-use Rattle.meaning.specs.Listing.{kindText, slashed, nameText, bracketed}
-use Rattle.text.specs.Wrote.{capped, least}
+use Rattle.meaning.specs.Listing.{kindText, textsOf, slashed, nameText, bracketed, inOrder}
+use Rattle.text.specs.Wrote.{capped, least, Fits}
+use Rattle.lengths.specs.Longest.{longestListing}
 
 -- ---- a name and its keys in one word
 
@@ -108,11 +109,6 @@ rowFrom kinds numbers row first end = foldUp (λ j s. cond (leb first j && ltb j
 abbrev pub rowText : List ℕ → List ℕ → List ℕ → List ℕ → ℕ → List ℕ
 rowText kinds numbers firsts ends x = rowFrom kinds numbers (16 * x) (getD firsts x 0) (getD ends x 0)
 
--- the parts of which P holds, by number, joined by bars after a text s
-unfoldable pub parts : (ℕ → Bool) → (ℕ → List ℕ) → List ℕ → List ℕ
-unfolding gap tab
-parts P F s = foldUp (λ k t. cond (P k) (joined bar t (F k)) t) 64 s
-
 -- what the arrays say: which places stand in a place, which agents are listed in it, names, and agents' texts
 pub record Sheet : Type 0 where
   pub stands : ℕ → ℕ → Bool
@@ -144,11 +140,11 @@ unfoldable pub headText : Name → List ℕ
 unfolding nameText tab
 headText x = nameText x ++ ascii "["
 
--- the contents of p so many levels deep
+-- the contents of p so many levels deep: agents, then places, each group in byte order
 unfoldable pub contentsOn : ℕ → Sheet → ℕ → List ℕ
-unfolding parts bracketed
+unfolding textsOf inOrder bracketed
 contentsOn zero h p = []
-contentsOn (suc depth) h p = parts (h .stands p) (λ q. bracketed (h .name q) (contentsOn depth h q)) (parts (h .lives p) (h .text) [])
+contentsOn (suc depth) h p = inOrder (textsOf (h .lives p) (h .text) 64) (textsOf (h .stands p) (λ q. bracketed (h .name q) (contentsOn depth h q)) 64)
 
 -- a place with its contents so many levels deep
 unfoldable pub placeOn : ℕ → Sheet → ℕ → List ℕ
@@ -159,6 +155,17 @@ placeOn depth h q = bracketed (h .name q) (contentsOn depth h q)
 unfoldable pub floorOn : Sheet → List ℕ
 unfolding contentsOn tab
 floorOn h = cond (eqb (length (contentsOn 65 h 0)) 0) (ascii "0") (contentsOn 65 h 0)
+
+-- every agent that is listed somewhere has a text
+abbrev pub HaveTexts : Sheet → Type 0
+HaveTexts h = (p x : ℕ) → p < 64 → x < 64 → h .lives p x ≡ true → 0 < length (h .text x)
+
+-- ---- the room that a writer is lent
+
+-- there is room for the whole text, which is no longer than the longest listing
+pub record OnPage (text : List ℕ) (at : ℕ) (b : List ℕ) : Type 0 where
+  pub fits : Fits text at b
+  pub short : length text ≤ longestListing
 
 -- ---- the whole or nothing
 

@@ -3,48 +3,64 @@
 use mathlib.Core.Path.{_≡_, refl, sym, ap, ap₂, _∙_}
 use mathlib.Core.Bool.{Bool, true, not, _&&_, cond}
 use mathlib.Core.List.{List, [], _∷_, _++_}
-use Prim.Native.Nat.{ℕ, zero, suc, _+_, _-_, _<_, _≤_}
+use Prim.Native.Nat.{ℕ, zero, suc, _+_, _-_, _<_, _≤_, zero-le}
 use native.Mathlib.Omega.{arith}
-use native.Mathlib.Numerals.{sub-one}
 use lib.Dec.{eqb}
 use lib.ListN.{length, length-append, set}
-use Rattle.table.specs.Base.{tab, foldUp}
-use Rattle.table.specs.BaseLaws.{cond-cong, and-left}
-use Rattle.table.specs.Cell.{State}
-use Rattle.meaning.specs.Text.{joined}
-use Rattle.meaning.specs.Listing.{bracketed, agentText, listsIn, standsUnder, agentsText, contentsText, listing}
+use borrow.Author.Tests.{le-leb}
+use Rattle.sets.specs.Set.{member}
+use Rattle.sets.specs.WalkLaws.{lowestIn, Rest, rest-lt, rest-member, rest-end}
+use Rattle.sets.specs.declared.Set.{Set}
+use Rattle.table.specs.Base.{tab}
+use Rattle.table.specs.BaseLaws.{and-left, and-right}
+use Rattle.table.specs.Cell.{State, hasUnused}
+use Rattle.meaning.specs.Text.{gap, joined}
+use Rattle.meaning.specs.Listing.{bracketed, agentText, listsIn, standsUnder, textsOf, agentTexts, placeTexts, inOrder, contentsText, listing}
 use Rattle.text.specs.Wrote.{Wrote, Fits}
-use Rattle.text.specs.TextLaws.{join, part, back, wrote-as}
+use Rattle.text.specs.TextLaws.{part, back, wrote-as}
 use Rattle.text.specs.RoomLaws.{fits-less, fits-as, fits-first, fits-exactly, first-in, fits-next, then-next, store-in, stored}
-use Rattle.lister.specs.Sheet.{bar, parts, Sheet, headText, contentsOn, placeOn, floorOn}
-use Rattle.lister.specs.PartLaws.{fold-ext, grows}
+use Rattle.lengths.specs.Longest.{longestListing}
+use Rattle.lister.specs.Sheet.{bar, Sheet, HaveTexts, OnPage, headText, contentsOn, placeOn, floorOn}
+use Rattle.lister.specs.Marked.{grouped, Filled}
+use Rattle.lister.specs.RowLaws.{agent-some}
+use Rattle.lister.specs.MemberLaws.{texts-ext, texts-filled, texts-none, texts-some, one-group, both-groups, first-group}
 
 -- ---- level by level
 
 -- the agents' texts in a place
-abbrev pub agentsOn : Sheet → ℕ → List ℕ
-agentsOn h p = parts (h .lives p) (h .text) []
+abbrev pub agentsOn : Sheet → ℕ → List (List ℕ)
+agentsOn h p = textsOf (h .lives p) (h .text) 64
+
+-- and the places', each with its contents so many levels deep
+abbrev pub placesOn : ℕ → Sheet → ℕ → List (List ℕ)
+placesOn depth h p = textsOf (h .stands p) (placeOn depth h) 64
 
 pub contents-none : (depth : ℕ) (h : Sheet) (p : ℕ) → depth ≡ 0 → contentsOn depth h p ≡ []
 unfolding contentsOn
 contents-none depth h p e = rw e
 
-pub contents-some : (depth : ℕ) (h : Sheet) (p : ℕ) → (depth ≡ 0 → ⊥)
-    → contentsOn depth h p ≡ foldUp (join bar (h .stands p) (placeOn (depth - 1) h) (agentsOn h p)) 64 (agentsOn h p)
-unfolding contentsOn placeOn parts
+pub contents-some : (depth : ℕ) (h : Sheet) (p : ℕ) → (depth ≡ 0 → ⊥) → contentsOn depth h p ≡ inOrder (agentsOn h p) (placesOn (depth - 1) h p)
+unfolding contentsOn placeOn
 contents-some zero h p n = absurd (n refl)
-contents-some (suc depth) h p n = rw (sub-one (suc depth))
+contents-some (suc depth) h p n = let e : depth ≡ suc depth - 1 = omega arith in ap (λ (k : ℕ). inOrder (agentsOn h p) (placesOn k h p)) e
 
 -- a name with its bracket, the contents, and the closing bracket
 pub place-is : (depth : ℕ) (h : Sheet) (q : ℕ) → (headText (h .name q) ++ contentsOn depth h q) ++ (93 ∷ []) ≡ placeOn depth h q
 unfolding placeOn bracketed headText tab
 place-is depth h q = refl
 
--- the agents have room where all contents have
-pub agents-fit : (depth : ℕ) (h : Sheet) (p : ℕ) {b : List ℕ} {at : ℕ} → (depth ≡ 0 → ⊥) → Fits (contentsOn depth h p) at b → Fits (agentsOn h p) at b
-unfolding foldUp
-agents-fit depth h p n f =
-    fits-less (grows bar (h .stands p) (placeOn (depth - 1) h) (agentsOn h p) 0 64 (omega arith)) (fits-as (contents-some depth h p n) f)
+-- the agents of a place have texts, where every listed agent has one
+pub agents-filled : (h : Sheet) → HaveTexts h → (p : ℕ) → p < 64 → Filled (agentsOn h p)
+agents-filled h t p l = texts-filled (h .lives p) (h .text) 64 (λ x m e. t p x l m e)
+
+-- and so have places, which have brackets
+pub places-filled : (depth : ℕ) (h : Sheet) (g : ℕ → Bool) → Filled (textsOf g (placeOn depth h) 64)
+places-filled depth h g = texts-filled g (placeOn depth h) 64 (λ q m e. place-filled q)
+  where
+    place-filled : (q : ℕ) → 0 < length (placeOn depth h q)
+    place-filled q =
+        let n = ap length (place-is depth h q) in
+        omega (arith, length-append (headText (h .name q) ++ contentsOn depth h q) (93 ∷ []))
 
 -- a name with its bracket, the contents lent the rest from there on, and the closing bracket
 module _ (depth : ℕ) (h : Sheet) (q : ℕ) {b : List ℕ} {at : ℕ} (f : Fits (placeOn depth h q) at b) where
@@ -64,8 +80,12 @@ module _ (depth : ℕ) (h : Sheet) (q : ℕ) {b : List ℕ} {at : ℕ} (f : Fits
     pub contents-in : i ≤ length xs
     contents-in = first-in (contentsOn depth h q) w half e
 
-    pub contents-fit-in : Fits (contentsOn depth h q) mid (part i xs)
-    contents-fit-in = fits-next (contentsOn depth h q) w half e
+    -- the contents have room, and are no longer than the place
+    pub contents-page : length (placeOn depth h q) ≤ longestListing → OnPage (contentsOn depth h q) mid (part i xs)
+    contents-page l = record {
+      fits = fits-next (contentsOn depth h q) w half e;
+      short = (let n = ap length (place-is depth h q) in omega (arith, length-append (headText (h .name q) ++ contentsOn depth h q) (93 ∷ []), length-append (headText (h .name q)) (contentsOn depth h q)));
+    }
 
     module _ {ys : List ℕ} {full j : ℕ} (v : Wrote (contentsOn depth h q) mid (part i xs) ys full) (g : j ≡ full - at) where
       filled : Wrote (headText (h .name q) ++ contentsOn depth h q) at b (back i xs ys) full
@@ -83,6 +103,49 @@ module _ (depth : ℕ) (h : Sheet) (q : ℕ) {b : List ℕ} {at : ℕ} (f : Fits
       pub place-written : Wrote (placeOn depth h q) at b (set (back i xs ys) j 93) (full + 1)
       place-written = wrote-as (place-is depth h q) (stored 93 filled all g)
 
+-- ---- two groups
+
+-- the texts of a set before the first of its members is taken
+module _ {g : ℕ → Bool} {s : Set} (r : Rest g 0 s) (F : ℕ → List ℕ) where
+  pub set-texts : textsOf (member s) F 64 ≡ textsOf g F 64
+  set-texts = texts-ext (member s) g F F 64 (λ j l. r .left j l ∙ ap (λ (b : Bool). b && g j) (le-leb 0 j zero-le)) (λ j l e. refl)
+
+  -- none where there is no member
+  pub no-texts : s .bits ≡ 0 → textsOf g F 64 ≡ []
+  no-texts e = texts-none g F 64 (λ j l. rest-end r e j zero-le l)
+
+  -- else some
+  pub some-texts : (s .bits ≡ 0 → ⊥) → 0 < length (textsOf g F 64)
+  some-texts n = let k : 0 < s .bits = omega arith in texts-some g F 64 (lowestIn s) (rest-lt r k) (rest-member r k)
+
+module _ (depth : ℕ) (h : Sheet) (p : ℕ) (n : depth ≡ 0 → ⊥) {b : List ℕ} {from : ℕ} (f : OnPage (contentsOn depth h p) from b) where
+  -- the agents have room where all contents have
+  pub agents-page : OnPage (grouped (agentsOn h p)) from b
+  agents-page =
+      let l : length (grouped (agentsOn h p)) ≤ length (contentsOn depth h p) = (let e = ap length (contents-some depth h p n) in omega (arith, first-group (agentsOn h p) (placesOn (depth - 1) h p))) in
+      record { fits = fits-less l (f .fits); short = omega (arith, f .short) }
+
+  -- where no place stands they are the contents
+  pub agents-alone : {xs : List ℕ} {r : ℕ} → placesOn (depth - 1) h p ≡ [] → Wrote (grouped (agentsOn h p)) from b xs r → Wrote (contentsOn depth h p) from b xs r
+  agents-alone e w = wrote-as (sym (one-group (agentsOn h p) (placesOn (depth - 1) h p) e) ∙ sym (contents-some depth h p n)) w
+
+  -- where some stand their group comes after the agents'
+  module _ (some : 0 < length (placesOn (depth - 1) h p)) where
+    both-are : contentsOn depth h p ≡ joined bar (grouped (agentsOn h p)) (grouped (placesOn (depth - 1) h p))
+    both-are = contents-some depth h p n ∙ both-groups (agentsOn h p) (placesOn (depth - 1) h p) (places-filled (depth - 1) h (h .stands p)) some
+
+    pub both-fit : Fits (joined bar (grouped (agentsOn h p)) (grouped (placesOn (depth - 1) h p))) from b
+    both-fit = fits-as both-are (f .fits)
+
+    pub places-page : {texts : List (List ℕ)} {mid : ℕ} {ys : List ℕ} → texts ≡ placesOn (depth - 1) h p → Fits (grouped (placesOn (depth - 1) h p)) mid ys → OnPage (grouped texts) mid ys
+    places-page q g = record {
+      fits = fits-as (ap grouped (sym q)) g;
+      short = (let e = ap length both-are in let l = ap (λ (ts : List (List ℕ)). length (grouped ts)) q in omega (arith, f .short, length-append (grouped (agentsOn h p) ++ gap bar (grouped (agentsOn h p))) (grouped (placesOn (depth - 1) h p))));
+    }
+
+    pub both-written : {xs : List ℕ} {r : ℕ} → Wrote (joined bar (grouped (agentsOn h p)) (grouped (placesOn (depth - 1) h p))) from b xs r → Wrote (contentsOn depth h p) from b xs r
+    both-written w = wrote-as (sym both-are) w
+
 -- ---- the sheet of a cell
 
 -- what a sheet must say of a cell
@@ -92,28 +155,30 @@ pub record Drawn (c : State) (h : Sheet) : Type 0 where
   pub name : (q : ℕ) → q < 64 → c .land .used q ≡ true → h .name q ≡ c .land .place q .name
   pub text : (p x : ℕ) → x < 64 → listsIn (c .given x) (c .agent x) p ≡ true → h .text x ≡ agentText (c .agent x)
 
-parts-ext : (P Q : ℕ → Bool) (F G : ℕ → List ℕ) (s t : List ℕ) → s ≡ t → ((k : ℕ) → k < 64 → P k ≡ Q k) → ((k : ℕ) → k < 64 → Q k ≡ true → F k ≡ G k)
-    → parts P F s ≡ foldUp (λ k z. cond (Q k) (joined bar z (G k)) z) 64 t
-unfolding parts
-parts-ext P Q F G s t e f g =
-    fold-ext (join bar P F s) (λ k z. cond (Q k) (joined bar z (G k)) z) 64 s
-    (λ k l z. ap (λ (b : Bool). cond b (joined bar z (F k)) z) (f k l) ∙ cond-cong (Q k) (joined bar z (F k)) (joined bar z (G k)) z (λ q. ap (joined bar z) (g k l q)))
-    ∙ ap (foldUp (λ k z. cond (Q k) (joined bar z (G k)) z) 64) e
-
 module _ {c : State} {h : Sheet} (d : Drawn c h) where
-  agents-are : (p : ℕ) → p < 64 → agentsOn h p ≡ agentsText c p
-  unfolding agentsText
-  agents-are p l = parts-ext _ _ _ _ [] [] refl (λ x m. d .lives p x l m) (λ x m q. d .text p x m q)
+  agents-are : (p : ℕ) → p < 64 → agentsOn h p ≡ agentTexts c p
+  unfolding agentTexts
+  agents-are p l = texts-ext _ _ _ _ 64 (λ x m. d .lives p x l m) (λ x m q. d .text p x m q)
 
   used-there : (q p : ℕ) → standsUnder (c .land .used q) q (c .land .place q .parent) p ≡ true → c .land .used q ≡ true
   unfolding standsUnder
   used-there q p e = and-left (c .land .used q) (not (eqb q 0) && eqb (c .land .place q .parent) p) e
 
   contents-are : (depth p : ℕ) → p < 64 → contentsOn depth h p ≡ contentsText depth c p
-  unfolding contentsOn contentsText
+  unfolding contentsOn contentsText placeTexts
   contents-are zero p l = refl
-  contents-are (suc depth) p l = parts-ext _ _ _ _ _ _ (agents-are p l) (λ q m. d .stands p q l m) (λ q m e. ap₂ bracketed (d .name q m (used-there q p e)) (contents-are depth q m))
+  contents-are (suc depth) p l =
+      ap₂ inOrder (agents-are p l)
+      (texts-ext _ _ _ _ 64 (λ q m. d .stands p q l m) (λ q m e. ap₂ bracketed (d .name q m (used-there q p e)) (contents-are depth q m)))
 
   pub floor-is : floorOn h ≡ listing c
   unfolding floorOn listing
   floor-is = ap (λ (t : List ℕ). cond (eqb (length t) 0) (48 ∷ []) t) (contents-are 65 0 (omega arith))
+
+  -- an agent that is listed has an unused action, and so a text
+  pub drawn-texts : HaveTexts h
+  unfolding listsIn
+  drawn-texts p x l m e =
+      let q : listsIn (c .given x) (c .agent x) p ≡ true = sym (d .lives p x l m) ∙ e in
+      let n = ap length (d .text p x m q) in
+      omega (arith, agent-some (c .agent x) (and-left (hasUnused (c .agent x)) (eqb (c .agent x .home) p) (and-right (c .given x) (hasUnused (c .agent x) && eqb (c .agent x .home) p) q)))

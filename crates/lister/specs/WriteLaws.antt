@@ -14,7 +14,7 @@ use Rattle.text.specs.Wrote.{capped, Wrote, Fits}
 use Rattle.text.specs.TextLaws.{over-start, over-length, wrote-as}
 use Rattle.text.specs.RoomLaws.{fits-less, fits-as, fits-exactly, stores}
 use Rattle.lengths.specs.Longest.{longestListing}
-use Rattle.lister.specs.Sheet.{Sheet, contentsOn, floorOn, WroteIf}
+use Rattle.lister.specs.Sheet.{Sheet, OnPage, contentsOn, floorOn, WroteIf}
 
 no-length : (t : List ℕ) → length t ≡ 0 → t ≡ []
 no-length [] e = refl
@@ -33,12 +33,20 @@ module _ (h : Sheet) {b : List ℕ} (f : Fits (floorOn h) 0 b) where
   unfolding floorOn tab
   floor-contents n = ap (λ (z : Bool). cond z (48 ∷ []) (contentsOn 65 h 0)) (ne-eqb (length (contentsOn 65 h 0)) 0 n)
 
-  pub contents-fit : Fits (contentsOn 65 h 0) 0 b
+  contents-fit : Fits (contentsOn 65 h 0) 0 b
   contents-fit = go (contentsOn 65 h 0) refl
     where
       go : (t : List ℕ) → contentsOn 65 h 0 ≡ t → Fits (contentsOn 65 h 0) 0 b
       go [] e = record { room = (let n = ap length e in omega (arith, f .room)); placed = f .placed }
       go (x ∷ t) e = fits-as (floor-contents (λ z. let n = ap length e in omega arith)) f
+
+  -- and are no longer than the floor's text
+  pub floor-page : length (floorOn h) ≤ longestListing → OnPage (contentsOn 65 h 0) 0 b
+  floor-page l = record { fits = contents-fit; short = go (contentsOn 65 h 0) refl }
+    where
+      go : (t : List ℕ) → contentsOn 65 h 0 ≡ t → length (contentsOn 65 h 0) ≤ longestListing
+      go [] e = let n = ap length e in omega arith
+      go (x ∷ t) e = let m = ap length (floor-contents (λ z. let n = ap length e in omega arith)) in omega arith
 
   module _ {xs : List ℕ} {n : ℕ} (w : Wrote (contentsOn 65 h 0) 0 b xs n) where
     long : n ≡ length (contentsOn 65 h 0)

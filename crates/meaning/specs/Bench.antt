@@ -20,8 +20,10 @@ use Rattle.meaning.specs.Step.{asleepOn, wake, look, lockFirst, lockSeco
 use Rattle.meaning.specs.Step.{arrive, travel, stepAt, step}
 use Rattle.meaning.specs.Touch.{counted, untouched, touchOf, touchesOf}
 use Rattle.meaning.specs.Run.{made, turnedAway, stepOf, callOf, run, settled, rests}
-use Rattle.meaning.specs.Text.{ascii, digits, gap, overlay}
-use Rattle.meaning.specs.Listing.{kindText, actionText, agentText, listsIn, agentsText, standsUnder, isPlain, slashed, nameText, bracketed, contentsText, listing}
+use Rattle.meaning.specs.Text.{ascii, digits, gap, joinedAll, overlay}
+use Rattle.meaning.specs.Sorted.{leq, insert, sorted}
+use Rattle.meaning.specs.Listing.{kindText, actionText, agentText, listsIn, textsOf, agentTexts, standsUnder, isPlain, slashed, nameText, bracketed, placeTexts}
+use Rattle.meaning.specs.Listing.{inOrder, contentsText, listing}
 use Rattle.meaning.specs.Listing.{listAnswer, listBuffer}
 use Rattle.meaning.specs.Report.{wordText, stepLine, refusedLine, listingLine, callsIn, reportRun, reportOf, report}
 use Rattle.meaning.specs.Codes.{checkOf, idleOf}
@@ -66,7 +68,7 @@ unfolding allSame rows paperRows slipRows fileRows stepRows firstRows keyRows li
     holdsBoth stageFits firstHeld secondHeld lockIs claims agentFits goingFrom goes placeFits coreSound sumBelow touchSum booksSound sound placeRecord agentRecord actionRecord touchRecord
     recordAt addPlace addAgent withAction addAction giveTouches loadRecord loadFrom load onWayTo awaited entersAt exitsFrom opensAt qualifies choose
     fires stays still turn take release asleepOn wake look lockFirst lockSecond hold leave dissolveAgent wokenBy dissolveLock dissolve act
-    arrive travel stepAt step made turnedAway stepOf digits gap kindText actionText agentText listsIn agentsText standsUnder isPlain slashed nameText bracketed
+    arrive travel stepAt step made turnedAway stepOf digits gap kindText actionText agentText listsIn textsOf agentTexts standsUnder isPlain slashed nameText bracketed placeTexts leq insert sorted joinedAll inOrder
     contentsText listing wordText stepLine refusedLine listingLine callsIn reportRun reportOf report
 bench = refl
 
@@ -85,6 +87,6 @@ unfolding allMeant soundRows callRows afterRows touchRows orderRows keyNumbers c
     coreSound sumBelow touchSum booksSound sound placeRecord agentRecord actionRecord touchRecord recordAt addPlace addAgent withAction addAction giveTouches loadRecord loadFrom load onWayTo awaited
     entersAt exitsFrom opensAt qualifies choose fires stays still turn take release asleepOn wake look lockFirst lockSecond hold leave
     dissolveAgent wokenBy dissolveLock dissolve act arrive travel stepAt step made turnedAway stepOf digits gap kindText actionText
-    agentText listsIn agentsText standsUnder isPlain slashed nameText bracketed contentsText listing wordText stepLine refusedLine listingLine callsIn reportRun
+    agentText listsIn textsOf agentTexts standsUnder isPlain slashed nameText bracketed placeTexts leq insert sorted joinedAll inOrder contentsText listing wordText stepLine refusedLine listingLine callsIn reportRun
     reportOf report
 numbers = refl

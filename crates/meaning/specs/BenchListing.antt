@@ -1,13 +1,28 @@
 -- Rows on the listing and on what `walk` writes (document 01, "The listing").
 use mathlib.Core.List.{List, [], _∷_}
-use Rattle.meaning.specs.BenchRow.{Row, row, hex, agents, file, place, agent, enters, exits, opens}
+use Rattle.meaning.specs.BenchRow.{Row, row, hex, agents, file, place, agent, enters, exits, opens, keyed}
 
 unfoldable pub listingRows : List Row
 listingRows =
-    -- "the agents with unused actions by number, then places by number, joined by ` | `"; "its unused actions, such as `enter 9.exit 9`"
+    -- "the agents with unused actions .., then places .., joined by ` | `"; "its unused actions, such as `enter 9.exit 9`"
     row (file (place 5 0 1234 ∷ place 4 0 20 ∷ place 6 4 3 ∷ agent 10 4 ∷ enters 10 9 ∷ exits 10 9 ∷ agent 7 4 ∷ opens 7 65535 ∷ agent 9 4 ∷ []))
     []
-    ("start 20[open 65535 | enter 9.exit 9 | 3[]] | 1234[]" ∷ "end 20[open 65535 | enter 9.exit 9 | 3[]] | 1234[]" ∷ [])
+    ("start 1234[] | 20[enter 9.exit 9 | open 65535 | 3[]]" ∷ "end 1234[] | 20[enter 9.exit 9 | open 65535 | 3[]]" ∷ [])
+    -- "agents come first, then places, each group in byte order of its own text" (document 02, W7): `open 10` before `open 9`, `70[]` before
+    -- `7[]`, for a digit is below the bracket, and a place with keys before one without, for the slash is
+    ∷ row (file (place 1 0 7 ∷ place 2 0 70 ∷ keyed 3 0 7 1 1 1 ∷ agent 0 0 ∷ opens 0 9 ∷ agent 1 0 ∷ opens 1 10 ∷ agent 2 0 ∷ enters 2 9 ∷ [])) []
+    ("start enter 9 | open 10 | open 9 | 7/1/1/1[] | 70[] | 7[]" ∷ "end enter 9 | open 10 | open 9 | 7/1/1/1[] | 70[] | 7[]" ∷ [])
+    -- "a shorter text before any that continues it"
+    ∷ row (file (agent 0 0 ∷ opens 0 1 ∷ exits 0 2 ∷ agent 1 0 ∷ opens 1 12 ∷ agent 2 0 ∷ opens 2 1 ∷ [])) []
+    ("start open 1 | open 1.exit 2 | open 12" ∷ "end open 1 | open 1.exit 2 | open 12" ∷ [])
+    -- places of one name, by their contents: `]` is below `e`
+    ∷ row (file (place 1 0 7 ∷ agent 0 1 ∷ enters 0 7 ∷ place 2 0 7 ∷ [])) []
+    ("start 7[] | 7[enter 7]" ∷ "end 7[] | 7[enter 7]" ∷ [])
+    -- "Two hosts numbered the same carriers differently": one listing
+    ∷ row (file (place 1 0 9 ∷ place 2 1 8 ∷ place 3 1 7 ∷ place 4 3 5 ∷ agent 0 2 ∷ exits 0 9 ∷ agent 1 3 ∷ exits 1 9 ∷ [])) []
+    ("start 9[7[exit 9 | 5[]] | 8[exit 9]]" ∷ "end 9[7[exit 9 | 5[]] | 8[exit 9]]" ∷ [])
+    ∷ row (file (place 9 0 9 ∷ place 3 9 7 ∷ place 2 3 5 ∷ place 1 9 8 ∷ agent 7 3 ∷ exits 7 9 ∷ agent 5 1 ∷ exits 5 9 ∷ [])) []
+    ("start 9[7[exit 9 | 5[]] | 8[exit 9]]" ∷ "end 9[7[exit 9 | 5[]] | 8[exit 9]]" ∷ [])
     -- nine levels
     ∷ row (file (place 1 0 1 ∷ place 2 1 2 ∷ place 3 2 3 ∷ place 4 3 4 ∷ place 5 4 5 ∷ place 6 5 6 ∷ place 7 6 7 ∷ place 8 7 8 ∷ place 9 8 9 ∷
     agent 0 9 ∷ exits 0 9 ∷ [])) []

@@ -12,39 +12,39 @@ use Rattle.meaning.specs.BenchTables.{Computed, bytes, number, sample, e
 unfoldable pub firstRows : List Row
 firstRows =
     -- "Loaded places count in file order": place 2, which the file gives before place 1, is entered
-    row (file (place 3 0 7 ∷ place 2 0 4 ∷ place 1 0 4 ∷ agent 0 3 ∷ enters 0 4 ∷ [])) (agents "0 0 0 0")
-    ("start 4[] | 4[] | 7[enter 4]" ∷ "0 looked 0" ∷ "0 took 0" ∷ "0 took 0" ∷ "0 left 0" ∷ "end 4[] | 4[7[]]" ∷ [])
+    row (file (place 3 0 7 ∷ place 2 0 4 ∷ place 1 0 4 ∷ place 4 1 6 ∷ agent 0 3 ∷ enters 0 4 ∷ [])) (agents "0 0 0 0")
+    ("start 4[6[]] | 4[] | 7[enter 4]" ∷ "0 looked 0" ∷ "0 took 0" ∷ "0 took 0" ∷ "0 left 0" ∷ "end 4[6[]] | 4[7[]]" ∷ [])
     -- and opened
     ∷ row (file (place 2 0 4 ∷ place 1 0 4 ∷ place 3 2 6 ∷ agent 0 0 ∷ opens 0 4 ∷ [])) (agents "0 0 0 0")
-    ("start open 4 | 4[] | 4[6[]]" ∷ "0 looked 0" ∷ "0 took 0" ∷ "0 took 0" ∷ "0 opened 0" ∷ "end 4[] | 6[]" ∷ [])
+    ("start open 4 | 4[6[]] | 4[]" ∷ "0 looked 0" ∷ "0 took 0" ∷ "0 took 0" ∷ "0 opened 0" ∷ "end 4[] | 6[]" ∷ [])
     -- "A fitting wish still decides": the younger one
-    ∷ row (file (place 3 0 7 ∷ place 2 0 4 ∷ place 1 0 4 ∷ agent 0 3 ∷ enters 0 4 ∷ [])) (hex "00 ff 00 ff 00 01 00 ff")
-    ("start 4[] | 4[] | 7[enter 4]" ∷ "0 looked 0" ∷ "0 took 0" ∷ "0 took 0" ∷ "0 left 0" ∷ "end 4[7[]] | 4[]" ∷ [])
+    ∷ row (file (place 3 0 7 ∷ place 2 0 4 ∷ place 1 0 4 ∷ place 4 1 6 ∷ agent 0 3 ∷ enters 0 4 ∷ [])) (hex "00 ff 00 ff 00 01 00 ff")
+    ("start 4[6[]] | 4[] | 7[enter 4]" ∷ "0 looked 0" ∷ "0 took 0" ∷ "0 took 0" ∷ "0 left 0" ∷ "end 4[6[] | 7[]] | 4[]" ∷ [])
     -- a wish for a place that does not qualify is passed over: the elder one
-    ∷ row (file (place 3 0 7 ∷ place 2 0 4 ∷ place 1 0 4 ∷ agent 0 3 ∷ enters 0 4 ∷ [])) (hex "00 ff 00 ff 00 03 00 ff")
-    ("start 4[] | 4[] | 7[enter 4]" ∷ "0 looked 0" ∷ "0 took 0" ∷ "0 took 0" ∷ "0 left 0" ∷ "end 4[] | 4[7[]]" ∷ [])
+    ∷ row (file (place 3 0 7 ∷ place 2 0 4 ∷ place 1 0 4 ∷ place 4 1 6 ∷ agent 0 3 ∷ enters 0 4 ∷ [])) (hex "00 ff 00 ff 00 03 00 ff")
+    ("start 4[6[]] | 4[] | 7[enter 4]" ∷ "0 looked 0" ∷ "0 took 0" ∷ "0 took 0" ∷ "0 left 0" ∷ "end 4[6[]] | 4[7[]]" ∷ [])
     -- "A place that comes is the latest": tray 1 leaves, comes to 9, leaves it and comes back; then tray 2 is entered
-    ∷ row (file (place 1 0 4 ∷ place 2 0 4 ∷ place 3 0 9 ∷ place 4 0 7 ∷ agent 0 1 ∷ enters 0 9 ∷ exits 0 9 ∷ agent 1 4 ∷ enters 1 4 ∷ []))
+    ∷ row (file (place 1 0 4 ∷ place 2 0 4 ∷ place 3 0 9 ∷ place 4 0 7 ∷ place 5 1 6 ∷ agent 0 1 ∷ enters 0 9 ∷ exits 0 9 ∷ agent 1 4 ∷ enters 1 4 ∷ []))
     (agents "0 0 0 0 0 0 0 0 0 0 0 0 0 0 1 1 1 1")
-    ("start 4[enter 9.exit 9] | 4[] | 9[] | 7[enter 4]" ∷ "0 looked 0" ∷ "0 took 0" ∷ "0 took 0" ∷ "0 left 0" ∷ "0 took 0" ∷ "0 took 0" ∷ "0 came 0" ∷
+    ("start 4[] | 4[enter 9.exit 9 | 6[]] | 7[enter 4] | 9[]" ∷ "0 looked 0" ∷ "0 took 0" ∷ "0 took 0" ∷ "0 left 0" ∷ "0 took 0" ∷ "0 took 0" ∷ "0 came 0" ∷
     "0 looked 0" ∷ "0 took 0" ∷ "0 took 0" ∷ "0 left 0" ∷ "0 took 0" ∷ "0 took 0" ∷ "0 came 0" ∷ "1 looked 0" ∷ "1 took 0" ∷ "1 took 0" ∷
-    "1 left 0" ∷ "end 4[] | 4[7[]] | 9[]" ∷ [])
+    "1 left 0" ∷ "end 4[6[]] | 4[7[]] | 9[]" ∷ [])
     -- a place on its way keeps its position until it comes: tray 1 leaves first and comes last, so tray 2 is entered
-    ∷ row (file (place 1 0 4 ∷ place 2 0 4 ∷ place 3 0 9 ∷ place 4 3 7 ∷ agent 0 1 ∷ enters 0 9 ∷ agent 1 2 ∷ enters 1 9 ∷ agent 2 4 ∷ enters 2 4 ∷ []))
+    ∷ row (file (place 1 0 4 ∷ place 2 0 4 ∷ place 3 0 9 ∷ place 4 3 7 ∷ place 5 1 6 ∷ agent 0 1 ∷ enters 0 9 ∷ agent 1 2 ∷ enters 1 9 ∷ agent 2 4 ∷ enters 2 4 ∷ []))
     (agents "0 0 0 0 1 1 1 1 1 1 1 0 0 0 2 2 2 2")
-    ("start 4[enter 9] | 4[enter 9] | 9[7[enter 4]]" ∷ "0 looked 0" ∷ "0 took 0" ∷ "0 took 0" ∷ "0 left 0" ∷ "1 looked 0" ∷ "1 took 0" ∷ "1 took 0" ∷
+    ("start 4[enter 9 | 6[]] | 4[enter 9] | 9[7[enter 4]]" ∷ "0 looked 0" ∷ "0 took 0" ∷ "0 took 0" ∷ "0 left 0" ∷ "1 looked 0" ∷ "1 took 0" ∷ "1 took 0" ∷
     "1 left 0" ∷ "1 took 0" ∷ "1 took 0" ∷ "1 came 0" ∷ "0 took 0" ∷ "0 took 0" ∷ "0 came 0" ∷ "2 looked 0" ∷ "2 took 0" ∷ "2 took 0" ∷
-    "2 left 0" ∷ "end 9[4[] | 4[7[]]]" ∷ [])
+    "2 left 0" ∷ "end 9[4[6[]] | 4[7[]]]" ∷ [])
     -- "children freed by an opening become the latest": place 3, which the file gives after them, is opened before them
     ∷ row (file (place 5 0 8 ∷ place 2 5 4 ∷ place 1 5 4 ∷ place 3 0 4 ∷ place 6 3 13 ∷ place 7 2 12 ∷ place 8 1 11 ∷ agent 0 0 ∷ opens 0 8 ∷
     opens 0 4 ∷ [])) (agents "0 0 0 0 0 0 0 0")
     ("start open 8.open 4 | 4[13[]] | 8[4[11[]] | 4[12[]]]" ∷ "0 looked 0" ∷ "0 took 0" ∷ "0 took 0" ∷ "0 opened 0" ∷ "0 looked 0" ∷ "0 took 0" ∷
-    "0 took 0" ∷ "0 opened 0" ∷ "end 4[11[]] | 4[12[]] | 13[]" ∷ [])
+    "0 took 0" ∷ "0 opened 0" ∷ "end 13[] | 4[11[]] | 4[12[]]" ∷ [])
     -- "and keep their order among themselves": then place 2, which the file gives before place 1
     ∷ row (file (place 5 0 8 ∷ place 2 5 4 ∷ place 1 5 4 ∷ place 3 0 4 ∷ place 6 3 13 ∷ place 7 2 12 ∷ place 8 1 11 ∷ agent 0 0 ∷ opens 0 8 ∷
     opens 0 4 ∷ opens 0 4 ∷ [])) (agents "0 0 0 0 0 0 0 0 0 0 0 0")
     ("start open 8.open 4.open 4 | 4[13[]] | 8[4[11[]] | 4[12[]]]" ∷ "0 looked 0" ∷ "0 took 0" ∷ "0 took 0" ∷ "0 opened 0" ∷ "0 looked 0" ∷
-    "0 took 0" ∷ "0 took 0" ∷ "0 opened 0" ∷ "0 looked 0" ∷ "0 took 0" ∷ "0 took 0" ∷ "0 opened 0" ∷ "end 4[11[]] | 13[] | 12[]" ∷ [])
+    "0 took 0" ∷ "0 took 0" ∷ "0 opened 0" ∷ "0 looked 0" ∷ "0 took 0" ∷ "0 took 0" ∷ "0 opened 0" ∷ "end 12[] | 13[] | 4[11[]]" ∷ [])
     ∷ []
 
 -- a cell whose places stand in this row

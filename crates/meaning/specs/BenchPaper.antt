@@ -31,7 +31,7 @@ paperRows =
     ("start 7[enter 7]" ∷ "0 looked 0" ∷ "0 took 0" ∷ "0 slept 0" ∷ "0 asleep 0" ∷ "end 7[enter 7]" ∷ [])
     -- "`7[enter 7] | 7[]` ends `7[7[]]`, agent in place 1"
     ∷ row (file (place 1 0 7 ∷ place 2 0 7 ∷ agent 0 1 ∷ enters 0 7 ∷ [])) (agents "0 0 0 0 0 0 0 0")
-    ("start 7[enter 7] | 7[]" ∷ "0 looked 0" ∷ "0 took 0" ∷ "0 took 0" ∷ "0 left 0" ∷ "0 took 0" ∷ "0 took 0" ∷ "0 came 0" ∷ "0 done 0" ∷
+    ("start 7[] | 7[enter 7]" ∷ "0 looked 0" ∷ "0 took 0" ∷ "0 took 0" ∷ "0 left 0" ∷ "0 took 0" ∷ "0 took 0" ∷ "0 came 0" ∷ "0 done 0" ∷
     "end 7[7[]]" ∷ [])
     -- "`9[exit 9]` sleeps"
     ∷ row (file (place 1 0 9 ∷ agent 0 1 ∷ exits 0 9 ∷ [])) (agents "0 0 0 0")
@@ -39,7 +39,7 @@ paperRows =
     -- "`9[7[exit 9]]` ends `9[] | 7[]`"
     ∷ row (file (place 1 0 9 ∷ place 2 1 7 ∷ agent 0 2 ∷ exits 0 9 ∷ [])) (agents "0 0 0 0 0 0 0 0")
     ("start 9[7[exit 9]]" ∷ "0 looked 0" ∷ "0 took 0" ∷ "0 took 0" ∷ "0 left 0" ∷ "0 took 0" ∷ "0 took 0" ∷ "0 came 0" ∷ "0 done 0" ∷
-    "end 9[] | 7[]" ∷ [])
+    "end 7[] | 9[]" ∷ [])
     -- "`open 7 | 7[8[]]` ends `8[]`"
     ∷ row (file (place 1 0 7 ∷ place 2 1 8 ∷ agent 0 0 ∷ opens 0 7 ∷ [])) (agents "0 0 0 0 0")
     ("start open 7 | 7[8[]]" ∷ "0 looked 0" ∷ "0 took 0" ∷ "0 took 0" ∷ "0 opened 0" ∷ "0 done 0" ∷ "end 8[]" ∷ [])

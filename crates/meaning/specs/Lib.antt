@@ -7,6 +7,7 @@ pub mod Run
 pub mod Calculus
 pub mod Plain
 pub mod Text
+pub mod Sorted
 pub mod Listing
 pub mod TreeListing
 pub mod Report
@@ -26,3 +27,7 @@ pub mod BenchKeys
 pub mod Bench
 pub mod FileLaws
 pub mod OrderLaws
+pub mod Every
+pub mod SortedLaws
+pub mod InsertLaws
+pub mod TextsLaws

@@ -2,7 +2,7 @@
 use Prim.Native.Nat.{ℕ, zero, suc}
 use mathlib.Core.Path.{_≡_}
 use mathlib.Core.Bool.{Bool, not, _&&_, cond}
-use mathlib.Core.List.{List, [], _++_}
+use mathlib.Core.List.{List, [], _∷_, _++_}
 use lib.Dec.{ltb, leb, eqb}
 use lib.ListN.{length, getD}
 use Rattle.table.specs.Base.{tab, foldUp}
@@ -14,7 +14,8 @@ use Rattle.table.specs.declared.Agent.{Agent}
 use Rattle.meaning.specs.declared.Listed.{Listed}
 use Rattle.meaning.specs.declared.Listed.the-variants.{Length, Unlisted}
 use Rattle.meaning.specs.Refusals.{unsoundTable, tooLong}
-use Rattle.meaning.specs.Text.{ascii, decimal, gap, joined, overlay}
+use Rattle.meaning.specs.Text.{ascii, decimal, gap, joined, joinedAll, overlay}
+use Rattle.meaning.specs.Sorted.{sorted}
 
 -- ---- agents
 
@@ -44,14 +45,15 @@ agentText a = foldUp (actionTurn a) 16 []
 unfoldable pub listsIn : Bool → Agent → ℕ → Bool
 listsIn given a p = given && (hasUnused a && eqb (a .home) p)
 
--- one agent more, after a bar
-abbrev pub agentTurn : State → ℕ → ℕ → List ℕ → List ℕ
-agentTurn c p x s = cond (listsIn (c .given x) (c .agent x) p) (joined (ascii " | ") s (agentText (c .agent x))) s
+-- the texts of those below n that are meant, the highest first
+unfoldable pub textsOf : (ℕ → Bool) → (ℕ → List ℕ) → ℕ → List (List ℕ)
+textsOf meant text zero = []
+textsOf meant text (suc n) = cond (meant n) (text n ∷ textsOf meant text n) (textsOf meant text n)
 
--- "the agents with unused actions by number"
-unfoldable pub agentsText : State → ℕ → List ℕ
-unfolding listsIn agentText gap tab
-agentsText c p = foldUp (agentTurn c p) 64 []
+-- the texts of the agents with unused actions that live in p
+unfoldable pub agentTexts : State → ℕ → List (List ℕ)
+unfolding listsIn agentText
+agentTexts c p = textsOf (λ x. listsIn (c .given x) (c .agent x) p) (λ x. agentText (c .agent x)) 64
 
 -- ---- places
 
@@ -78,15 +80,21 @@ unfoldable pub bracketed : Name → List ℕ → List ℕ
 unfolding nameText tab
 bracketed name contents = ((nameText name ++ ascii "[") ++ contents) ++ ascii "]"
 
--- one place more, after a bar
-abbrev pub placeTurn : Land → ℕ → (ℕ → List ℕ) → ℕ → List ℕ → List ℕ
-placeTurn l p text q s = cond (standsUnder (l .used q) q (l .place q .parent) p) (joined (ascii " | ") s (bracketed (l .place q .name) (text q))) s
+-- the texts of the places that stand in p, where text tells the contents of each
+unfoldable pub placeTexts : Land → ℕ → (ℕ → List ℕ) → List (List ℕ)
+unfolding standsUnder bracketed
+placeTexts l p text = textsOf (λ q. standsUnder (l .used q) q (l .place q .parent) p) (λ q. bracketed (l .place q .name) (text q)) 64
 
--- "Contents are the agents with unused actions by number, then places by number, joined by ` | `", so many levels deep
+-- "Within contents, agents come first, then places, each group in byte order of its own text" (document 02, W7), "joined by ` | `"
+unfoldable pub inOrder : List (List ℕ) → List (List ℕ) → List ℕ
+unfolding sorted joinedAll tab
+inOrder agents places = joinedAll (ascii " | ") [] (sorted agents ++ sorted places)
+
+-- the contents of p, so many levels deep
 unfoldable pub contentsText : ℕ → State → ℕ → List ℕ
-unfolding agentsText standsUnder bracketed gap tab
+unfolding agentTexts placeTexts inOrder
 contentsText zero c p = []
-contentsText (suc depth) c p = foldUp (placeTurn (c .land) p (contentsText depth c)) 64 (agentsText c p)
+contentsText (suc depth) c p = inOrder (agentTexts c p) (placeTexts (c .land) p (contentsText depth c))
 
 -- "a place writes its contents"
 unfoldable pub placeText : ℕ → State → ℕ → List ℕ

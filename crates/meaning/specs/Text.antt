@@ -29,6 +29,12 @@ gap by s = cond (eqb (length s) 0) [] by
 abbrev pub joined : List ℕ → List ℕ → List ℕ → List ℕ
 joined by s part = (s ++ gap by s) ++ part
 
+-- the text so far and the parts after it, in their order
+unfoldable pub joinedAll : List ℕ → List ℕ → List (List ℕ) → List ℕ
+unfolding gap
+joinedAll by s [] = s
+joinedAll by s (part ∷ rest) = joinedAll by (joined by s part) rest
+
 -- a buffer after a text is written from its start on, as far as the buffer has room
 unfoldable pub overlay : List ℕ → List ℕ → List ℕ
 overlay [] b = b

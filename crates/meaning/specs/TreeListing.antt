@@ -4,11 +4,11 @@ use mathlib.Core.Bool.{Bool, _&&_, cond}
 use mathlib.Core.List.{List, [], _∷_}
 use lib.Dec.{ltb, eqb}
 use lib.ListN.{length}
-use Rattle.table.specs.Base.{tab, foldUp}
+use Rattle.table.specs.Base.{tab}
 use Rattle.table.specs.declared.Action.{Action}
 use Rattle.meaning.specs.Text.{ascii, gap, joined}
 use Rattle.meaning.specs.Calculus.{Tree}
-use Rattle.meaning.specs.Listing.{actionText, standsUnder, bracketed}
+use Rattle.meaning.specs.Listing.{actionText, textsOf, standsUnder, bracketed, inOrder}
 
 -- "An agent is its unused actions, such as `enter 9.exit 9`": a text so far, and a row of actions after it
 unfoldable pub rowText : List ℕ → List Action → List ℕ
@@ -20,24 +20,21 @@ rowText s (x ∷ row) = rowText (joined (ascii ".") s (actionText x)) row
 unfoldable pub actsIn : Tree → ℕ → ℕ → Bool
 actsIn t x p = ltb 0 (length (t .unused x)) && eqb (t .home x) p
 
--- one agent more, after a bar
-abbrev pub rowTurn : Tree → ℕ → ℕ → List ℕ → List ℕ
-rowTurn t p x s = cond (actsIn t x p) (joined (ascii " | ") s (rowText [] (t .unused x))) s
+-- the texts of the agents with unused actions that live in p
+unfoldable pub treeAgents : Tree → ℕ → List (List ℕ)
+unfolding actsIn rowText
+treeAgents t p = textsOf (λ x. actsIn t x p) (λ x. rowText [] (t .unused x)) 64
 
--- "the agents with unused actions by number"
-unfoldable pub treeAgents : Tree → ℕ → List ℕ
-unfolding actsIn rowText gap tab
-treeAgents t p = foldUp (rowTurn t p) 64 []
+-- the texts of the places that stand in p, where text tells the contents of each
+unfoldable pub treePlaces : Tree → ℕ → (ℕ → List ℕ) → List (List ℕ)
+unfolding standsUnder bracketed
+treePlaces t p text = textsOf (λ q. standsUnder (t .used q) q (t .parent q) p) (λ q. bracketed (t .name q) (text q)) 64
 
--- one place more, after a bar
-abbrev pub standTurn : Tree → ℕ → (ℕ → List ℕ) → ℕ → List ℕ → List ℕ
-standTurn t p text q s = cond (standsUnder (t .used q) q (t .parent q) p) (joined (ascii " | ") s (bracketed (t .name q) (text q))) s
-
--- "Contents are the agents with unused actions by number, then places by number, joined by ` | `", so many levels deep
+-- the contents of p, so many levels deep
 unfoldable pub treeContents : ℕ → Tree → ℕ → List ℕ
-unfolding treeAgents standsUnder bracketed gap tab
+unfolding treeAgents treePlaces inOrder
 treeContents zero t p = []
-treeContents (suc depth) t p = foldUp (standTurn t p (treeContents depth t)) 64 (treeAgents t p)
+treeContents (suc depth) t p = inOrder (treeAgents t p) (treePlaces t p (treeContents depth t))
 
 -- "An empty floor is `0`"
 unfoldable pub treeListing : Tree → List ℕ

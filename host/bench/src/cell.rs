@@ -3,6 +3,9 @@
 /// No place and no agent; the lock of a place that is free.
 pub const NONE: u8 = 64;
 
+/// The longest listing.
+pub const LISTING_LONGEST: usize = 14_177;
+
 /// A name with its keys: what an enter, an exit and an open are compared with; 0 is compared with none.
 #[repr(C)]
 #[derive(Clone, Copy, PartialEq, Eq, Debug)]

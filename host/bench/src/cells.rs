@@ -148,6 +148,40 @@ pub fn longest() -> Sketch {
     Sketch { places: vec![(0, 65_535); 63], agents: vec![(0, vec![enter(65_535); 16]); 64], touches }
 }
 
+/// 63 places on the floor that are listed alike, an agent with sixteen actions in each and on the floor.
+pub fn equal_siblings() -> Sketch {
+    Sketch { places: vec![(0, 65_535); 63], agents: (0..64).map(|x| (x, vec![enter(65_535); 16])).collect(), touches: vec![] }
+}
+
+/// The same names and agents, two places in each place as far as 63 go, so that there are equal texts at every level.
+pub fn tree_of_equals() -> Sketch {
+    let mut sketch = equal_siblings();
+    (0..63).for_each(|q| sketch.places[q].0 = q as u8 / 2);
+    sketch
+}
+
+/// 63 places on the floor whose texts differ in the last of sixteen actions, in number order the last one first.
+pub fn differ_late() -> Sketch {
+    let mut sketch = equal_siblings();
+    sketch.agents.iter_mut().zip(0..).for_each(|((_, row), x)| row[15] = enter(65_535 - x));
+    sketch
+}
+
+/// The same with all agents on the floor, where the places' names stand in the wrong order too.
+pub fn all_differ_late() -> Sketch {
+    let mut sketch = differ_late();
+    sketch.agents.iter_mut().for_each(|(home, _)| *home = 0);
+    sketch.places.iter_mut().zip(1..).for_each(|(place, q)| place.1 = 65_535 - q);
+    sketch
+}
+
+/// A chain of places named 2, beside each an empty one named 1 with a higher number, so that at every level the long text goes behind the short
+/// one; all agents live in the innermost place.
+pub fn caterpillar() -> Sketch {
+    let place = |q: u8| if q % 2 == 1 { (q.saturating_sub(2), 2) } else { (q.saturating_sub(3), 1) };
+    Sketch { places: (1..64).map(place).collect(), agents: vec![(63, vec![enter(65_535); 16]); 64], touches: vec![] }
+}
+
 /// A busy order: until all agents are at rest, or so many calls. Nine of ten calls go to an agent that is not at rest.
 pub fn busy(start: &Cell, most: usize) -> Vec<(u8, u8)> {
     let mut random = Random(99);

@@ -1,6 +1,6 @@
 //! The three keepers side by side: the same answers, cells and buffers, or the benchmark stops.
 
-use crate::cell::{members, Cell, Name, MOST_TOUCHES};
+use crate::cell::{members, Cell, Name, LISTING_LONGEST, MOST_TOUCHES};
 use crate::cells::{random, Random};
 use crate::jobs::{Job, Room, Workload};
 use crate::keeper::{Keeper, Proved};
@@ -46,11 +46,7 @@ fn job(job: &Job) -> Result<usize, String> {
             (0..=file.len()).try_for_each(|length| load(&file[..length]).map(|_| ()))?;
             Ok(file.len() + 1)
         }
-        Job::List { cell, room } => {
-            let length = (Tuned::list(cell, &mut vec![0; *room]) >> 8) as usize;
-            [*room, length, length - 1, 0].into_iter().try_for_each(|room| list(cell, room))?;
-            Ok(4)
-        }
+        Job::List { cell, .. } => lists(cell),
         Job::Check { cell } | Job::Idle { cell } => asks(cell).map(|_| 2),
         Job::Walk { .. } => {
             let mut rooms = [Room::new(), Room::new(), Room::new()];
@@ -95,6 +91,14 @@ fn list(cell: &Cell, room: usize) -> Result<(), String> {
     same("listings", texts)
 }
 
+/// Listings into rooms of all sizes that matter: enough for every listing, about as long as this one, and none.
+fn lists(cell: &Cell) -> Result<usize, String> {
+    let length = (Tuned::list(cell, &mut [0; LISTING_LONGEST]) >> 8) as usize;
+    let rooms = [LISTING_LONGEST + 1, LISTING_LONGEST, LISTING_LONGEST - 1, length + 1, length, length.saturating_sub(1), 0];
+    rooms.into_iter().try_for_each(|room| list(cell, room))?;
+    Ok(rooms.len())
+}
+
 fn asks(cell: &Cell) -> Result<(), String> {
     same("answers of a check", [Plain::check(cell), Tuned::check(cell), Proved::check(cell)])?;
     same("answers whether all are at rest", [Plain::idle(cell), Tuned::idle(cell), Proved::idle(cell)])
@@ -110,8 +114,11 @@ fn one_random(numbers: &mut Random, damaged: bool) -> Result<usize, String> {
     if numbers.below(2) == 0 {
         file = keyed(numbers, &file, names);
     }
+    if numbers.below(2) == 0 {
+        more_digits(&mut file);
+    }
     let mut cells = load(&file)?;
-    let mut touched = 0;
+    let (mut touched, mut listed) = (0, 0);
     for i in 0..300 {
         if numbers.below(10) == 0 {
             touched += 1;
@@ -124,13 +131,13 @@ fn one_random(numbers: &mut Random, damaged: bool) -> Result<usize, String> {
         step(&mut cells, agent as u8, numbers.below(70) as u8)?;
         if i % 50 == 0 {
             asks(&cells[0])?;
-            list(&cells[0], 14_177)?;
+            listed += lists(&cells[0])?;
         }
     }
     let at = numbers.below(file.len());
     file[at] = numbers.below(256) as u8;
     load(&file)?;
-    Ok(300 + 2 * touched + 6 * 3 + 2)
+    Ok(300 + 2 * touched + listed + 6 * 2 + 2)
 }
 
 /// The length of a record of this kind.
@@ -159,6 +166,21 @@ fn keyed(numbers: &mut Random, file: &[u8], names: usize) -> Vec<u8> {
         at += length(kind);
     }
     keyed
+}
+
+/// The file's names, keys and actions' numbers up to 6 with other ones in their place, some of which begin with others of them.
+fn more_digits(file: &mut [u8]) {
+    const NUMBERS: [u16; 7] = [0, 70, 7, 65_535, 700, 6_553, 71];
+    let mut at = 0;
+    while at < file.len() {
+        let end = at + length(file[at]);
+        if matches!(file[at], 1 | 3 | 6) {
+            for number in file[at + 3..end].chunks_exact_mut(2) {
+                number.copy_from_slice(&NUMBERS[number[0] as usize].to_le_bytes());
+            }
+        }
+        at = end;
+    }
 }
 
 /// The file with other numbers for its places, so that they stand in it in another order than that of their numbers.

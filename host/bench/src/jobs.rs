@@ -1,6 +1,6 @@
 //! What is measured: jobs that each keeper can do, each a lap of calls.
 
-use crate::cell::Cell;
+use crate::cell::{Cell, LISTING_LONGEST};
 use crate::cells::{self, Random, Sketch};
 use crate::keeper::Keeper;
 use crate::tuned::Tuned;
@@ -27,18 +27,26 @@ pub enum Job {
     Copy { cell: Box<Cell> },
 }
 
-/// A job with its name and the ratios it should stay within: the goal, and the bar where there is one above the goal. They are beside the
-/// plain peer where it has its own call, else beside the tuned one.
+/// A job with its name and the ratios it should stay within.
 pub struct Workload {
     pub name: String,
     pub limits: Option<Limits>,
     pub job: Job,
 }
 
+/// What a ratio should stay within: the goal, and the bar where there is one above the goal; and which peer the keeper's time is divided by.
 #[derive(Clone, Copy)]
 pub struct Limits {
     pub goal: f64,
     pub bar: Option<f64>,
+    pub beside: Peer,
+}
+
+/// One of the two peers.
+#[derive(Clone, Copy)]
+pub enum Peer {
+    Plain,
+    Tuned,
 }
 
 /// What a lap writes to.
@@ -65,7 +73,7 @@ impl Job {
 
     /// Whether the plain peer has its own call for it; its other calls are the tuned peer's.
     pub fn is_own_of_plain(&self) -> bool {
-        matches!(self, Job::Step { .. } | Job::Touch { .. } | Job::Check { .. } | Job::Idle { .. } | Job::Walk { .. })
+        !matches!(self, Job::Load { .. } | Job::Copy { .. })
     }
 
     /// One lap; the answer keeps the calls from being left out.
@@ -92,15 +100,15 @@ impl Job {
     }
 }
 
-const fn within(goal: f64, bar: Option<f64>) -> Option<Limits> {
-    Some(Limits { goal, bar })
+const fn within(beside: Peer, goal: f64, bar: Option<f64>) -> Option<Limits> {
+    Some(Limits { goal, bar, beside })
 }
 
-const EMPTY: Option<Limits> = within(1.2, Some(2.0));
-const STEP: Option<Limits> = within(1.2, Some(1.5));
-const CHAIN: Option<Limits> = within(1.2, None);
-const LIST: Option<Limits> = within(1.5, None);
-const WALK: Option<Limits> = within(1.2, None);
+const EMPTY: Option<Limits> = within(Peer::Plain, 1.2, Some(2.0));
+const STEP: Option<Limits> = within(Peer::Plain, 1.2, Some(1.5));
+const CHAIN: Option<Limits> = within(Peer::Plain, 1.2, None);
+const LIST: Option<Limits> = within(Peer::Tuned, 1.5, None);
+const WALK: Option<Limits> = within(Peer::Plain, 1.2, None);
 
 /// Calls that change nothing: of agents that are held, asleep or done.
 fn quiet(sketch: Sketch) -> Job {
@@ -121,7 +129,7 @@ fn busy(sketch: Sketch, before: usize) -> Job {
 pub fn workloads() -> Vec<Workload> {
     let boxed = |sketch: &Sketch| Box::new(sketch.cell());
     let load = |sketch: Sketch| Job::Load { file: sketch.file() };
-    let list = |sketch: Sketch| Job::List { cell: boxed(&sketch), room: 14_177 };
+    let list = |sketch: Sketch| Job::List { cell: boxed(&sketch), room: LISTING_LONGEST };
     let check = |sketch: Sketch| Job::Check { cell: boxed(&sketch) };
     let idle = |sketch: Sketch| Job::Idle { cell: boxed(&sketch) };
     let touch = |sketch: Sketch| Job::Touch { order: cells::touching(&sketch.cell(), 400), start: boxed(&sketch) };
@@ -154,6 +162,11 @@ pub fn workloads() -> Vec<Workload> {
         of("list, full", LIST, list(cells::full())),
         of("list, chain", LIST, list(cells::chain())),
         of("list, longest", LIST, list(cells::longest())),
+        of("list, equal siblings", LIST, list(cells::equal_siblings())),
+        of("list, tree of equals", LIST, list(cells::tree_of_equals())),
+        of("list, differ late", LIST, list(cells::differ_late())),
+        of("list, all differ late", LIST, list(cells::all_differ_late())),
+        of("list, caterpillar", LIST, list(cells::caterpillar())),
         of("walk, typical", WALK, whole(cells::typical())),
         of("walk, full", WALK, whole(cells::full())),
         of("a copy of the cell", None, Job::Copy { cell: boxed(&cells::full()) }),

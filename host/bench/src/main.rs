@@ -13,7 +13,7 @@ mod plain;
 mod tuned;
 mod walk;
 
-use jobs::{sweep, workloads, Job, Limits, Room, Workload};
+use jobs::{sweep, workloads, Job, Limits, Peer, Room, Workload};
 use keeper::{Keeper, Proved};
 use measure::{measure, Pace};
 use plain::Plain;
@@ -53,12 +53,15 @@ fn table(workloads: &[Workload], pace: &Pace) {
         let if_own = |value: f64, digits: usize| if own { format!("{value:.digits$}") } else { String::new() };
         let (plain, ratio) = (if_own(cost.plain, 1), if_own(cost.keeper_to_plain, 2));
         print!("{:<24}{plain:>12}{:>12.1}{:>12.1}{ratio:>9}{:>9.2}", workload.name, cost.tuned, cost.keeper, cost.keeper_to_tuned);
-        let judged = if own { cost.keeper_to_plain } else { cost.keeper_to_tuned };
         match workload.limits {
             None => println!(),
             Some(limits) => {
                 let bar = limits.bar.map_or(String::new(), |bar| format!("{bar:.1}"));
-                println!("{:>6.1}{bar:>5}  {}", limits.goal, verdict(judged, limits));
+                let ratio = match limits.beside {
+                    Peer::Plain => cost.keeper_to_plain,
+                    Peer::Tuned => cost.keeper_to_tuned,
+                };
+                println!("{:>6.1}{bar:>5}  {}", limits.goal, verdict(ratio, limits));
             }
         }
     }

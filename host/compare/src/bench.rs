@@ -1,6 +1,7 @@
 //! Document 01's worked example and bench cases, as the landed requests of document 02 change them, and files that every byte is changed in.
 
 use crate::call::Call;
+use crate::layouts;
 use model::{file_of, walk};
 
 /// A case: the cell file, the agents that step, and what `walk` writes.
@@ -29,11 +30,16 @@ fn refused(file: &[u8], number: u8, offset: usize) -> Case {
     Case { file: file.to_vec(), agents: vec![], written: format!("refused {number} {offset}\n") }
 }
 
-/// A case of one agent that answers these words, with nobody to wake.
+/// A case of one agent that answers these words, with nobody to wake; the term is as it is listed.
 fn alone(term: &str, words: &str, end: &str) -> Case {
+    alone_in(term, term, words, end)
+}
+
+/// The same of a term that is listed as another one: the places of the file stand in the order of the term.
+fn alone_in(term: &str, start: &str, words: &str, end: &str) -> Case {
     let lines: String = words.split(' ').map(|word| format!("0 {word} 0\n")).collect();
     let agents = vec![0; words.split(' ').count()];
-    Case { file: file_of(term), agents, written: format!("start {term}\n{lines}end {end}\n") }
+    Case { file: file_of(term), agents, written: format!("start {start}\n{lines}end {end}\n") }
 }
 
 /// The worked example and the bench cases.
@@ -83,15 +89,16 @@ pub fn cases() -> Vec<Case> {
         },
         Case { file: vec![1, 0x3F, 0, 7, 0, 4], agents: vec![], written: "start 7[]\nend 7[]\n".to_string() },
         alone("7[enter 7]", "looked took slept asleep", "7[enter 7]"),
-        alone("7[enter 7] | 7[]", "looked took took left took took came done", "7[7[]]"),
+        alone("7[] | 7[enter 7]", "looked took took left took took came done", "7[7[]]"),
         alone("9[exit 9]", "looked took slept asleep", "9[exit 9]"),
-        alone("9[7[exit 9]]", "looked took took left took took came done", "9[] | 7[]"),
+        alone("9[7[exit 9]]", "looked took took left took took came done", "7[] | 9[]"),
         alone("open 7 | 7[8[]]", "looked took took opened done", "8[]"),
         Case { file: sixteen, agents: vec![0, 64], written: format!("start {listed}\n0 slept 0\n64 refused 11\nend {listed}\n") },
         refused(&seventeen, 8, 83),
     ];
     cases.extend(first_served());
     cases.extend(rights());
+    cases.extend(layouts::cases());
     cases
 }
 
@@ -102,16 +109,21 @@ fn rights() -> Vec<Case> {
         |at: usize, byte: u8| record.iter().enumerate().map(|(index, &old)| if index == at { byte } else { old }).collect::<Vec<u8>>();
     vec![
         alone(
-            "9/5/6/0[] | 7[enter 5.exit 6]",
+            "7[enter 5.exit 6] | 9/5/6/0[]",
             "looked took took left took took came looked took took left took took came done",
-            "9/5/6/0[] | 7[]",
+            "7[] | 9/5/6/0[]",
         ),
-        alone("9/5/6/8[] | 7[enter 9]", "looked took slept asleep", "9/5/6/8[] | 7[enter 9]"),
+        alone("7[enter 9] | 9/5/6/8[]", "looked took slept asleep", "7[enter 9] | 9/5/6/8[]"),
         alone("9/5/6/8[7[exit 5]]", "looked took slept asleep", "9/5/6/8[7[exit 5]]"),
         alone("open 6 | 9/5/6/8[]", "looked took slept asleep", "open 6 | 9/5/6/8[]"),
         alone("open 8 | 9/5/6/8[1/0/0/0[]]", "looked took took opened done", "1/0/0/0[]"),
         alone("open 20 | 20/20/20/0[]", "looked took slept asleep", "open 20 | 20/20/20/0[]"),
-        alone("9/7/0/0[] | 7[] | 8/0/0/0[enter 7]", "looked took took left took took came done", "9/7/0/0[8/0/0/0[]] | 7[]"),
+        alone_in(
+            "9/7/0/0[] | 7[] | 8/0/0/0[enter 7]",
+            "7[] | 8/0/0/0[enter 7] | 9/7/0/0[]",
+            "looked took took left took took came done",
+            "7[] | 9/7/0/0[8/0/0/0[]]",
+        ),
         Case { file: [&record[..], &[4]].concat(), agents: vec![], written: "start 7[]\nend 7[]\n".to_string() },
         refused(&record, 1, 11),
         refused(&record[..10], 1, 0),
@@ -124,7 +136,7 @@ fn rights() -> Vec<Case> {
     ]
 }
 
-/// First in, first served: place 3 stands before place 2 in the file; place 1 comes back as the latest, so that place 2 is opened; and of
+/// First in, first served: place 3, with place 4 in it, stands before place 2 in the file; place 1 comes back as the latest, so that place 2 is opened; and of
 /// the places that an opening frees, which come after place 4, place 3 is before place 2.
 fn first_served() -> [Case; 3] {
     let goes = "0 looked 0\n0 took 0\n0 took 0\n0 left 0\n0 took 0\n0 took 0\n0 came 0\n";
@@ -134,19 +146,19 @@ fn first_served() -> [Case; 3] {
     let opener = [&[2, 0, 0][..], &[3, 0, 3, 8, 0], &[3, 0, 3, 9, 0], &[3, 0, 3, 9, 0], &[4]].concat();
     [
         Case {
-            file: vec![1, 1, 0, 7, 0, 1, 3, 0, 9, 0, 1, 2, 0, 9, 0, 2, 0, 1, 3, 0, 1, 9, 0, 4],
+            file: vec![1, 1, 0, 7, 0, 1, 3, 0, 9, 0, 1, 2, 0, 9, 0, 1, 4, 3, 6, 0, 2, 0, 1, 3, 0, 1, 9, 0, 4],
             agents: vec![0; 7],
-            written: format!("start 7[enter 9] | 9[] | 9[]\n{goes}end 9[] | 9[7[]]\n"),
+            written: format!("start 7[enter 9] | 9[6[]] | 9[]\n{goes}end 9[6[] | 7[]] | 9[]\n"),
         },
         Case {
             file: file_of("9[enter 8.exit 8] | 9[6[]] | 8[] | open 9"),
             agents: [vec![0; 14], vec![1; 4]].concat(),
-            written: format!("start open 9 | 9[enter 8.exit 8] | 9[6[]] | 8[]\n{goes}{goes}{opens_too}end 9[] | 6[] | 8[]\n"),
+            written: format!("start open 9 | 8[] | 9[6[]] | 9[enter 8.exit 8]\n{goes}{goes}{opens_too}end 6[] | 8[] | 9[]\n"),
         },
         Case {
             file: [box_and_trays, opener].concat(),
             agents: vec![0; 12],
-            written: format!("start open 8.open 9.open 9 | 9[] | 8[9[6[]] | 9[1[]]]\n{opens}{opens}{opens}end 1[] | 9[6[]]\n"),
+            written: format!("start open 8.open 9.open 9 | 8[9[1[]] | 9[6[]]] | 9[]\n{opens}{opens}{opens}end 1[] | 9[6[]]\n"),
         },
     ]
 }

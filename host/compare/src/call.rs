@@ -6,10 +6,25 @@ use std::fmt;
 #[derive(Clone, PartialEq, Debug)]
 pub enum Call {
     Load(Vec<u8>),
-    Step { agent: u8, wish: u8 },
-    Touch { place: u8, number: u32 },
-    List { room: usize },
-    Write { at: usize, byte: u8 },
+    Step {
+        agent: u8,
+        wish: u8,
+    },
+    Touch {
+        place: u8,
+        number: u32,
+    },
+    List {
+        room: usize,
+    },
+    /// The listing, and that of the same cell under other numbers, which the seed gives.
+    Renumber {
+        seed: u64,
+    },
+    Write {
+        at: usize,
+        byte: u8,
+    },
 }
 
 impl fmt::Display for Call {
@@ -26,6 +41,7 @@ impl fmt::Display for Call {
             Call::Step { agent, wish } => write!(out, "step of agent {agent}, wish {wish}"),
             Call::Touch { place, number } => write!(out, "touch of place {place}, {number}"),
             Call::List { room } => write!(out, "list with room for {room} bytes"),
+            Call::Renumber { seed } => write!(out, "list, and list under other numbers, seed {seed}"),
             Call::Write { at, byte } => write!(out, "the host writes {byte:02X} at byte {at} of the cell ({})", field(*at)),
         }
     }

@@ -20,6 +20,10 @@ pub struct Counts {
     pub accepted: u64,
     pub refused: BTreeMap<u8, u64>,
     pub listings: u64,
+    pub renumbered: u64,
+    pub otherwise: u64,
+    pub compared: u64,
+    pub alike: u64,
     pub sound: u64,
     pub unsound: u64,
     pub nine_steps: u64,
@@ -50,6 +54,8 @@ impl fmt::Display for Counts {
         self.refused.iter().try_for_each(|(number, count)| write!(out, " {count} with {number}"))?;
         writeln!(out, ")")?;
         writeln!(out, "listings        {:>9}", self.listings)?;
+        writeln!(out, "renumbered cells {:>8}   (listed alike; by number {} of them would not be)", self.renumbered, self.otherwise)?;
+        writeln!(out, "layouts compared {:>8}   (after a small change; {} of them alike)", self.compared, self.alike)?;
         writeln!(out, "damaged cells   {:>9}   ({} sound, {} unsound)", self.sound + self.unsound, self.sound, self.unsound)?;
         writeln!(out, "demand 2, moves reached within nine steps       {:>9}", self.nine_steps)?;
         writeln!(out, "demand 3, cells where somebody can go on        {:>9}", self.going_on)?;

@@ -151,10 +151,15 @@ fn numbers(random: &mut Random, first: u8, most: usize) -> Vec<u8> {
     all
 }
 
-/// A few names, low or any.
+/// A few names: low ones, some whose digits begin with those of low ones, or any.
 fn names(random: &mut Random) -> Vec<u16> {
     let count = random.pick(&[1, 1, 2, 2, 3, 4, 8]);
-    (1..=count).map(|low| if random.percent(85) { low } else { 1 + random.below(65_535) as u16 }).collect()
+    let name = |low: u16| match random.below(20) {
+        0..=15 => low,
+        16..=17 => 10 * low + random.below(10) as u16,
+        _ => 1 + random.below(65_535) as u16,
+    };
+    (1..=count).map(name).collect()
 }
 
 /// A mixture of action kinds.

@@ -2,10 +2,11 @@
 //!
 //!     compare [--quick] [--seconds N] [--seed S] [--walk PROGRAM]
 //!
-//! First document 01's cases, touches up to the most there may be, and every single-byte change and truncation of good files; then rounds
-//! of random files, random orders of steps and touch calls on random cells, and cells with bytes changed, those of keys and of the row of
-//! places too: a fixed number of rounds, or as many as fit in N seconds. The same seed gives the same rounds. With a program `walk`, what it
-//! writes is compared too. At a difference the smallest example found is printed and the exit status is 1.
+//! First document 01's cases, touches up to the most there may be, listings of full cells, and every single-byte change and truncation of good
+//! files; then rounds of random files, random orders of steps and touch calls on random cells, and cells with bytes changed, those of keys and
+//! of the row of places too: a fixed number of rounds, or as many as fit in N seconds. Cells are also listed under other numbers, which must
+//! give the same bytes. The same seed gives the same rounds. With a program `walk`, what it writes is compared too. At a difference the smallest
+//! example found is printed and the exit status is 1.
 
 mod answer;
 mod bench;
@@ -17,9 +18,11 @@ mod demands;
 mod differing;
 mod files;
 mod keys;
+mod layouts;
 mod orders;
 mod pair;
 mod random;
+mod renumber;
 mod rounds;
 mod rows;
 mod shrink;
@@ -63,6 +66,7 @@ fn run(session: &mut Session, options: &Options) -> Result<(), Vec<Call>> {
     let start = Instant::now();
     session.cases()?;
     session.most_touches()?;
+    session.full_listings()?;
     session.changed_files(if options.quick { 64 } else { 4 })?;
     let rounds = if options.quick { 20 } else { 500 };
     let mut round = 0;

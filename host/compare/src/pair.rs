@@ -6,15 +6,19 @@ use crate::counts::Counts;
 use crate::demands;
 use crate::differing::{differing, forgotten};
 use crate::keys;
+use crate::random::Random;
+use crate::renumber;
 use crate::rows;
 use crate::touches;
 use keeper::lent::Lent;
 use model::{listing, load, permitted, step, touch, Cell, Plain, Stepped, Table, Tree, Word, LISTING_TOO_LONG, UNSOUND};
 
 /// A byte that no listing has, with which buffers are filled before they are lent.
-const FILL: u8 = 0xAA;
+pub const FILL: u8 = 0xAA;
+/// The longest listing.
+pub const LONGEST: usize = 14_177;
 /// The longest listing and some bytes more.
-const ROOM: usize = 14_177 + 21;
+pub const ROOM: usize = LONGEST + 21;
 /// A buffer before it is lent.
 static FILLED: [u8; ROOM] = [FILL; ROOM];
 
@@ -77,6 +81,10 @@ impl Pair {
             Call::Step { agent, wish } => self.step(agent, wish),
             Call::Touch { place, number } => self.touch(place, number),
             Call::List { room } => self.list(room),
+            Call::Renumber { seed } => match &self.cell {
+                Some(cell) => renumber::compare(&mut Random::new(seed), &self.lent, cell, &mut self.counts),
+                None => Ok(()),
+            },
             Call::Write { at, byte } => self.write(at, byte),
         }
     }

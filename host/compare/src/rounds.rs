@@ -5,8 +5,9 @@ use crate::call::Call;
 use crate::counts::Counts;
 use crate::damage;
 use crate::files;
+use crate::layouts;
 use crate::orders::{touch, Order};
-use crate::pair::Pair;
+use crate::pair::{Pair, LONGEST};
 use crate::random::Random;
 use crate::touches;
 use model::Table;
@@ -104,6 +105,30 @@ impl Session {
         Ok(())
     }
 
+    /// Full cells whose texts are equal, or differ late, or are long and have to go behind others at every level: in rooms about as long as their
+    /// listings, under other numbers, and after some steps.
+    pub fn full_listings(&mut self) -> Outcome {
+        let mut random = Random::new(7);
+        for file in layouts::full_cells() {
+            self.start(file)?;
+            for _ in 0..4 {
+                let Some(cell) = &self.pair.cell else { break };
+                let length = model::listing(cell).len();
+                for room in [length - 1, length, length + 1, LONGEST - 1, LONGEST, LONGEST + 1] {
+                    self.call(Call::List { room })?;
+                }
+                for _ in 0..8 {
+                    self.call(Call::Renumber { seed: random.below(1_000_000) as u64 })?;
+                }
+                let agent = random.below(64) as u8;
+                for _ in 0..9 {
+                    self.call(Call::Step { agent, wish: 255 })?;
+                }
+            }
+        }
+        Ok(())
+    }
+
     /// Every mixture of faults in a record; every single-byte change and every truncation of the small files, down to length 0; of the
     /// longest file truncations and some changes at every `thinned`th byte, and after it a file of length 0, which takes its place.
     pub fn changed_files(&mut self, thinned: usize) -> Outcome {
@@ -169,7 +194,7 @@ impl Session {
         Ok(())
     }
 
-    /// A random order on a random cell, with touch calls and listings into small buffers among the steps.
+    /// A random order on a random cell, with touch calls, listings into small buffers and listings under other numbers among the steps.
     fn order(&mut self, random: &mut Random) -> Outcome {
         self.start(files::good(random))?;
         let mut order = Order::new(random);
@@ -184,7 +209,11 @@ impl Session {
             if after_rest > 6 {
                 break;
             }
-            let call = if random.percent(3) { room(random, cell) } else { order.next(random, cell) };
+            let call = match random.below(100) {
+                0..=2 => room(random, cell),
+                3..=5 => Call::Renumber { seed: random.below(1_000_000) as u64 },
+                _ => order.next(random, cell),
+            };
             self.call(call)?;
         }
         Ok(())
@@ -242,12 +271,13 @@ impl Session {
 /// A listing into a buffer that is about as long as the listing.
 fn room(random: &mut Random, cell: &model::Cell) -> Call {
     let length = model::listing(cell).len();
-    let room = match random.below(6) {
+    let room = match random.below(7) {
         0 => length - 1,
         1 => length,
         2 => length + 1,
         3 => 0,
         4 => random.below(length + 1),
+        5 => LONGEST - 1 + random.below(3),
         _ => length + random.below(20),
     };
     Call::List { room }

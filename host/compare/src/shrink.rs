@@ -111,6 +111,7 @@ fn weight(calls: &[Call]) -> (usize, usize, usize) {
         Call::Step { agent, wish } => *agent as usize + if *wish == 255 { 0 } else { 256 + *wish as usize },
         Call::Touch { place, number } => *place as usize + *number as usize,
         Call::List { room } => *room,
+        Call::Renumber { seed } => *seed as usize,
         Call::Write { byte, .. } => *byte as usize,
     };
     (calls.len(), bytes, calls.iter().map(numbers).sum())
@@ -244,6 +245,7 @@ fn edited(calls: &[Call], edit: Edit) -> Option<Vec<Call>> {
             Call::Step { wish, .. } => *wish = 255,
             Call::Touch { number, .. } => *number /= 2,
             Call::List { room } => *room /= 2,
+            Call::Renumber { seed } => *seed /= 2,
             Call::Write { byte, .. } => *byte /= 2,
             Call::Load(file) => drop(file.pop()),
         },

@@ -2,6 +2,7 @@
 
 use crate::bench;
 use crate::files;
+use crate::layouts;
 use crate::random::Random;
 use std::fs;
 use std::path::{Path, PathBuf};
@@ -31,7 +32,7 @@ pub fn walks(program: &Path, seed: u64, count: usize) -> Result<usize, String> {
     outcome
 }
 
-/// Document 01's cases, absent, empty and overlong files, and random ones.
+/// Document 01's cases, absent, empty and overlong files, full cells, and random ones.
 fn cases(seed: u64, count: usize) -> Vec<Case> {
     let mut random = Random::new(seed);
     let order = |agents: &[u8]| agents.iter().flat_map(|&agent| [agent, 255]).collect::<Vec<u8>>();
@@ -53,6 +54,9 @@ fn cases(seed: u64, count: usize) -> Vec<Case> {
         order: None,
     });
     cases.push(Case { cell: Some(longest), order: Some((0..40_001).map(|_| random.byte() % 64).collect()) });
+    for cell in layouts::full_cells() {
+        cases.push(Case { cell: Some(cell), order: Some((0..300).map(|_| random.byte() % 64).collect()) });
+    }
     for _ in 0..count {
         let cell = if random.percent(80) { files::good(&mut random) } else { files::nearly_good(&mut random) };
         let length = random.pick(&[10, 100, 1_000]);

@@ -4,6 +4,7 @@
 //! slow where slow is simpler, and shares nothing with the library. The sentence that a function stands for is quoted above it; one of
 //! document 02 is named there with its request.
 
+mod alike;
 mod calculus;
 mod cell;
 mod children;
@@ -18,6 +19,7 @@ mod term;
 mod touch;
 mod walk;
 
+pub use alike::alike;
 pub use calculus::{make, permitted, Ambient, Move, Tree};
 pub use cell::{Action, Agent, Cell, Keys, Kind, Place, Places, Stands};
 pub use children::Children;

@@ -12,21 +12,25 @@ pub fn listing(cell: &Cell) -> String {
     }
 }
 
-/// "Contents are the agents with unused actions by number, then places by number, joined by ` | `." "A place on its way stands in its
-/// destination."
+/// Document 02, W7: "Within contents, agents come first, then places, each group in byte order of its own text, a shorter text before any that
+/// continues it"; "joined by ` | `". Of agents, "the agents with unused actions". "A place on its way stands in its destination." Strings are
+/// compared byte by byte, and a string comes before any that continues it.
 fn contents(cell: &Cell, number: u8) -> String {
-    let mut parts = Vec::new();
+    let mut agents = Vec::new();
     for agent in cell.agents.values() {
         if agent.home == number && !agent.unused.is_empty() {
-            parts.push(actions(agent));
+            agents.push(actions(agent));
         }
     }
+    let mut places = Vec::new();
     for (&inner, place) in &cell.places {
         if place.around() == Some(number) {
-            parts.push(format!("{}[{}]", name(place), contents(cell, inner)));
+            places.push(format!("{}[{}]", name(place), contents(cell, inner)));
         }
     }
-    parts.join(" | ")
+    agents.sort();
+    places.sort();
+    [agents, places].concat().join(" | ")
 }
 
 /// Document 02, W6: "A place whose keys all equal its name is listed as before; any other as name and the three keys, a slash before each,

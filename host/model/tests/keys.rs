@@ -80,9 +80,9 @@ fn the_key_of_its_kind_decides() {
         assert_eq!(alone(&format!("open {number} | 9/5/6/8[]"), 0).0, word, "open {number}");
     }
     // the agent's own place plays no part: its keys are 0
-    assert_eq!(alone("9[] | 7/0/0/0[enter 9.exit 9]", 0), (done, "9[] | 7/0/0/0[]".to_string()));
+    assert_eq!(alone("9[] | 7/0/0/0[enter 9.exit 9]", 0), (done, "7/0/0/0[] | 9[]".to_string()));
     // a place goes out of one whose key for entering is 0, and cannot go back
-    assert_eq!(alone("9/0/9/0[7[exit 9.enter 9]]", 0), (slept, "9/0/9/0[] | 7[enter 9]".to_string()));
+    assert_eq!(alone("9/0/9/0[7[exit 9.enter 9]]", 0), (slept, "7[enter 9] | 9/0/9/0[]".to_string()));
     // the same numbers under another name
     assert_eq!(alone("1/9/9/9[] | 7[enter 9.exit 9]", 0), (done, "1/9/9/9[] | 7[]".to_string()));
     assert_eq!(alone("open 65535 | 1/0/0/65535[8/0/0/0[]]", 0), (done, "8/0/0/0[]".to_string()));
@@ -115,17 +115,17 @@ fn first_served_among_those_whose_key_fits() {
     };
     assert_eq!([255, 1, 2, 3, 4, 0].map(chosen), [2, 2, 2, 3, 2, 2].map(Some));
     assert_eq!(permitted(&Tree::of(&loaded())).iter().map(|made| made.with).collect::<Vec<u8>>(), [2, 3]);
-    assert_eq!(alone("7/1/7/7[] | 9/7/0/0[] | 7[] | 8[enter 7]", 0).1, "7/1/7/7[] | 9/7/0/0[8[]] | 7[]");
+    assert_eq!(alone("7/1/7/7[] | 9/7/0/0[] | 7[] | 8[enter 7]", 0).1, "7/1/7/7[] | 7[] | 9/7/0/0[8[]]");
 }
 
 #[test]
 fn listed_with_keys_where_one_is_not_the_name() {
-    for term in ["7[]", "7/8/7/7[]", "7/7/8/7[]", "7/7/7/8[]", "7/0/0/0[]", "7/7/7/0[]", "65535/300/256/0[7[open 1] | 1/2/3/4[]]"] {
+    for term in ["7[]", "7/8/7/7[]", "7/7/8/7[]", "7/7/7/8[]", "7/0/0/0[]", "7/7/7/0[]", "65535/300/256/0[1/2/3/4[] | 7[open 1]]"] {
         assert_eq!(listing(&cell(term)), term);
     }
     assert_eq!(listing(&cell("7/7/7/7[8/8/8/8[]]")), "7[8[]]");
     // keys are neither taken away nor changed by moves, and those that an opening frees keep theirs
-    assert_eq!(alone("open 6 | 5/4/3/6[9/1/2/3[] | 8[]]", 0).1, "9/1/2/3[] | 8[]");
+    assert_eq!(alone("open 6 | 5/4/3/6[9/1/2/3[] | 8[]]", 0).1, "8[] | 9/1/2/3[]");
     assert_eq!(alone("5/0/0/0[enter 9] | 9[]", 0).1, "9[5/0/0/0[]]");
 }
 

@@ -127,7 +127,7 @@ fn moves_of_one_agent() {
     let (words, cell) = alone("9[exit 9]");
     assert_eq!((words, listing(&cell)), (vec![Looked, Took, Slept], "9[exit 9]".to_string()));
     let (words, cell) = alone("9[7[exit 9]]");
-    assert_eq!((words, listing(&cell)), (vec![Looked, Took, Took, Left, Took, Took, Came], "9[] | 7[]".to_string()));
+    assert_eq!((words, listing(&cell)), (vec![Looked, Took, Took, Left, Took, Took, Came], "7[] | 9[]".to_string()));
     let (words, cell) = alone("open 7 | 7[8[]]");
     assert_eq!((words, listing(&cell)), (vec![Looked, Took, Took, Opened], "8[]".to_string()));
 }

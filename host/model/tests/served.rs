@@ -81,11 +81,11 @@ fn a_tray_that_left_and_came_back_is_the_latest() {
     run(&mut cell, &mut plain, &[2; 14]);
     assert_eq!(
         (listing(&cell).as_str(), cell.children.under(0)),
-        ("30[enter 50] | 50[] | 50[] | 20[] | 31[enter 50]", &[1, 3, 4, 5, 2][..])
+        ("20[] | 30[enter 50] | 31[enter 50] | 50[] | 50[]", &[1, 3, 4, 5, 2][..])
     );
     run(&mut cell, &mut plain, &[0; 7]);
-    assert_eq!(listing(&cell), "50[] | 50[30[]] | 20[] | 31[enter 50]");
-    assert_eq!(cell.children.under(0), [3, 4, 5, 2]);
+    assert_eq!(listing(&cell), "20[] | 31[enter 50] | 50[30[]] | 50[]");
+    assert_eq!((cell.children.under(0), cell.places[&1].linked_to()), (&[3, 4, 5, 2][..], Some(3)));
 }
 
 #[test]

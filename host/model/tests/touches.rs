@@ -96,7 +96,7 @@ fn an_opening_pools_and_moves_carry() {
     for _ in 0..7 {
         step(&mut cell, 1, 255).unwrap();
     }
-    assert_eq!((listing(&cell), counts(&cell)), ("20[open 50 | 50[] | 30[]]".to_string(), vec![(0, 7), (1, 0), (2, 40), (3, 1_200)]));
+    assert_eq!((listing(&cell), counts(&cell)), ("20[open 50 | 30[] | 50[]]".to_string(), vec![(0, 7), (1, 0), (2, 40), (3, 1_200)]));
     assert_eq!(touch(&mut cell, 3, 300), Ok(1_500));
     for _ in 0..4 {
         step(&mut cell, 0, 255).unwrap();

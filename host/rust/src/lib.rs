@@ -43,6 +43,14 @@
 //! assert_eq!(&text[..length], b"open 20 | 20/20/20/0[40[]]");
 //! assert_eq!(cell.lent().places[1].name.opening, 0);
 //!
+//! // One layout, one listing: two hosts that number the same carriers differently list them with the same bytes.
+//! let one = Cell::load(&[1, 1, 0, 40, 0, 1, 2, 0, 20, 0, 1, 3, 2, 30, 0, 4])?;
+//! let other = Cell::load(&[1, 7, 0, 20, 0, 1, 5, 7, 30, 0, 1, 2, 0, 40, 0, 4])?;
+//! let (length, mut line) = (one.list(&mut text)?, [0; keeper::LISTING_LONGEST]);
+//! assert_eq!(&text[..length], b"20[30[]] | 40[]");
+//! assert_eq!(other.list(&mut line)?, length);
+//! assert_eq!(text[..length], line[..length]);
+//!
 //! // A file of length 0 is a bare floor: a line with nothing on it yet.
 //! let cell = Cell::load(&[])?;
 //! let length = cell.list(&mut text)?;
@@ -73,7 +81,7 @@ use lent::Lent;
 
 /// The version of the library that this crate was made for: the major number from bit 16 on, the minor one in bits 8 to 15, the patch in
 /// bits 0 to 7.
-pub const VERSION: u64 = 262_144;
+pub const VERSION: u64 = 327_680;
 
 /// The longest cell file that can be accepted.
 pub const FILE_LONGEST: usize = 6_390;
@@ -153,6 +161,12 @@ impl Cell {
     /// Writes the listing, in ASCII, to the start of the text and answers its length; bytes past it are as they were. A place whose three keys
     /// are its name is written as `7[]`, any other with its keys for entering, exiting and opening after the name, as `7/8/9/0[]`.
     ///
+    /// One layout has one listing. Of what a place holds, the agents come first and then the places, each of the two in byte order of their
+    /// texts, as `[u8]` is ordered: `70[] | 7[]`, `7[] | 7[enter 7]`. Numbers and the order in which places came play no part, so two cells hold
+    /// the same layout exactly if their listings are equal (proved: crate `demands`, `same-listings`): the same places with the same names and
+    /// keys in each other, and the same agents with unused actions in them. Locks, stages, touch counts, who came first, and whether a place is
+    /// still on its way are not in it.
+    ///
     /// # Errors
     ///
     /// Refused with 10 where the table is unsound, else with 12 where the listing is longer than the text; the whole text is then as it was.
@@ -162,7 +176,7 @@ impl Cell {
         Ok((answer >> 8) as usize)
     }
 
-    /// The listing as a string.
+    /// The listing as a string; two of them are equal exactly if the layouts are the same, as [`Cell::list`] says.
     ///
     /// # Errors
     ///

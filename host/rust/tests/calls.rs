@@ -211,13 +211,13 @@ fn first_in_first_served() {
     assert_eq!(row(&start), [0, 1, 4, 3, 2, 7, 5]);
     assert_eq!(start.lent().order[63], 5);
     assert_eq!(Cell::bare().lent().order, std::array::from_fn(|place| place as u8));
-    let listed = |rest: &str| format!("{rest} | 50[enter 20.exit 20 | 30[]]");
-    assert_eq!(run(&[(0, 7)], 255), (vec![0, 4, 3, 2, 7, 5, 1], listed("open 20 | 20[61[] | 60[]] | 50[]")));
-    let younger = "open 20 | 20[61[] | 60[]] | 50[30[]] | 50[enter 20.exit 20]".to_string();
+    let elder = "open 20 | 20[60[] | 61[]] | 50[] | 50[enter 20.exit 20 | 30[]]".to_string();
+    assert_eq!(run(&[(0, 7)], 255), (vec![0, 4, 3, 2, 7, 5, 1], elder));
+    let younger = "open 20 | 20[60[] | 61[]] | 50[30[]] | 50[enter 20.exit 20]".to_string();
     assert_eq!(run(&[(0, 7)], 3), (vec![0, 4, 3, 2, 7, 5, 1], younger));
-    let came_back = "open 20 | 20[61[] | 60[]] | 50[30[]] | 50[]".to_string();
+    let came_back = "open 20 | 20[60[] | 61[]] | 50[30[]] | 50[]".to_string();
     assert_eq!(run(&[(1, 14), (0, 7)], 255), (vec![0, 3, 2, 7, 5, 4, 1], came_back));
-    let freed = "30[enter 50] | 50[] | 50[enter 20.exit 20] | 61[] | 60[]".to_string();
+    let freed = "30[enter 50] | 50[] | 50[enter 20.exit 20] | 60[] | 61[]".to_string();
     assert_eq!(run(&[(2, 4)], 255), (vec![0, 1, 4, 3, 7, 5], freed));
 }
 

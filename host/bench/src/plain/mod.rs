@@ -1,14 +1,14 @@
 //! The plain peer: a Rust keeper with the same tests at every call and the same answers, as one writes it first.
 //!
-//! The cell is changed in place. Every pass goes over all 64 numbers and asks of each whether it is in use. Loading and listing are the
-//! tuned peer's.
+//! The cell is changed in place. Every pass goes over all 64 numbers and asks of each whether it is in use. Loading is the tuned peer's.
 
+mod list;
 mod sound;
 mod step;
 
 use crate::cell::{has, Cell};
 use crate::keeper::Keeper;
-use crate::tuned::{Tuned, NOT_GIVEN, NO_SUCH_AGENT, TOO_LARGE, TOO_MANY, UNSOUND};
+use crate::tuned::{Tuned, NOT_GIVEN, NO_SUCH_AGENT, TOO_LARGE, TOO_LONG, TOO_MANY, UNSOUND};
 use sound::{few_touches, sound};
 
 /// The plain Rust keeper.
@@ -35,8 +35,19 @@ impl Keeper for Plain {
         woken << 16 | word << 8
     }
 
+    #[inline(never)]
     fn list(cell: &Cell, text: &mut [u8]) -> u64 {
-        Tuned::list(cell, text)
+        if !sound(cell) {
+            return UNSOUND;
+        }
+        let listing = list::listing(cell);
+        match text.get_mut(..listing.len()) {
+            Some(text) => {
+                text.copy_from_slice(listing.as_bytes());
+                (listing.len() as u64) << 8
+            }
+            None => TOO_LONG,
+        }
     }
 
     #[inline(never)]

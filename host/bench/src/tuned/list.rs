@@ -1,19 +1,34 @@
-//! The listing of a sound table: its length first, then its bytes.
+//! The listing of a sound table. The parts of a place are written where they go, in the order of their numbers; then those that stand in another
+//! order than that of their texts are copied aside and back.
 
-use crate::cell::{members, Agent, Cell, Name};
+use crate::cell::{members, Action, Agent, Cell, Name, LISTING_LONGEST};
 
 /// Writes the listing and answers its length; nothing is written where it does not fit.
 pub fn list(cell: &Cell, text: &mut [u8]) -> Option<usize> {
-    let contents = Contents::of(cell);
-    let length = contents.length(cell);
-    let text = text.get_mut(..length)?;
-    let mut writer = Writer { text, at: 0 };
-    if contents.is_empty(0) {
-        writer.bytes(b"0");
-    } else {
-        contents.write(cell, 0, &mut writer);
+    match text.first_chunk_mut() {
+        Some(text) => Some(write(cell, text)),
+        None => list_short(cell, text),
     }
+}
+
+/// The same for a text that is shorter than some listings: by way of a page.
+#[inline(never)]
+fn list_short(cell: &Cell, text: &mut [u8]) -> Option<usize> {
+    let mut page = [0; LISTING_LONGEST];
+    let length = write(cell, &mut page);
+    text.get_mut(..length)?.copy_from_slice(&page[..length]);
     Some(length)
+}
+
+/// Writes the listing to a text in which every listing has room, and answers its length.
+fn write(cell: &Cell, text: &mut [u8; LISTING_LONGEST]) -> usize {
+    let contents = Contents::of(cell);
+    let mut writer = Writer { text, at: 0, parts: [Part { start: 0, end: 0 }; PARTS], count: 0, aside: Vec::new() };
+    contents.write(cell, 0, &mut writer);
+    if writer.at == 0 {
+        writer.bytes(b"0");
+    }
+    writer.at
 }
 
 /// For each place, the agents with unused actions that live in it and the places that stand in it.
@@ -22,7 +37,7 @@ struct Contents {
     places: [u64; 64],
 }
 
-fn unused(agent: &Agent) -> &[crate::cell::Action] {
+fn unused(agent: &Agent) -> &[Action] {
     &agent.actions[agent.next as usize..agent.count as usize]
 }
 
@@ -41,103 +56,87 @@ impl Contents {
         contents
     }
 
-    fn is_empty(&self, q: u8) -> bool {
-        self.agents[q as usize] | self.places[q as usize] == 0
-    }
-
-    /// The length of the listing: what each place and each agent writes, and a bar before each part but the first of its place.
-    fn length(&self, cell: &Cell) -> usize {
-        if self.is_empty(0) {
-            return 1;
-        }
-        let names: usize = members(cell.used & !1).map(|q| name_length(&cell.places[q as usize].name) + 2).sum();
-        let rows: usize = members(cell.given).map(|x| row_length(&cell.agents[x as usize])).sum();
-        let parts: u32 = self.agents.iter().chain(&self.places).map(|set| set.count_ones()).sum();
-        let filled = members(cell.used).filter(|&q| !self.is_empty(q)).count();
-        names + rows + 3 * (parts as usize - filled)
-    }
-
-    /// Writes what is in place p: agents, then places, joined by bars.
+    /// Writes what is in place p: agents, then places, joined by bars, each of the two groups in the order of its texts.
     fn write(&self, cell: &Cell, p: u8, writer: &mut Writer) {
-        let mut first = true;
+        let start = writer.at;
+        let group = writer.count;
         for x in members(self.agents[p as usize]) {
-            if !std::mem::take(&mut first) {
-                writer.bytes(b" | ");
-            }
+            let part = writer.begin(start);
             writer.row(&cell.agents[x as usize]);
+            writer.end(part);
         }
+        writer.sort(group);
         for q in members(self.places[p as usize]) {
-            if !std::mem::take(&mut first) {
-                writer.bytes(b" | ");
-            }
+            let part = writer.begin(start);
             writer.name(&cell.places[q as usize].name);
             writer.bytes(b"[");
             self.write(cell, q, writer);
             writer.bytes(b"]");
+            writer.end(part);
         }
+        writer.sort(group);
     }
 }
 
-/// How many digits a number has in decimal.
-fn digits(number: u16) -> usize {
-    match number {
-        0..=9 => 1,
-        10..=99 => 2,
-        100..=999 => 3,
-        1000..=9999 => 4,
-        _ => 5,
+/// How many parts there are at most: 63 places and 64 agents.
+const PARTS: usize = 127;
+
+/// Where a part's text starts, and where it ends.
+#[derive(Clone, Copy)]
+struct Part {
+    start: u16,
+    end: u16,
+}
+
+impl Part {
+    fn of<'a>(&self, text: &'a [u8]) -> &'a [u8] {
+        &text[self.start as usize..self.end as usize]
     }
 }
 
-/// Whether a name's keys all equal it, so that it is listed without them.
-fn is_plain(name: &Name) -> bool {
-    *name == Name::plain(name.name)
-}
-
-/// The length of a name and, where they are listed, its keys.
-fn name_length(name: &Name) -> usize {
-    let keys = if is_plain(name) { 0 } else { 3 + digits(name.entering) + digits(name.exiting) + digits(name.opening) };
-    digits(name.name) + keys
-}
-
-fn kind_text(kind: u8) -> &'static [u8] {
-    match kind {
-        1 => b"enter ",
-        2 => b"exit ",
-        _ => b"open ",
-    }
-}
-
-/// The length of an agent's unused actions joined by full stops.
-fn row_length(agent: &Agent) -> usize {
-    let row: usize = unused(agent).iter().map(|action| kind_text(action.kind).len() + digits(action.name) + 1).sum();
-    row.saturating_sub(1)
-}
-
-/// A text that is filled from its start on.
+/// A text that is filled from its start on; the parts of the groups that are being written, those of the innermost last; and room for the
+/// text of parts that are put in order.
 struct Writer<'a> {
-    text: &'a mut [u8],
+    text: &'a mut [u8; LISTING_LONGEST],
     at: usize,
+    parts: [Part; PARTS],
+    count: usize,
+    aside: Vec<u8>,
 }
+
+/// The two digits of each number below 100.
+const PAIRS: [[u8; 2]; 100] = {
+    let mut pairs = [[0; 2]; 100];
+    let mut number = 0;
+    while number < 100 {
+        pairs[number] = [b'0' + number as u8 / 10, b'0' + number as u8 % 10];
+        number += 1;
+    }
+    pairs
+};
 
 impl Writer<'_> {
-    fn bytes(&mut self, bytes: &[u8]) {
-        self.text[self.at..self.at + bytes.len()].copy_from_slice(bytes);
-        self.at += bytes.len();
+    fn bytes<const N: usize>(&mut self, bytes: &[u8; N]) {
+        self.text[self.at..self.at + N].copy_from_slice(bytes);
+        self.at += N;
     }
 
-    fn number(&mut self, mut number: u16) {
-        let length = digits(number);
-        for digit in self.text[self.at..self.at + length].iter_mut().rev() {
-            *digit = b'0' + (number % 10) as u8;
-            number /= 10;
+    fn number(&mut self, number: u16) {
+        let (high, [c, d]) = (number / 100, PAIRS[number as usize % 100]);
+        let [a, b] = PAIRS[high as usize % 100];
+        match number {
+            0..=9 => self.bytes(&[d]),
+            10..=99 => self.bytes(&[c, d]),
+            100..=999 => self.bytes(&[b, c, d]),
+            1000..=9999 => self.bytes(&[a, b, c, d]),
+            _ => self.bytes(&[b'0' + (high / 100) as u8, a, b, c, d]),
         }
-        self.at += length;
     }
 
+    /// A name and, where they do not all equal it, its keys.
     fn name(&mut self, name: &Name) {
         self.number(name.name);
-        if !is_plain(name) {
+        if *name != Name::plain(name.name) {
             for key in [name.entering, name.exiting, name.opening] {
                 self.bytes(b"/");
                 self.number(key);
@@ -145,6 +144,7 @@ impl Writer<'_> {
         }
     }
 
+    /// An agent's unused actions, joined by full stops.
     fn row(&mut self, agent: &Agent) {
         for (i, action) in unused(agent).iter().enumerate() {
             if i > 0 {
@@ -156,6 +156,43 @@ impl Writer<'_> {
                 _ => self.bytes(b"open "),
             }
             self.number(action.name);
+        }
+    }
+
+    /// A part begins, after a bar unless it is the first of a place whose contents start there; answers where.
+    fn begin(&mut self, start: usize) -> usize {
+        if self.at > start {
+            self.bytes(b" | ");
+        }
+        self.at
+    }
+
+    /// The part that began there is written.
+    fn end(&mut self, start: usize) {
+        self.parts[self.count] = Part { start: start as u16, end: self.at as u16 };
+        self.count += 1;
+    }
+
+    /// Puts the parts from this one on, which stand at the end of the text, in the order of their texts, and is done with them.
+    fn sort(&mut self, group: usize) {
+        let parts = &mut self.parts[group..self.count];
+        self.count = group;
+        if parts.is_sorted_by(|one, other| one.of(self.text) <= other.of(self.text)) {
+            return;
+        }
+        let from = parts[0].start as usize;
+        parts.sort_unstable_by(|one, other| one.of(self.text).cmp(other.of(self.text)));
+        self.aside.clear();
+        self.aside.extend_from_slice(&self.text[from..self.at]);
+        self.at = from;
+        for part in parts {
+            if self.at > from {
+                self.text[self.at..self.at + 3].copy_from_slice(b" | ");
+                self.at += 3;
+            }
+            let text = &self.aside[part.start as usize - from..part.end as usize - from];
+            self.text[self.at..self.at + text.len()].copy_from_slice(text);
+            self.at += text.len();
         }
     }
 }

@@ -21,7 +21,7 @@ pub const UNSOUND: u64 = 10;
 /// Refusal: no such agent.
 pub const NO_SUCH_AGENT: u64 = 11;
 /// Refusal: listing longer than the buffer.
-const TOO_LONG: u64 = 12;
+pub const TOO_LONG: u64 = 12;
 /// Refusal: too many touches.
 pub const TOO_MANY: u64 = 15;
 
