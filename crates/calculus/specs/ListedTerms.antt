@@ -48,7 +48,7 @@ record PlaceText (x : Text) : Type 0 where
   digit : lead x ≤ 57
 
 -- every text of a term's parts is one of these
-record Legible (p : Texts) : Type 0 where
+pub record Legible (p : Texts) : Type 0 where
   agents : Every AgentText (p .agents)
   places : Every PlaceText (p .places)
 
@@ -57,7 +57,7 @@ legible-whole : {p : Texts} → Legible p → Every Whole (sorted (p .agents) ++
 legible-whole t = every-append (every-so (λ x a. a .whole) (every-sorted (t .agents))) (every-so (λ x a. a .whole) (every-sorted (t .places)))
 
 -- so the listing joins them by bars
-legible-write : {p : Texts} → Legible p → write p ≡ beside (sorted (p .agents) ++ sorted (p .places))
+pub legible-write : {p : Texts} → Legible p → write p ≡ beside (sorted (p .agents) ++ sorted (p .places))
 unfolding write inOrder
 legible-write t = joined-beside (legible-whole t)
 
@@ -72,7 +72,7 @@ row-legible every-none = every-none
 row-legible (every-more f e) = every-more (record { whole = row-whole (every-more f e); letter = row-lead (every-more f e) }) every-none
 
 -- the texts of such a term are so
-legible : {P : Term} → Proper P → Legible (texts P)
+pub legible : {P : Term} → Proper P → Legible (texts P)
 unfolding texts
 legible (proper-amb {n} {P} s p) = record {
   agents = every-none;

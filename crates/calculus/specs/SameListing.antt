@@ -40,7 +40,7 @@ parallel-proper f (suc n) h = proper-par (h n) (parallel-proper f n h)
 
 module _ (t : Tree) (w : Formed t) (s : Numbers16 t) where
   -- its rows
-  fine-rows : (x : ℕ) → Every Fine (t .unused x)
+  pub fine-rows : (x : ℕ) → Every Fine (t .unused x)
   fine-rows x = good-fine (w .good x) (s .actions x)
 
   -- what a place holds

@@ -41,7 +41,7 @@ partText (exit n P) = prefixed (record { kind = exitKind; name = n }) (written P
 partText («open» n P) = prefixed (record { kind = openKind; name = n }) (written P)
 
 -- the texts of two lists of parts
-map-append : (l m : List Term) → map partText (l ++ m) ≡ map partText l ++ map partText m
+pub map-append : (l m : List Term) → map partText (l ++ m) ≡ map partText l ++ map partText m
 map-append [] m = refl
 map-append (P ∷ l) m = ap (λ z. partText P ∷ z) (map-append l m)
 
@@ -73,7 +73,7 @@ gather [] = nil
 gather (P ∷ rest) = P ∣ gather rest
 
 -- of two lists, one beside the other
-gather-append : (l m : List Term) → gather (l ++ m) ≅ gather l ∣ gather m
+pub gather-append : (l m : List Term) → gather (l ++ m) ≅ gather l ∣ gather m
 unfolding gather
 gather-append [] m = struct-symm zero-par
 gather-append (P ∷ l) m = struct-par-right (gather-append l m) ⨾ struct-symm struct-par-assoc

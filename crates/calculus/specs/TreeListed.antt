@@ -32,17 +32,17 @@ use Rattle.calculus.specs.RowTerms.{rowTexts, row-texts}
 -- ---- the text of a row
 
 -- an action has a text
-action-some : (x : Action) → actionText x ≢ []
+pub action-some : (x : Action) → actionText x ≢ []
 unfolding actionText
 action-some x = append-ne-nil-of-right-ne-nil (kindText (x .kind)) (decimal-some (x .name))
 
 -- a text that begins with one that is not empty is not
-left-some : (x y : Text) → x ≢ [] → x ++ y ≢ []
+pub left-some : (x y : Text) → x ≢ [] → x ++ y ≢ []
 left-some [] y d = absurd (d refl)
 left-some (c ∷ x) y d = cons≢nil
 
 -- and a full stop comes before it
-after-some : (x : Text) → x ≢ [] → after x ≡ ascii "." ++ x
+pub after-some : (x : Text) → x ≢ [] → after x ≡ ascii "." ++ x
 unfolding after tab
 after-some [] d = absurd (d refl)
 after-some (c ∷ x) d = refl

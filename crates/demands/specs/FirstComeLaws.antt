@@ -42,7 +42,7 @@ use Rattle.demands.specs.LoadingLaws.{fresh-forth}
 use Rattle.demands.specs.LoadingOrder.{accepted-logged}
 use Rattle.demands.specs.Arrivals.{Logged, run-logged}
 use Rattle.demands.specs.ArrivalLaws.{arrival-came, row-first}
-use Rattle.demands.specs.FirstCome.{placesIn, lastArrival, logAfter, fitsIn, TakesUnwished, chosenBy, FirstCome}
+use Rattle.demands.specs.FirstCome.{placesIn, arrivals, lastArrival, logAfter, fitsIn, TakesUnwished, chosenBy, FirstCome}
 
 -- ---- a took at stage 2
 
@@ -143,24 +143,32 @@ module _ (t : Cell) (z : Sized t) (i : Inv (cellOf t)) (x wish : ℕ) (u : Takes
         (subst (λ (row : List ℕ). positionOf q row < positionOf r row) (m .row) (before r (fits-small r f) f (λ y. n (y ∙ sym h)))));
   }
 
+-- ---- over every fresh cell whose places came as a log says, and every list of calls
+
+module _ (c : State) (f : Fresh c) (log : List ℕ) (m : Logged (c .land) log) (calls : List Call) where
+  -- the row after the calls is that of the log after them
+  pub fresh-logged : Logged (cellOf (reached c calls) .land) (arrivals (tableOf c) log calls)
+  fresh-logged = run-logged calls (tableOf c) (sized-table c) (start-inv c f calls) log
+      (subst (λ (d : State). Logged (d .land) log) (sym (fresh-forth c f)) m)
+
+  -- a took at stage 2 of enter or open without a fitting wish chooses the qualifying place that came first
+  pub fresh-first : (x wish : ℕ) → TakesUnwished (reached c calls) x wish → FirstCome (reached c calls) (arrivals (tableOf c) log calls) x wish
+  fresh-first x wish u = first-chosen (reached c calls) z i x wish u fresh-logged
+      (choice-first _ _ _ _ _ wish) (taken (reached c calls) z i x wish u .0) (chosen-is (reached c calls) z i x wish u)
+    where
+      z : Sized (reached c calls)
+      z = reached-sized c f calls
+
+      i : Inv (cellOf (reached c calls))
+      i = reached-inv c f calls
+
 -- ---- over every accepted file and every list of calls
 
 module _ (s : List ℕ) (c : State) (e : load s ≡ accepted c) (calls : List Call) where
   -- the row after the calls is that of the log
   pub reached-logged : Logged (cellOf (reached c calls) .land) (logAfter s c calls)
-  reached-logged = run-logged calls (tableOf c) (sized-table c) (start-inv c f calls) (placesIn s)
-      (subst (λ (d : State). Logged (d .land) (placesIn s)) (sym (fresh-forth c f)) (accepted-logged s c e))
-    where
-      f : Fresh c
-      f = accepted-fresh s c e
+  reached-logged = fresh-logged c (accepted-fresh s c e) (placesIn s) (accepted-logged s c e) calls
 
   -- a took at stage 2 of enter or open without a fitting wish chooses the qualifying place that came first
   pub first-come : (x wish : ℕ) → TakesUnwished (reached c calls) x wish → FirstCome (reached c calls) (logAfter s c calls) x wish
-  first-come x wish u = first-chosen (reached c calls) z i x wish u reached-logged
-      (choice-first _ _ _ _ _ wish) (taken (reached c calls) z i x wish u .0) (chosen-is (reached c calls) z i x wish u)
-    where
-      z : Sized (reached c calls)
-      z = reached-sized c (accepted-fresh s c e) calls
-
-      i : Inv (cellOf (reached c calls))
-      i = reached-inv c (accepted-fresh s c e) calls
+  first-come = fresh-first c (accepted-fresh s c e) (placesIn s) (accepted-logged s c e) calls

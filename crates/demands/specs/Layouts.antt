@@ -100,7 +100,7 @@ module _ (a : Agent) where
 
 module _ (c : State) where
   -- an agent is listed where the tree has its row,
-  agent-both : (p x : ℕ) → listsIn (c .given x) (c .agent x) p ≡ actsIn (treeOf c) x p
+  pub agent-both : (p x : ℕ) → listsIn (c .given x) (c .agent x) p ≡ actsIn (treeOf c) x p
   unfolding listsIn actsIn treeOf
   agent-both p x = go (told (c .given x))
     where
@@ -120,7 +120,7 @@ module _ (c : State) where
       (λ x. rowText [] (treeOf c .unused x)) (agent-both p) (agent-same p) 64
 
   -- a place is listed where the tree has it,
-  place-both : (p q : ℕ) → standsUnder (c .land .used q) q (c .land .place q .parent) p ≡ standsUnder (treeOf c .used q) q (treeOf c .parent q) p
+  pub place-both : (p q : ℕ) → standsUnder (c .land .used q) q (c .land .place q .parent) p ≡ standsUnder (treeOf c .used q) q (treeOf c .parent q) p
   unfolding standsUnder treeOf
   place-both p q = go (told (c .land .used q))
     where

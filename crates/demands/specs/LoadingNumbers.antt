@@ -90,7 +90,7 @@ set16 (x ∷ l) (suc i) v a h (suc j) = set16 l i v a (λ k. h (suc k)) j
 
 module _ (c : State) (n : Cell16 c) where
   -- a place record
-  place16 : (number parent : ℕ) (name : Name) → Name16 name → Cell16 (addPlace c number parent name)
+  pub place16 : (number parent : ℕ) (name : Name) → Name16 name → Cell16 (addPlace c number parent name)
   unfolding addPlace
   place16 number parent name m = record {
     place = upd-all (c .land .place) number _ (λ q v. Name16 (v .name)) m (λ q _. n .place q);
@@ -103,12 +103,12 @@ module _ (c : State) (n : Cell16 c) where
   agents16 number a h = upd-all (c .agent) number a (λ x v. (j : ℕ) → getD (v .actions) j noAction .name < 65536) h (λ x _. n .action x)
 
   -- an agent record
-  agent16 : (number home : ℕ) → Cell16 (addAgent c number home)
+  pub agent16 : (number home : ℕ) → Cell16 (addAgent c number home)
   unfolding addAgent
   agent16 number home = record { place = n .place; action = agents16 number _ (n .action number) }
 
   -- an action record
-  action16 : (number kind name : ℕ) → name < 65536 → Cell16 (addAction c number kind name)
+  pub action16 : (number kind name : ℕ) → name < 65536 → Cell16 (addAction c number kind name)
   unfolding addAction
   action16 number kind name m = record {
     place = n .place;
@@ -121,7 +121,7 @@ module _ (c : State) (n : Cell16 c) where
   touches16 q many = record { place = n .place; action = n .action }
 
 -- the bare floor has no names and no actions
-bare16 : Cell16 (cellOf bareTable)
+pub bare16 : Cell16 (cellOf bareTable)
 bare16 = record { place = λ q. name q (eq? q 0); action = λ x. actions x (told (ltb x 64)) }
   where
     name : (q : ℕ) → (q ≡ 0) ⊎ (q ≢ 0) → Name16 (cellOf bareTable .land .place q .name)

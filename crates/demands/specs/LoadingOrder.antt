@@ -27,12 +27,12 @@ use Rattle.demands.specs.LoadingRecords.{Stands, a-place, an-agent, an-a
 use Rattle.demands.specs.Arrivals.{Logged}
 
 -- the log so far beside the row, and every place of the log is in use
-record Loading (l : Land) (log : List ℕ) : Type 0 where
-  logged : Logged l log
-  used : (q : ℕ) → occurs q log ≡ true → l .used q ≡ true
+pub record Loading (l : Land) (log : List ℕ) : Type 0 where
+  pub logged : Logged l log
+  pub used : (q : ℕ) → occurs q log ≡ true → l .used q ≡ true
 
 -- the bare floor: nobody has come
-loading-bare : Loading (cellOf bareTable .land) []
+pub loading-bare : Loading (cellOf bareTable .land) []
 unfolding lasts occurs
 loading-bare = record {
   logged = record { row = bare-order ∙ loaded-none; came = λ q u n. absurd (n (eqb-true q 0 (sym (bare-used q) ∙ u))) };
@@ -40,7 +40,7 @@ loading-bare = record {
 }
 
 -- one place more
-loading-place : (c : State) (log : List ℕ) (n parent : ℕ) (name : Name) → n < 64 → c .land .used n ≡ false → Loading (c .land) log
+pub loading-place : (c : State) (log : List ℕ) (n parent : ℕ) (name : Name) → n < 64 → c .land .used n ≡ false → Loading (c .land) log
     → Loading (addPlace c n parent name .land) (log ++ (n ∷ []))
 unfolding addPlace occurs
 loading-place c log n parent name low new m = record {

@@ -29,7 +29,7 @@ use Rattle.demands.specs.AgreesLaws.{tree-formed, history-moves}
 use Rattle.demands.specs.SameListings.{termOf, AlikeExactly, OfBytes}
 
 -- of two sound cells whose numbers have 16 bits
-cells-alike : (c d : State) → Sound c → Numbers16 (treeOf c) → Sound d → Numbers16 (treeOf d) → AlikeExactly c d
+pub cells-alike : (c d : State) → Sound c → Numbers16 (treeOf c) → Sound d → Numbers16 (treeOf d) → AlikeExactly c d
 cells-alike c d i n j m =
     let z = same-listing (treeOf c) (treeOf d) (tree-formed c i) n (tree-formed d j) m in
     (λ e. z .0 (sym (tree-listing c) ∙ e ∙ tree-listing d), λ e. tree-listing c ∙ z .1 e ∙ sym (tree-listing d))
@@ -47,7 +47,7 @@ same-listings t u z n y m e f = cells-alike (cellOf t) (cellOf u)
 
 module _ (s : List ℕ) (c : State) (e : load s ≡ accepted c) (calls : List Call) where
   -- the cell that is reached is sound
-  reached-sound : Sound (cellOf (reached c calls))
+  pub reached-sound : Sound (cellOf (reached c calls))
   reached-sound = reached-inv c (accepted-fresh s c e) calls .sound
 
   -- its tree is the plain tree
@@ -59,7 +59,7 @@ module _ (s : List ℕ) (c : State) (e : load s ≡ accepted c) (calls : List Ca
   reached-term = ap term same-tree
 
   -- the loaded tree has numbers of two bytes, and the moves to the plain tree keep it so
-  reached16 : OfBytes s → Numbers16 (treeOf (cellOf (reached c calls)))
+  pub reached16 : OfBytes s → Numbers16 (treeOf (cellOf (reached c calls)))
   reached16 b = subst Numbers16 same-tree (moves16 (history-moves (demand-three s c e calls .history)) loaded)
     where
       loaded : Numbers16 (plainOf c .tree)

@@ -65,3 +65,13 @@ tooLong = 12
 -- "15, last in a touch call, if that call would make it so": a table whose sum of touches passes 1,000,000,000,000
 abbrev pub tooManyTouches : ℕ
 tooManyTouches = 15
+
+-- ---- of a text (document 02, W8)
+
+-- "16 for text outside the language"
+abbrev pub outsideLanguage : ℕ
+outsideLanguage = 16
+
+-- "17 .. for too many of anything"
+abbrev pub tooMany : ℕ
+tooMany = 17

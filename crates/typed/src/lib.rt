@@ -1,0 +1,1 @@
+// No code: what is proved of texts that are read stands in specs/.
