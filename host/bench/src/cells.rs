@@ -182,6 +182,16 @@ pub fn caterpillar() -> Sketch {
     Sketch { places: (1..64).map(place).collect(), agents: vec![(63, vec![enter(65_535); 16]); 64], touches: vec![] }
 }
 
+/// 63 places of one name without agents, each in the place that this row tells: of the cells that a search tried, the one on which a writer that keeps
+/// no order, and finds it anew wherever it compares, took longest (some 25 ms).
+pub fn found_by_search() -> Sketch {
+    const IN: [u8; 63] = [
+        0, 1, 2, 1, 2, 3, 6, 3, 3, 6, 3, 2, 10, 3, 13, 7, 2, 8, 1, 1, 19, 2, 11, 16, 24, 6, 9, 16, 1, 16, 18, 0, 26, 32, 0, 7, 0, 7, 29,
+        16, 1, 7, 22, 40, 24, 0, 31, 45, 6, 16, 16, 16, 49, 24, 28, 45, 21, 27, 51, 14, 24, 5, 2,
+    ];
+    Sketch { places: IN.iter().map(|&p| (p, 1)).collect(), ..Sketch::default() }
+}
+
 /// A busy order: until all agents are at rest, or so many calls. Nine of ten calls go to an agent that is not at rest.
 pub fn busy(start: &Cell, most: usize) -> Vec<(u8, u8)> {
     let mut random = Random(99);

@@ -167,6 +167,7 @@ pub fn workloads() -> Vec<Workload> {
         of("list, differ late", LIST, list(cells::differ_late())),
         of("list, all differ late", LIST, list(cells::all_differ_late())),
         of("list, caterpillar", LIST, list(cells::caterpillar())),
+        of("list, found by search", LIST, list(cells::found_by_search())),
         of("walk, typical", WALK, whole(cells::typical())),
         of("walk, full", WALK, whole(cells::full())),
         of("a copy of the cell", None, Job::Copy { cell: boxed(&cells::full()) }),
