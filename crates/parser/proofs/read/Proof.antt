@@ -1,0 +1,95 @@
+-- Before each turn the machine is where the bytes so far bring it, and the table is that of the cell so far; one event is written by its law.
+use native.Mathlib.Omega.{arith}
+use borrow.Author.Needs.{needs}
+use mathlib.Core.Path.{refl, _∙_}
+use Prim.Native.Nat.{suc, _-_}
+use lib.ListN.{length}
+use Rattle.parser.specs.ReadLaws.{Rest, rest-start, rest-off, rest-nothing, rest-written, rest-places, rest-end}
+use Rattle.parser.proofs.read.Statement.{statement}
+use Rattle.parser.proofs.read.Tie as tie
+
+abbrev Inv-loop : tie.InvT-loop
+Inv-loop c s b₀ x₀ at₀ d₀ i₀ b x at d i = Rest s i at d b x
+
+abbrev μ-loop : tie.MeasureT-loop
+μ-loop c s b₀ x₀ at₀ d₀ i₀ b x at d i = suc (length s) - i
+
+loop-holds : tie.Need-loop-holds Inv-loop μ-loop
+loop-holds c = rest-start _ _ _ (c .bare .ensures) refl
+
+moved-requires : tie.Need-moved-requires Inv-loop μ-loop
+moved-requires c κs =
+    let l = c .before .loop in
+    omega (arith, l .inv .deep, c .loop-test .taken, c .before .before .before .before .good)
+
+enum-known-m : tie.Need-enum-known-m Inv-loop μ-loop
+enum-known-m c = c .match .keys1
+
+enum-told : tie.Need-enum-told Inv-loop μ-loop
+enum-told c = c .match .keys2
+
+returns : tie.Need-returns Inv-loop μ-loop
+returns c =
+    let m = c .before .before in
+    let l = m .before .before .loop in
+    rest-off _ (l .i) (l .at) (l .d) (l .b) (l .x) (l .inv) (m .before .loop-test .taken) _ (m .moved .ensures) _ (c .enum-told .given .1)
+
+enum-told-2 : tie.Need-enum-told-2 Inv-loop μ-loop
+enum-told-2 c = c .match2 .keys1
+
+loop-again : tie.Need-loop-again Inv-loop μ-loop
+loop-again c =
+    let k = c .before .before .before in
+    let m = k .before .before in
+    let l = m .before .before .loop in
+    rest-nothing _ (l .i) (l .at) (l .d) (l .b) (l .x) (l .inv) (m .before .loop-test .taken) _ (m .moved .ensures) _ _ _ (k .m .given .1)
+    (c .enum-told2 .given .1)
+
+add-at : tie.Need-add-at Inv-loop μ-loop
+add-at c =
+    let m = c .before .before .before .before .before .before .before .before .before .before .before .before .before in
+    let l = m .before .before .loop in
+    omega (arith, rest-places _ (l .i) (l .at) (l .d) (l .b) (l .x) (l .inv))
+
+add-insert-if : tie.Need-add-insert-if Inv-loop μ-loop
+add-insert-if c =
+    let q = c .before .before .before .before .before in
+    let m = q .before .before .before .before .before .before .before .before .before .before .before .before .before in
+    let l = m .before .before .loop in
+    omega (arith, rest-places _ (l .i) (l .at) (l .d) (l .b) (l .x) (l .inv))
+
+loop-less-2 : tie.Need-loop-less-2 Inv-loop μ-loop
+loop-less-2 c =
+    let q = c .before .before .before .before .before .before .before .before in
+    let m = q .before .before .before .before .before .before .before .before .before .before .before .before .before in
+    omega (arith, m .before .loop-test .taken)
+
+loop-again-2 : tie.Need-loop-again-2 Inv-loop μ-loop
+loop-again-2 c =
+    let p = c .before .before .before .before .before in
+    let g = p .before .before .before .before .before in
+    let j = g .before .before .before .before in
+    let k = j .before .before .before .before .before in
+    let m = k .before .before in
+    let l = m .before .before .loop in
+    rest-written _ (l .i) (l .at) (l .d) (l .b) (l .x) (l .inv) (m .before .loop-test .taken) _ (m .moved .ensures) _ _ _ (k .m .given .1)
+    _ _ _ _ _ _ _ _ _ _ _
+    (j .before .before .at .ensures) (j .before .slot-of .ensures) (j .at2 .ensures) (g .before .before .agent-after .ensures)
+    (g .gives-agent .ensures) (p .before .before .before .before .insert-if .ensures)
+    (p .before .before .at3 .ensures) (p .place-after .ensures) (c .before .before .gives-place .ensures) (c .before .insert-if2 .ensures)
+    (c .marks-after .ensures)
+
+returns-2 : tie.Need-returns-2 Inv-loop μ-loop
+returns-2 c =
+    let l = c .before .before .loop in
+    c .answered .ensures ∙ rest-end _ (l .i) (l .at) (l .d) (l .b) (l .x) (l .inv) (c .before .loop-test .left) _
+
+pub read-spec : {M : Type 1} → statement M
+read-spec =
+    tie.close
+    (tie.spec
+    Inv-loop μ-loop (λ c κs. tt) loop-holds moved-requires enum-known-m enum-told returns (λ c. search needs) enum-told-2 (λ c. search needs)
+    loop-again (λ c κs. search needs) (λ c. search needs) (λ c. search needs) (λ c κs. search needs) (λ c κs. search needs) (λ c. search needs)
+    (λ c. search needs) (λ c κs. search needs) (λ c. search needs) (λ c. search needs) (λ c κs. search needs) (λ c κs. search needs) add-at
+    (λ c κs. search needs) (λ c. search needs) (λ c. search needs) (λ c κs. search needs) (λ c. search needs) (λ c. search needs) add-insert-if
+    (λ c κs. search needs) (λ c κs. search needs) (λ c κs. search needs) loop-less-2 loop-again-2 (λ c κs. search needs) returns-2)

@@ -1,0 +1,21 @@
+-- Each position, and none past the end.
+use Rattle.parser.specs.CodeLaws.{past-end}
+use Rattle.table.specs.BaseLaws.{past}
+use Prim.Native.Nat.{zero-le}
+use Rattle.table.proofs.Rules.{tests}
+use Rattle.meaning.specs.Listing.{kindText}
+use Rattle.table.specs.Base.{tab}
+use Rattle.parser.proofs.words.exit_byte.Statement.{statement}
+use Rattle.parser.proofs.words.exit_byte.Tie as tie
+
+returns-6 : tie.Need-returns-6
+unfolding kindText tab
+returns-6 c = past-end (kindText 2) _ (past _ 4 (past _ 3 (past _ 2 (past _ 1 (past _ 0 zero-le (c .match .rest .0 .0 .0 .0 .1))
+    (c .match .rest .0 .0 .0 .1)) (c .match .rest .0 .0 .1)) (c .match .rest .0 .1)) (c .match .rest .1))
+
+pub exit-byte-spec : {M : Type 1} → statement M
+unfolding kindText tab
+exit-byte-spec =
+    tie.close
+    (tie.spec
+    (λ c. search tests) (λ c. search tests) (λ c. search tests) (λ c. search tests) (λ c. search tests) returns-6)

@@ -1,0 +1,95 @@
+// A listing read back: the cell of a text.
+mod build;
+mod finish;
+mod machine;
+mod words;
+
+use build::agent_after;
+use build::gives_agent;
+use build::gives_place;
+use build::marks_after;
+use build::place_after;
+use build::slot_of;
+use finish::answered;
+use finish::last;
+use language::Control;
+use language::Event;
+use language::Moved;
+use machine::next_by;
+use meaning::Loaded;
+use meaning::Verdict;
+use table::Cell;
+ghost use mathlib.Core.Path.{_≡_};
+ghost use Prim.Native.Nat.{_<_};
+ghost use Rattle.language.specs.Read.{readOf};
+ghost use Rattle.parser.specs.Site.{movedAt};
+
+// How many places and agents, the place whose contents are read, and whether there were too many of anything.
+pub struct Marks {
+    pub places: u8,
+    pub agents: u8,
+    pub here: u8,
+    pub over: bool,
+}
+
+// What the byte at i does, or the end of the text.
+fn moved(s: &[u8], i: usize, at: Control, d: usize) -> Moved
+    requires { ⌜ d < 9223372036854775808 ⌝ }
+    ensures { λ r. ⌜ r ≡ movedAt (now (s .entry)) i at d ⌝ }
+{
+    if i < s.len() {
+        next_by(at, d, s[i])
+    } else {
+        last(at, d)
+    }
+}
+
+// The cell of the text s; where it is refused, the cell c that was there. Each byte moves the machine once and changes the
+// cell in place, and the end of the text is one turn more.
+pub fn read(c: Cell, s: &[u8]) -> Loaded
+    ensures { λ r. ⌜ r ≡ readOf c (now (s .entry)) ⌝ }
+{
+    let mut b = table::bare();
+    let mut x = Marks {
+        places: 0,
+        agents: 0,
+        here: 0,
+        over: false,
+    };
+    let mut at = Control::Begin;
+    let mut d: usize = 0;
+    let mut i: usize = 0;
+    while i <= s.len() {
+        let m = moved(s, i, at, d);
+        let Moved::To(k, n, e) = m else {
+            return Loaded {
+                cell: c,
+                verdict: Verdict::Rejected(16, i),
+            };
+        };
+        at = k;
+        d = n;
+        i = i + 1;
+        let Event::Nothing = e else {
+            let h = table::at(x.here);
+            let around = b.places[h].parent;
+            let slot = slot_of(x, e);
+            let j = table::at(slot);
+            let g = b.agents[j];
+            let a = agent_after(g, x, e);
+            b.agents[j] = a;
+            let given = b.given;
+            b.given = given.insert_if(slot, gives_agent(x, e));
+            let q = table::at(x.places + 1);
+            let p = b.places[q];
+            let r = place_after(p, x, e);
+            b.places[q] = r;
+            let used = b.used;
+            b.used = used.insert_if(x.places + 1, gives_place(x, e));
+            x = marks_after(x, e, g.count, around);
+            continue;
+        };
+    }
+    let over = x.over;
+    answered(c, b, over, s.len())
+}
