@@ -37,7 +37,7 @@ fn before(n: u8) -> u8
 }
 
 // The agent whose record an event writes: the next one, or the latest.
-pub fn slot_of(x: Marks, e: Event) -> u8
+pub(super) fn slot_of(x: Marks, e: Event) -> u8
     ensures { λ r. ⌜ r ≡ slotOf x e ⌝ }
 {
     match e {
@@ -62,7 +62,7 @@ fn more_action(g: Agent, k: u8, v: u16) -> Agent
 }
 
 // That agent after the event.
-pub fn agent_after(g: Agent, x: Marks, e: Event) -> Agent
+pub(super) fn agent_after(g: Agent, x: Marks, e: Event) -> Agent
     ensures { λ r. ⌜ r ≡ agentAfter g x e ⌝ }
 {
     match e {
@@ -82,7 +82,7 @@ pub fn agent_after(g: Agent, x: Marks, e: Event) -> Agent
 }
 
 // The place after the latest, after the event.
-pub fn place_after(p: Place, x: Marks, e: Event) -> Place
+pub(super) fn place_after(p: Place, x: Marks, e: Event) -> Place
     ensures { λ r. ⌜ r ≡ placeAfter p x e ⌝ }
 {
     match e {
@@ -111,7 +111,7 @@ pub fn place_after(p: Place, x: Marks, e: Event) -> Place
 }
 
 // The marks after the event. count: of the latest agent; parent: of the place whose contents are read.
-pub fn marks_after(x: Marks, e: Event, count: u8, parent: u8) -> Marks
+pub(super) fn marks_after(x: Marks, e: Event, count: u8, parent: u8) -> Marks
     ensures { λ r. ⌜ r ≡ marksAfter x e count parent ⌝ }
 {
     let mut y = x;
@@ -161,7 +161,7 @@ pub fn marks_after(x: Marks, e: Event, count: u8, parent: u8) -> Marks
 }
 
 // Whether the event gives an agent.
-pub fn gives_agent(x: Marks, e: Event) -> bool
+pub(super) fn gives_agent(x: Marks, e: Event) -> bool
     ensures { λ r. ⌜ r ≡ givesAgent x e ⌝ }
 {
     match e {
@@ -175,7 +175,7 @@ pub fn gives_agent(x: Marks, e: Event) -> bool
 }
 
 // Whether the event gives a place.
-pub fn gives_place(x: Marks, e: Event) -> bool
+pub(super) fn gives_place(x: Marks, e: Event) -> bool
     ensures { λ r. ⌜ r ≡ givesPlace x e ⌝ }
 {
     match e {

@@ -29,7 +29,7 @@ fn last_number(f: Field, v: u16, d: usize) -> Moved
 }
 
 // The end of a text as an event: nothing, or the last action; or the text stops early.
-pub fn last(c: Control, d: usize) -> Moved
+pub(super) fn last(c: Control, d: usize) -> Moved
     ensures { λ r. ⌜ r ≡ lastOf c d ⌝ }
 {
     match c {
@@ -55,7 +55,7 @@ pub fn last(c: Control, d: usize) -> Moved
 }
 
 // The answer where the text belongs to the language: b is its cell, whose row is made here, and c the one that was there.
-pub fn answered(c: Cell, b: Cell, over: bool, n: usize) -> Loaded
+pub(super) fn answered(c: Cell, b: Cell, over: bool, n: usize) -> Loaded
     ensures { λ r. ⌜ r ≡ answeredWith c b over n ⌝ }
 {
     let used = b.used;

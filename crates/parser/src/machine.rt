@@ -160,7 +160,7 @@ fn more_digits(v: u16, b: u8) -> u16
 }
 
 // What a byte does, at each state and with d places open.
-pub fn next_by(c: Control, d: usize, b: u8) -> Moved
+pub(super) fn next_by(c: Control, d: usize, b: u8) -> Moved
     requires { ⌜ d < 9223372036854775808 ⌝ }
     ensures { λ r. ⌜ r ≡ next c d b ⌝ }
 {

@@ -75,7 +75,7 @@ fn word_last(k: u8) -> u8
 }
 
 // One byte more of the word of a kind, of which i are read.
-pub fn spelled_by(k: u8, i: u8, d: usize, b: u8) -> Moved
+pub(super) fn spelled_by(k: u8, i: u8, d: usize, b: u8) -> Moved
     ensures { λ r. ⌜ r ≡ spelled k i d b ⌝ }
 {
     if b == word_byte(k, i) {
