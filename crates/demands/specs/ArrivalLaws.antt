@@ -2,7 +2,7 @@
 -- Idea: the row of the places is that of a bare floor to which the numbers of the log came in the order of their last arrivals.
 use mathlib.Core.Path.{_≡_, refl, sym, ap, ap₂, _∙_}
 use mathlib.Core.Bool.{Bool, true, false, not, _&&_, _||_}
-use mathlib.Core.List.{List, [], _∷_, _++_, append-nil, append-assoc}
+use mathlib.Core.List.{List, [], _∷_, _++_}
 use Prim.Native.Nat.{ℕ, suc, _+_, _≤_, _<_}
 use native.Mathlib.Nat.{zero-add}
 use native.Mathlib.Omega.{arith}
@@ -10,8 +10,8 @@ use lib.Dec.{eqb}
 use lib.ListN.{length}
 use borrow.Author.Tests.{eqb-true, eq-eqb, ne-eqb}
 use Rattle.order.specs.Row.{keep, later, latest, occurs, positionOf, countingRow, loadedRow}
-use Rattle.order.specs.RowLaws.{occurs-append, occurs-keep, keep-append}
-use Rattle.order.specs.RowLawsLater.{keep-ext, keep-keep, keep-all, keep-none, later-behind, loaded-more}
+use Rattle.order.specs.RowLaws.{occurs-append, occurs-keep}
+use Rattle.order.specs.RowLawsLater.{keep-ext, keep-all, keep-none, later-behind, loaded-more}
 use Rattle.table.specs.BaseLaws.{Told, yea, nay, told, clash}
 use Rattle.demands.specs.FirstCome.{lasts, lastArrival}
 

@@ -3,12 +3,12 @@
 -- Idea: the chosen place stands before every other in the row, and the row is that of the log.
 use mathlib.Core.Path.{_≡_, refl, sym, ap, _∙_, subst}
 use mathlib.Core.Logic.{_≢_}
-use mathlib.Core.Bool.{Bool, true, false, false≢true}
+use mathlib.Core.Bool.{Bool, true, false}
 use mathlib.Core.List.{List}
 use Prim.Native.Nat.{ℕ, _≤_, _<_}
 use native.Mathlib.Omega.{arith}
 use borrow.Author.Tests.{ne-eqb}
-use Rattle.order.specs.Row.{occurs, positionOf, loadedRow}
+use Rattle.order.specs.Row.{occurs, positionOf}
 use Rattle.table.specs.BaseLaws.{Told, yea, nay, told, clash, upd-same}
 use Rattle.table.specs.Bounds.{Sized}
 use Rattle.table.specs.Cell.{State, linked, kindOf, exitKind, holding, cellOf, tableOf}

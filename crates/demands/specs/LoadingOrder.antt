@@ -1,6 +1,6 @@
 -- "Loaded places count in file order": the row of an accepted file's cell is that of its place records, in their order.
 -- Idea: record by record; a place that a record gives was not in use, so it has not come before.
-use mathlib.Core.Path.{_≡_, refl, sym, ap, ap₂, _∙_, subst}
+use mathlib.Core.Path.{_≡_, refl, sym, ap, _∙_, subst}
 use mathlib.Core.Logic.{_≢_, _⊎_, inl, inr}
 use mathlib.Core.List.{List, [], _∷_, _++_, append-nil, append-assoc}
 use mathlib.Core.Bool.{Bool, true, false, _||_, cond}
@@ -8,11 +8,11 @@ use Prim.Native.Nat.{ℕ, zero, suc, _+_, _<_}
 use native.Mathlib.Omega.{arith}
 use lib.Dec.{ltb, eqb}
 use lib.ListN.{length}
-use borrow.Author.Tests.{eqb-true, eq-eqb, ne-eqb}
-use Rattle.order.specs.Row.{latest, occurs, loadedRow}
+use borrow.Author.Tests.{eqb-true}
+use Rattle.order.specs.Row.{latest, occurs}
 use Rattle.order.specs.RowLaws.{occurs-append}
 use Rattle.order.specs.RowLawsLater.{loaded-none}
-use Rattle.table.specs.BaseLaws.{Told, yea, nay, told, clash, same-test}
+use Rattle.table.specs.BaseLaws.{Told, yea, nay, told, clash}
 use Rattle.table.specs.Cell.{Land, State, cellOf, bareTable}
 use Rattle.table.specs.declared.Name.{Name}
 use Rattle.meaning.specs.Refusals.{afterEnd}

@@ -8,13 +8,15 @@ use Prim.Native.Nat.{ℕ, zero, suc, _+_, _<_, _≤_}
 use native.Mathlib.Omega.{arith}
 use native.Mathlib.Numerals.{add-one}
 use lib.ListN.{length, length-append}
-use borrow.Author.Tests.{ne-eqb}
 use Rattle.table.specs.BaseLaws.{Told, yea, nay, told, eq?, clash, cond-cong}
 use Rattle.meaning.specs.Text.{gap, joined, joinedAll}
 use Rattle.meaning.specs.Sorted.{leq, insert, sorted}
 use Rattle.meaning.specs.Listing.{textsOf, inOrder}
+use Rattle.meaning.specs.TextsLaws.{joined-append}
+use Rattle.meaning.specs.InsertLaws.{sorted-length}
 use Rattle.lister.specs.Sheet.{bar}
 use Rattle.lister.specs.Marked.{barred, grouped, Filled}
+use Rattle.lister.specs.MarkedLaws.{gap-bar}
 
 -- ---- the texts of members
 
@@ -27,29 +29,9 @@ texts-ext P Q F G (suc n) f g =
     ∙ cond-cong (Q n) (F n ∷ textsOf Q G n) (G n ∷ textsOf Q G n) (textsOf Q G n) (λ q. ap (λ (t : List ℕ). t ∷ textsOf Q G n) (g n (omega arith) q))
 
 module _ (g : ℕ → Bool) (F : ℕ → List ℕ) where
-  -- numbers that are no members
-  pub texts-skip : (n m : ℕ) → n ≤ m → ((j : ℕ) → n ≤ j → j < m → g j ≡ false) → textsOf g F n ≡ textsOf g F m
-  unfolding textsOf
-  texts-skip n zero l h = let e : n ≡ 0 = omega arith in ap (textsOf g F) e
-  texts-skip n (suc m) l h = go (eq? n (suc m)) (texts-skip n m)
-    where
-      go : (n ≡ suc m) ⊎ (n ≢ suc m) → (n ≤ m → ((j : ℕ) → n ≤ j → j < m → g j ≡ false) → textsOf g F n ≡ textsOf g F m) → textsOf g F n ≡ textsOf g F (suc m)
-      go (inl e) r = ap (textsOf g F) e
-      go (inr q) r = r (omega arith) (λ j a b. h j a (omega arith)) ∙ sym (ap (λ (b : Bool). cond b (F m ∷ textsOf g F m) (textsOf g F m)) (h m (omega arith) (omega arith)))
-
   -- one member more
   pub texts-more : (x : ℕ) → g x ≡ true → F x ∷ textsOf g F x ≡ textsOf g F (x + 1)
   texts-more x e = sym (ap (textsOf g F) (add-one x) ∙ unfold textsOf in ap (λ (b : Bool). cond b (F x ∷ textsOf g F x) (textsOf g F x)) e)
-
-  -- there are no more texts than numbers
-  pub texts-few : (n : ℕ) → length (textsOf g F n) ≤ n
-  unfolding textsOf
-  texts-few zero = omega arith
-  texts-few (suc n) = go (g n) (texts-few n)
-    where
-      go : (b : Bool) → length (textsOf g F n) ≤ n → length (cond b (F n ∷ textsOf g F n) (textsOf g F n)) ≤ suc n
-      go true r = omega arith
-      go false r = omega arith
 
   -- where there is a member there is a text
   pub texts-some : (n x : ℕ) → x < n → g x ≡ true → 0 < length (textsOf g F n)
@@ -109,15 +91,6 @@ unfolding sorted
 sorted-filled texts Filled.none = Filled.none
 sorted-filled texts (Filled.more {x} {earlier} l f) = insert-filled x l (sorted earlier) (sorted-filled earlier f)
 
-joined-append : (by s : List ℕ) (xs ys : List (List ℕ)) → joinedAll by s (xs ++ ys) ≡ joinedAll by (joinedAll by s xs) ys
-unfolding joinedAll
-joined-append by s [] ys = refl
-joined-append by s (x ∷ xs) ys = joined-append by (joined by s x) xs ys
-
-gap-some : (s : List ℕ) → 0 < length s → gap bar s ≡ bar
-unfolding gap
-gap-some s l = rw (ne-eqb (length s) 0 (λ e. omega arith))
-
 -- what stands before a text that has a byte can be put there at the end
 joined-after : (a y : List ℕ) → 0 < length y → (ys : List (List ℕ)) → joinedAll bar (a ++ y) ys ≡ a ++ joinedAll bar y ys
 unfolding joinedAll
@@ -128,7 +101,7 @@ joined-after a y l (z ∷ zs) =
   where
     one : joined bar (a ++ y) z ≡ a ++ joined bar y z
     one =
-        ap (λ (t : List ℕ). ((a ++ y) ++ t) ++ z) (gap-some (a ++ y) (omega (arith, length-append a y)) ∙ sym (gap-some y l))
+        ap (λ (t : List ℕ). ((a ++ y) ++ t) ++ z) (gap-bar (a ++ y) (omega (arith, length-append a y)) ∙ sym (gap-bar y l))
         ∙ ap (λ (t : List ℕ). t ++ z) (append-assoc a y (gap bar y))
         ∙ append-assoc a (y ++ gap bar y) z
 
@@ -138,19 +111,9 @@ unfolding joinedAll gap
 joined-as-one s texts Filled.none l = absurd (omega arith)
 joined-as-one s texts (Filled.more {x} {earlier} m f) l = joined-after (s ++ gap bar s) x m earlier
 
-insert-some : (x : List ℕ) (texts : List (List ℕ)) → 0 < length (insert x texts)
-unfolding insert
-insert-some x [] = omega arith
-insert-some x (y ∷ texts) = go (leq y x)
-  where
-    go : (b : Bool) → 0 < length (cond b (y ∷ insert x texts) (x ∷ y ∷ texts))
-    go true = omega arith
-    go false = omega arith
-
+-- put in order there are as many
 sorted-some : (texts : List (List ℕ)) → 0 < length texts → 0 < length (sorted texts)
-unfolding sorted
-sorted-some [] l = l
-sorted-some (x ∷ texts) l = insert-some x (sorted texts)
+sorted-some texts l = omega (arith, sorted-length texts)
 
 -- two groups: the first, a bar where it has text, and the second
 pub both-groups : (agents places : List (List ℕ)) → Filled places → 0 < length places → inOrder agents places ≡ joined bar (grouped agents) (grouped places)

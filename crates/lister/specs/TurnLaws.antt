@@ -13,6 +13,7 @@ use Rattle.sets.specs.WalkLaws.{lowestIn, Rest, rest-member, rest-from, rest-sk
 use Rattle.sets.specs.declared.Set.{Set}
 use Rattle.meaning.specs.Text.{gap, joined, overlay}
 use Rattle.meaning.specs.Listing.{textsOf}
+use Rattle.meaning.specs.TextsLaws.{texts-skip, texts-length}
 use Rattle.text.specs.Wrote.{capped, Wrote, Fits}
 use Rattle.text.specs.TextLaws.{begun, wrote-as, wrote-length}
 use Rattle.text.specs.RoomLaws.{fits-less, fits-exactly}
@@ -20,7 +21,7 @@ use Rattle.lister.specs.Sheet.{bar, OnPage}
 use Rattle.lister.specs.Marked.{barred, grouped, Filled, Ends, Marked, Arranged}
 use Rattle.lister.specs.MarkedLaws.{grouped-length}
 use Rattle.lister.specs.PartLaws.{taken-lt, left-over}
-use Rattle.lister.specs.MemberLaws.{texts-skip, texts-more, texts-few, barred-grows}
+use Rattle.lister.specs.MemberLaws.{texts-more, barred-grows}
 
 -- a text over one that is no longer
 over-over : (s t b : List ℕ) → length t ≤ length s → overlay s (overlay t b) ≡ overlay s b
@@ -87,7 +88,7 @@ module _ (g : ℕ → Bool) (F : ℕ → List ℕ) {from : ℕ} {b : List ℕ} (
 
       -- there is a mark for it
       pub turn-slot : many < 64
-      turn-slot = omega (arith, turn-low, w .count, texts-few g F (w .upto), rest-from (w .rest) k, e)
+      turn-slot = omega (arith, turn-low, w .count, texts-length g F (w .upto), rest-from (w .rest) k, e)
 
       module _ {ys : List ℕ} {r : ℕ} (v : Wrote (joined bar (barred (textsOf g F (w .upto))) (F x)) from b ys r) where
         -- where it ends
@@ -129,7 +130,7 @@ module _ (g : ℕ → Bool) (F : ℕ → List ℕ) {from : ℕ} {b : List ℕ} (
       pub walked-marked : Marked (textsOf g F 64) marks many buf
       walked-marked = record {
         many = w .count ∙ ap length all;
-        few = omega (arith, w .count, texts-few g F (w .upto), w .rest .end);
+        few = omega (arith, w .count, texts-length g F (w .upto), w .rest .end);
         filled = full;
         ends = subst (Ends marks) all (w .ends);
         room = omega (arith, f .fits .room, same, wrote-length all-wrote);

@@ -54,7 +54,7 @@ others-end {f} {order} {row} {lasts} {new} {n} {j} {m} {i} size a l b k =
 -- ---- the numbers that came
 
 -- no number of a row of small ones is large
-small-occurs : (q : ℕ) (row : List ℕ) → allSmall row ≡ true → occurs q row ≡ true → q < 64
+pub small-occurs : (q : ℕ) (row : List ℕ) → allSmall row ≡ true → occurs q row ≡ true → q < 64
 unfolding allSmall occurs
 small-occurs q [] s o = clash o refl
 small-occurs q (r ∷ row) s o = go (told (eqb q r)) (small-occurs q row (and-right (ltb r 64) (allSmall row) s))

@@ -7,31 +7,21 @@ use mathlib.Core.List.{List, [], _∷_, _++_, append-nil}
 use Prim.Native.Nat.{ℕ, zero, suc, _+_, _≤_, _<_}
 use native.Mathlib.Omega.{arith}
 use lib.Dec.{eqb, ltb}
-use borrow.Author.Tests.{eqb-true, eqb-false, eq-eqb, ne-eqb, ltb-true, ltb-false}
+use borrow.Author.Tests.{eqb-true, ne-eqb, ltb-true, ltb-false}
 use Rattle.sets.specs.Set.{member, removed}
 use Rattle.sets.specs.SetLaws.{member-set}
-use Rattle.order.specs.Row.{keep, later, latest, occurs, counting, countingRow, loadedRow, allSmall}
+use Rattle.order.specs.Row.{keep, later, latest, occurs, counting, countingRow, loadedRow}
 use Rattle.order.specs.RowLaws.{occurs-keep, fits-small, counting-fits}
 use Rattle.order.specs.RowLawsLater.{keep-ext, keep-all, keep-none, counted-once, loaded-more}
+use Rattle.order.specs.RowLawsLoaded.{small-occurs}
 use Rattle.table.specs.Base.{upd}
-use Rattle.table.specs.BaseLaws.{Told, yea, nay, told, clash, eq?, and-left, and-right, upd-all}
+use Rattle.table.specs.BaseLaws.{Told, yea, nay, told, clash, eq?, and-right, upd-all}
 use Rattle.table.specs.Cell.{State, Land, cellOf, tableOf, bareTable, putOrder}
 use Rattle.table.specs.declared.Name.{Name}
-use Rattle.table.specs.declared.Cell.{Cell}
 use Rattle.meaning.specs.Update.{linkedPlace, withPlaces, withUsed, withOrder}
 use Rattle.meaning.specs.FileLaws.{bare-place, bare-used}
 
 -- ---- rows
-
--- no number of a row of small ones is large
-small-occurs : (q : ℕ) (row : List ℕ) → allSmall row ≡ true → occurs q row ≡ true → q < 64
-unfolding allSmall occurs
-small-occurs q [] s o = clash o refl
-small-occurs q (r ∷ row) s o = go (told (eqb q r)) (small-occurs q row (and-right (ltb r 64) (allSmall row) s))
-  where
-    go : Told (eqb q r) → (occurs q row ≡ true → q < 64) → q < 64
-    go (yea e) h = let x = eqb-true q r e in let y = ltb-true r 64 (and-left (ltb r 64) (allSmall row) s) in omega arith
-    go (nay e) h = h (rw e at o)
 
 -- what becomes the latest depends on the numbers below 64 alone
 later-ext : (f g : ℕ → Bool) → ((q : ℕ) → q < 64 → f q ≡ g q) → later f countingRow ≡ later g countingRow
