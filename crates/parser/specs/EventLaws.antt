@@ -21,7 +21,7 @@ use Rattle.language.specs.Grammar.{withKeys}
 use Rattle.language.specs.Machine.{apply}
 use Rattle.language.specs.Read.{Site, site, overfull, siteAgent, siteAction, sitePlace, siteEnd}
 use Rattle.parser.specs.declared.Marks.{Marks}
-use Rattle.parser.specs.Site.{slotOf, agentAfter, placeAfter, marksAfter, givesAgent, givesPlace, overMarks, endMarks}
+use Rattle.parser.specs.Site.{agentWritten, agentAfter, placeAfter, marksAfter, givesAgent, givesPlace, overMarks, endMarks}
 use Rattle.parser.specs.RowSoFar.{counted-more}
 use Rattle.parser.specs.Events.{marksOf, Small, unrowed, one-put, one-in, mod-small, written, agentRead, parentRead, Makes}
 use Rattle.parser.specs.Events.{agent-is, agents-kept, places-kept, if-false, kept}
@@ -47,7 +47,7 @@ module _ (y : Site) (m : Small y) where
 
   -- the contents of a place end
   makes-end : Makes y EndPlace (siteEnd y)
-  unfolding siteEnd slotOf agentAfter placeAfter givesPlace givesAgent marksAfter
+  unfolding siteEnd agentWritten agentAfter placeAfter givesPlace givesAgent marksAfter
   makes-end = record {
     table = kept y EndPlace refl (λ p. refl) refl refl;
     marks = ap (λ p. record { places = y .places; agents = y .agents; here = p; over = y .over }) parent-is;
@@ -57,18 +57,18 @@ module _ (y : Site) (m : Small y) where
   -- an agent more, among the agents
   agent-agents : y .agents < 64 → written y NewAgent .agents ≡ tab (upd (c .agent) (y .agents) (withHome (c .agent (y .agents)) (y .here))) 64 0
   unfolding tableOf
-  agent-agents l = one-put (c .agent) (slotOf x NewAgent % 64) (y .agents) noAgent _ _ (ap (λ i. i % 64) slot ∙ mod-small (y .agents) l) l
-      (homed (agentRead y NewAgent) ∙ ap (λ g. withHome g (y .here)) (agent-is y NewAgent (y .agents) slot l))
+  agent-agents l = one-put (c .agent) (agentWritten x NewAgent % 64) (y .agents) noAgent _ _ (ap (λ i. i % 64) which ∙ mod-small (y .agents) l) l
+      (homed (agentRead y NewAgent) ∙ ap (λ g. withHome g (y .here)) (agent-is y NewAgent (y .agents) which l))
     where
       homed : (g : Agent) → agentAfter g x NewAgent ≡ withHome g (y .here)
       homed g = unfold agentAfter in rw (lt-leb 64 (y .agents) l)
 
-      slot : slotOf x NewAgent ≡ y .agents
-      slot = unfold slotOf in refl
+      which : agentWritten x NewAgent ≡ y .agents
+      which = unfold agentWritten in refl
 
   -- among those given
   agent-given : y .agents < 64 → written y NewAgent .given .bits ≡ setOf (λ j. eqb j (y .agents) || c .given j) .bits
-  unfolding tableOf slotOf givesAgent
+  unfolding tableOf agentWritten givesAgent
   agent-given l = ap (λ b. insertedIf (setOf (c .given)) (y .agents) b .bits) (lt-ltb (y .agents) 64 l) ∙ one-in (c .given) (y .agents)
 
   -- in the table
@@ -118,7 +118,7 @@ module _ (y : Site) (m : Small y) where
       → written y (NewPlace n e q o) ≡ unrowed (addPlace c (y .places + 1) (y .here) (withKeys n e q o))
   unfolding tableOf addPlace
   place-table n e q o l = table-eq (place-places n e q o l) refl (agents-kept y (NewPlace n e q o) (unfold agentAfter in refl)) (place-used n e q o l)
-      (if-false y (tableOf c .given) (slotOf x (NewPlace n e q o)) {b = givesAgent x (NewPlace n e q o)} (unfold givesAgent in refl)) refl refl
+      (if-false y (tableOf c .given) (agentWritten x (NewPlace n e q o)) {b = givesAgent x (NewPlace n e q o)} (unfold givesAgent in refl)) refl refl
 
   -- a place more, or one too many
   makes-place : (n e q o : ℕ) → Makes y (NewPlace n e q o) (sitePlace (withKeys n e q o) y)
@@ -144,8 +144,8 @@ module _ (y : Site) (m : Small y) where
             };
           })
 
-  -- an action more, of an event whose slot is the latest agent
-  module _ (e : Event) (k v : ℕ) (slot : slotOf x e ≡ y .agents - 1)
+  -- an action more, of an event that writes the latest agent
+  module _ (e : Event) (k v : ℕ) (which : agentWritten x e ≡ y .agents - 1)
       (after : (g : Agent) → agentAfter g x e ≡ cond (leb 16 (g .count)) g (withAction g k v))
       (place : (p : Place) → placeAfter p x e ≡ p) (no-place : givesPlace x e ≡ false) (no-agent : givesAgent x e ≡ false) where
     -- the site with the action
@@ -154,7 +154,7 @@ module _ (y : Site) (m : Small y) where
 
     -- the count of the latest agent
     count-is : agentRead y e .count ≡ c .agent (y .agents - 1) .count
-    count-is = ap (λ g. g .count) (agent-is y e (y .agents - 1) slot latest-lt)
+    count-is = ap (λ g. g .count) (agent-is y e (y .agents - 1) which latest-lt)
 
     -- in the table
     action-table : written y e ≡ unrowed (siteAction k v y .cell)
@@ -166,12 +166,12 @@ module _ (y : Site) (m : Small y) where
             ∙ ap (λ b. cond b (agentRead y e) (withAction (agentRead y e) k v)) (ap (leb 16) count-is ∙ t)) place no-place no-agent)
         go (nay t) = unfold siteAction in rw t (table-eq
             (places-kept y e place ∙ (unfold tableOf in unfold addAction in refl)) (unfold tableOf in unfold addAction in refl)
-            (one-put (c .agent) (slotOf x e % 64) (y .agents - 1) noAgent _ _ (ap (λ i. i % 64) slot ∙ mod-small (y .agents - 1) latest-lt) latest-lt
+            (one-put (c .agent) (agentWritten x e % 64) (y .agents - 1) noAgent _ _ (ap (λ i. i % 64) which ∙ mod-small (y .agents - 1) latest-lt) latest-lt
             (after (agentRead y e) ∙ ap (λ b. cond b (agentRead y e) (withAction (agentRead y e) k v)) (ap (leb 16) count-is ∙ t)
-            ∙ ap (λ g. withAction g k v) (agent-is y e (y .agents - 1) slot latest-lt))
+            ∙ ap (λ g. withAction g k v) (agent-is y e (y .agents - 1) which latest-lt))
             ∙ (unfold tableOf in unfold addAction in refl))
             (if-false y (tableOf c .used) (y .places + 1) no-place ∙ (unfold tableOf in unfold addAction in refl))
-            (if-false y (tableOf c .given) (slotOf x e) no-agent ∙ (unfold tableOf in unfold addAction in refl))
+            (if-false y (tableOf c .given) (agentWritten x e) no-agent ∙ (unfold tableOf in unfold addAction in refl))
             (unfold tableOf in unfold addAction in refl) refl)
 
     -- numbers stay in range
@@ -210,7 +210,7 @@ module _ (y : Site) (m : Small y) where
 
   -- an action more, or one too many
   makes-action : (k v : ℕ) → Makes y (NewAction k v) (siteAction k v y)
-  unfolding slotOf agentAfter placeAfter givesPlace givesAgent marksAfter
+  unfolding agentWritten agentAfter placeAfter givesPlace givesAgent marksAfter
   makes-action k v = record {
     table = action-table (NewAction k v) k v refl (λ g. refl) (λ p. refl) refl refl;
     marks = action-marks (NewAction k v) k v refl (λ g. refl) (λ p. refl) refl refl;
@@ -219,7 +219,7 @@ module _ (y : Site) (m : Small y) where
 
   -- the parent is read before the action is written
   last-parent : (k v : ℕ) → siteAction k v y .cell .land .place (siteAction k v y .here) .parent ≡ (parentRead y)
-  unfolding slotOf agentAfter placeAfter givesPlace givesAgent
+  unfolding agentWritten agentAfter placeAfter givesPlace givesAgent
   last-parent k v = ap₂ (λ (l : Land) (h : ℕ). l .place h .parent) (action-places (LastAction k v) k v refl (λ g. refl) (λ p. refl) refl refl)
       (action-here (LastAction k v) k v refl (λ g. refl) (λ p. refl) refl refl) ∙ sym parent-is
 
@@ -230,7 +230,7 @@ module _ (y : Site) (m : Small y) where
 
   -- an action more, and then the place ends
   makes-last : (k v : ℕ) → Makes y (LastAction k v) (siteEnd (siteAction k v y))
-  unfolding slotOf agentAfter placeAfter givesPlace givesAgent marksAfter siteEnd
+  unfolding agentWritten agentAfter placeAfter givesPlace givesAgent marksAfter siteEnd
   makes-last k v =
       let w = action-small (LastAction k v) k v refl (λ g. refl) (λ p. refl) refl refl in
       record {
@@ -242,7 +242,7 @@ module _ (y : Site) (m : Small y) where
 
   -- nothing
   makes-nothing : Makes y Nothing y
-  unfolding slotOf agentAfter placeAfter givesPlace givesAgent marksAfter
+  unfolding agentWritten agentAfter placeAfter givesPlace givesAgent marksAfter
   makes-nothing = record { table = kept y Nothing refl (λ p. refl) refl refl; marks = refl; small = m }
 
   -- every event

@@ -19,7 +19,7 @@ use Rattle.table.specs.declared.Cell.{Cell}
 use Rattle.language.specs.declared.Event.{Event}
 use Rattle.language.specs.Read.{Site}
 use Rattle.parser.specs.declared.Marks.{Marks}
-use Rattle.parser.specs.Site.{slotOf, agentAfter, placeAfter, marksAfter, givesAgent, givesPlace}
+use Rattle.parser.specs.Site.{agentWritten, agentAfter, placeAfter, marksAfter, givesAgent, givesPlace}
 use Rattle.parser.specs.RowSoFar.{Counted}
 
 -- what the code keeps beside the table
@@ -61,14 +61,14 @@ mod-lt n = omega arith
 -- the table b with what an event writes at the marks x: an agent and a place, of which each may be as it was
 abbrev pub writtenIn : Cell → Marks → Event → Cell
 writtenIn b x e = putUsed (putPlaces (putGiven (putAgents b
-    (set (b .agents) (slotOf x e % 64) (agentAfter (getD (b .agents) (slotOf x e % 64) noAgent) x e)))
-    (insertedIf (b .given) (slotOf x e) (givesAgent x e)))
+    (set (b .agents) (agentWritten x e % 64) (agentAfter (getD (b .agents) (agentWritten x e % 64) noAgent) x e)))
+    (insertedIf (b .given) (agentWritten x e) (givesAgent x e)))
     (set (b .places) ((x .places + 1) % 64) (placeAfter (getD (b .places) ((x .places + 1) % 64) noPlace) x e)))
     (insertedIf (b .used) (x .places + 1) (givesPlace x e))
 
 -- and the marks then
 abbrev pub marksIn : Cell → Marks → Event → Marks
-marksIn b x e = marksAfter x e (getD (b .agents) (slotOf x e % 64) noAgent .count) (getD (b .places) (x .here % 64) noPlace .parent)
+marksIn b x e = marksAfter x e (getD (b .agents) (agentWritten x e % 64) noAgent .count) (getD (b .places) (x .here % 64) noPlace .parent)
 
 module _ (y : Site) where
   -- the cell so far
@@ -85,7 +85,7 @@ module _ (y : Site) where
 
   -- the agent that the event writes, as the code reads it
   abbrev pub agentRead : Event → Agent
-  agentRead e = getD (tableOf c .agents) (slotOf x e % 64) noAgent
+  agentRead e = getD (tableOf c .agents) (agentWritten x e % 64) noAgent
 
   -- the parent of the place whose contents are read, as the code reads it
   abbrev pub parentRead : ℕ
@@ -98,14 +98,14 @@ module _ (y : Site) where
     pub small : Small z
 
   -- the agent is that of the cell
-  pub agent-is : (e : Event) (n : ℕ) → slotOf x e ≡ n → n < 64 → agentRead e ≡ c .agent n
+  pub agent-is : (e : Event) (n : ℕ) → agentWritten x e ≡ n → n < 64 → agentRead e ≡ c .agent n
   unfolding tableOf
   agent-is e n q l = ap (λ i. getD (tab (c .agent) 64 0) i noAgent) (ap (λ i. i % 64) q ∙ mod-small n l) ∙ getD-tab (c .agent) 64 n noAgent l
 
   -- an event leaves the agents
   pub agents-kept : (e : Event) → agentAfter (agentRead e) x e ≡ agentRead e → written e .agents ≡ tab (c .agent) 64 0
   unfolding tableOf
-  agents-kept e q = ap (set (tab (c .agent) 64 0) (slotOf x e % 64)) q ∙ self-set (c .agent) (slotOf x e % 64) noAgent (mod-lt (slotOf x e))
+  agents-kept e q = ap (set (tab (c .agent) 64 0) (agentWritten x e % 64)) q ∙ self-set (c .agent) (agentWritten x e % 64) noAgent (mod-lt (agentWritten x e))
 
   -- an event leaves the places
   pub places-kept : (e : Event) → ((p : Place) → placeAfter p x e ≡ p) → written e .places ≡ tab (c .land .place) 64 0
@@ -121,4 +121,4 @@ module _ (y : Site) where
   pub kept : (e : Event) → agentAfter (agentRead e) x e ≡ agentRead e → ((p : Place) → placeAfter p x e ≡ p) → givesPlace x e ≡ false
       → givesAgent x e ≡ false → written e ≡ unrowed c
   kept e q r g h = table-eq (places-kept e r ∙ (unfold tableOf in refl)) refl (agents-kept e q ∙ (unfold tableOf in refl))
-      (if-false (tableOf c .used) (y .places + 1) g) (if-false (tableOf c .given) (slotOf x e) h) refl refl
+      (if-false (tableOf c .used) (y .places + 1) g) (if-false (tableOf c .given) (agentWritten x e) h) refl refl

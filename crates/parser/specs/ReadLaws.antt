@@ -25,7 +25,7 @@ use Rattle.language.specs.Grammar.{Text}
 use Rattle.language.specs.Machine.{apply}
 use Rattle.language.specs.Read.{Site, site, bareSite, readOf}
 use Rattle.parser.specs.declared.Marks.{Marks}
-use Rattle.parser.specs.Site.{slotOf, agentAfter, placeAfter, marksAfter, givesAgent, givesPlace, movedAt, answeredWith}
+use Rattle.parser.specs.Site.{agentWritten, agentAfter, placeAfter, marksAfter, givesAgent, givesPlace, movedAt, answeredWith}
 use Rattle.parser.specs.SoFar.{So, so-start, so-on, so-off, so-end}
 use Rattle.parser.specs.Depth.{moved-deep}
 use Rattle.parser.specs.RowSoFar.{counted-none, rowed}
@@ -111,25 +111,25 @@ module _ (s : Text) (i : ℕ) (c : Control) (d : ℕ) (b : Cell) (x : Marks) (r 
           so = on;
         }
 
-    -- as the code has it: `at h` the place whose contents are read, slot and `at j` the agent with its record a, `at q` the place after the
+    -- as the code has it: `at h` the place whose contents are read, `which` and `at j` the agent with its record a, `at q` the place after the
     -- latest with its record p
-    pub rest-written : (h slot j q : ℕ) (a : Agent) (p : Place) (agent place : Bool) (given used : Set) (y : Marks)
-        → h ≡ x .here % 64 → slot ≡ slotOf x e → j ≡ slot % 64 → a ≡ agentAfter (getD (b .agents) j noAgent) x e → agent ≡ givesAgent x e
-        → given ≡ insertedIf (b .given) slot agent → q ≡ (x .places + 1) % 64 → p ≡ placeAfter (getD (b .places) q noPlace) x e
+    pub rest-written : (h which j q : ℕ) (a : Agent) (p : Place) (agent place : Bool) (given used : Set) (y : Marks)
+        → h ≡ x .here % 64 → which ≡ agentWritten x e → j ≡ which % 64 → a ≡ agentAfter (getD (b .agents) j noAgent) x e → agent ≡ givesAgent x e
+        → given ≡ insertedIf (b .given) which agent → q ≡ (x .places + 1) % 64 → p ≡ placeAfter (getD (b .places) q noPlace) x e
         → place ≡ givesPlace x e → used ≡ insertedIf (b .used) (x .places + 1) place
         → y ≡ marksAfter x e (getD (b .agents) j noAgent .count) (getD (b .places) h noPlace .parent)
         → Rest s (i + 1) k n (putUsed (putPlaces (putGiven (putAgents b (set (b .agents) j a)) given) (set (b .places) q p)) used) y
-    rest-written h slot j q a p agent place given used y eh es ej ea ega eg eq ep egp eu ey = rest-event _ _
+    rest-written h which j q a p agent place given used y eh es ej ea ega eg eq ep egp eu ey = rest-event _ _
         (λ z. putUsed (putPlaces (putGiven (putAgents b (agents-are z)) (given-are z)) (places-are z)) (used-are z))
-        (ey ∙ ap₂ (λ (z w : ℕ). marksAfter x e (getD (b .agents) z noAgent .count) (getD (b .places) w noPlace .parent)) slot-is eh)
+        (ey ∙ ap₂ (λ (z w : ℕ). marksAfter x e (getD (b .agents) z noAgent .count) (getD (b .places) w noPlace .parent)) which-is eh)
       where
-        slot-is : j ≡ slotOf x e % 64
-        slot-is = ej ∙ ap (λ z. z % 64) es
+        which-is : j ≡ agentWritten x e % 64
+        which-is = ej ∙ ap (λ z. z % 64) es
 
-        agents-are : set (b .agents) j a ≡ set (b .agents) (slotOf x e % 64) (agentAfter (getD (b .agents) (slotOf x e % 64) noAgent) x e)
-        agents-are = ap₂ (λ (z : ℕ) (w : Agent). set (b .agents) z w) slot-is (ea ∙ ap (λ z. agentAfter (getD (b .agents) z noAgent) x e) slot-is)
+        agents-are : set (b .agents) j a ≡ set (b .agents) (agentWritten x e % 64) (agentAfter (getD (b .agents) (agentWritten x e % 64) noAgent) x e)
+        agents-are = ap₂ (λ (z : ℕ) (w : Agent). set (b .agents) z w) which-is (ea ∙ ap (λ z. agentAfter (getD (b .agents) z noAgent) x e) which-is)
 
-        given-are : given ≡ insertedIf (b .given) (slotOf x e) (givesAgent x e)
+        given-are : given ≡ insertedIf (b .given) (agentWritten x e) (givesAgent x e)
         given-are = eg ∙ ap₂ (insertedIf (b .given)) es ega
 
         places-are : set (b .places) q p

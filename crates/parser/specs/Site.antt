@@ -43,13 +43,13 @@ abbrev pub endMarks : Marks → ℕ → Marks
 endMarks x p = record { places = x .places; agents = x .agents; here = p; over = x .over }
 
 -- the agent whose record an event writes: the next one, or the latest
-unfoldable pub slotOf : Marks → Event → ℕ
-slotOf x Nothing = x .agents - 1
-slotOf x NewAgent = x .agents
-slotOf x (NewAction k v) = x .agents - 1
-slotOf x (NewPlace n e q o) = x .agents - 1
-slotOf x EndPlace = x .agents - 1
-slotOf x (LastAction k v) = x .agents - 1
+unfoldable pub agentWritten : Marks → Event → ℕ
+agentWritten x Nothing = x .agents - 1
+agentWritten x NewAgent = x .agents
+agentWritten x (NewAction k v) = x .agents - 1
+agentWritten x (NewPlace n e q o) = x .agents - 1
+agentWritten x EndPlace = x .agents - 1
+agentWritten x (LastAction k v) = x .agents - 1
 
 -- that agent after the event
 unfoldable pub agentAfter : Agent → Marks → Event → Agent
@@ -61,7 +61,7 @@ agentAfter g x (NewPlace n e q o) = g
 agentAfter g x EndPlace = g
 agentAfter g x (LastAction k v) = cond (leb 16 (g .count)) g (withAction g k v)
 
--- the place after the latest, after the event
+-- the place that a text would give next, after the event
 unfoldable pub placeAfter : Place → Marks → Event → Place
 placeAfter p x Nothing = p
 placeAfter p x NewAgent = p

@@ -1,33 +1,15 @@
-// What an event writes: an agent, a place, and the marks.
+// What an event writes: an agent, a place, and the marks. Where there is no room for what it adds, only the marks
+// change, and say that there was too much.
 use super::Marks;
 use language::Event;
-use table::Action;
 use table::Agent;
 use table::Name;
 use table::Place;
+use updates::with_action;
 use updates::with_home;
 ghost use mathlib.Core.Path.{_≡_};
-ghost use mathlib.Core.Bool.{cond};
-ghost use Prim.Native.Nat.{_<_, _-_};
-ghost use lib.Dec.{leb};
-ghost use Rattle.meaning.specs.File.{withAction};
-ghost use Rattle.parser.specs.Site.{slotOf, agentAfter, placeAfter, marksAfter, givesAgent, givesPlace};
-
-// The agent with one action more, which it is looking for.
-fn with_action(g: Agent, kind: u8, name: u16) -> Agent
-    requires { ⌜ g .count < 16 ⌝ }
-    ensures { λ r. ⌜ r ≡ withAction g kind name ⌝ }
-{
-    let mut a = g;
-    let j = a.count as usize;
-    a.actions[j] = Action {
-        kind: kind,
-        name: name,
-    };
-    a.count = a.count + 1;
-    a.stage = 0;
-    a
-}
+ghost use Prim.Native.Nat.{_-_};
+ghost use Rattle.parser.specs.Site.{agentWritten, agentAfter, placeAfter, marksAfter, givesAgent, givesPlace};
 
 // The number before n; 0 before 0.
 fn before(n: u8) -> u8
@@ -37,8 +19,8 @@ fn before(n: u8) -> u8
 }
 
 // The agent whose record an event writes: the next one, or the latest.
-pub(super) fn slot_of(x: Marks, e: Event) -> u8
-    ensures { λ r. ⌜ r ≡ slotOf x e ⌝ }
+pub(super) fn agent_written(x: Marks, e: Event) -> u8
+    ensures { λ r. ⌜ r ≡ agentWritten x e ⌝ }
 {
     match e {
         Event::Nothing => before(x.agents),
@@ -47,17 +29,6 @@ pub(super) fn slot_of(x: Marks, e: Event) -> u8
         Event::NewPlace(_, _, _, _) => before(x.agents),
         Event::EndPlace => before(x.agents),
         Event::LastAction(_, _) => before(x.agents),
-    }
-}
-
-// One action more where there is room.
-fn more_action(g: Agent, k: u8, v: u16) -> Agent
-    ensures { λ r. ⌜ r ≡ cond (leb 16 (g .count)) g (withAction g k v) ⌝ }
-{
-    if g.count < 16 {
-        with_action(g, k, v)
-    } else {
-        g
     }
 }
 
@@ -74,14 +45,14 @@ pub(super) fn agent_after(g: Agent, x: Marks, e: Event) -> Agent
                 g
             }
         }
-        Event::NewAction(k, v) => more_action(g, k, v),
+        Event::NewAction(k, v) => with_action(g, k, v),
         Event::NewPlace(_, _, _, _) => g,
         Event::EndPlace => g,
-        Event::LastAction(k, v) => more_action(g, k, v),
+        Event::LastAction(k, v) => with_action(g, k, v),
     }
 }
 
-// The place after the latest, after the event.
+// The place that a text would give next, after the event.
 pub(super) fn place_after(p: Place, x: Marks, e: Event) -> Place
     ensures { λ r. ⌜ r ≡ placeAfter p x e ⌝ }
 {

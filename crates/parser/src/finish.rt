@@ -28,7 +28,8 @@ fn last_number(f: Field, v: u16, d: usize) -> Moved
     }
 }
 
-// The end of a text as an event: nothing, or the last action; or the text stops early.
+// The end of a text as if it were one byte more: it adds nothing, or the last action; or the text stops early. Where a text may end,
+// what was read last is `Bare`, after which no byte comes.
 pub(super) fn last(c: Control, d: usize) -> Moved
     ensures { λ r. ⌜ r ≡ lastOf c d ⌝ }
 {

@@ -5,11 +5,11 @@ mod machine;
 mod words;
 
 use build::agent_after;
+use build::agent_written;
 use build::gives_agent;
 use build::gives_place;
 use build::marks_after;
 use build::place_after;
-use build::slot_of;
 use finish::answered;
 use finish::last;
 use language::Control;
@@ -32,7 +32,8 @@ pub struct Marks {
     pub over: bool,
 }
 
-// What the byte at i does, or the end of the text.
+// What the byte at i does, or the end of the text, after what was read last and with d places open. No text has 2^63 bytes, so
+// fewer places are open.
 fn moved(s: &[u8], i: usize, at: Control, d: usize) -> Moved
     requires { ⌜ d < 9223372036854775808 ⌝ }
     ensures { λ r. ⌜ r ≡ movedAt (now (s .entry)) i at d ⌝ }
@@ -45,7 +46,8 @@ fn moved(s: &[u8], i: usize, at: Control, d: usize) -> Moved
 }
 
 // The cell of the text s; where it is refused, the cell c that was there. Each byte moves the machine once and changes the
-// cell in place, and the end of the text is one turn more.
+// cell in place, and the end of the text is one turn more. b: the cell so far, but for its row of places, which is made at the end;
+// at: what was read last; d: how many places are open.
 pub fn read(c: Cell, s: &[u8]) -> Loaded
     ensures { λ r. ⌜ r ≡ readOf c (now (s .entry)) ⌝ }
 {
@@ -73,13 +75,13 @@ pub fn read(c: Cell, s: &[u8]) -> Loaded
         let Event::Nothing = e else {
             let h = table::at(x.here);
             let around = b.places[h].parent;
-            let slot = slot_of(x, e);
-            let j = table::at(slot);
+            let which = agent_written(x, e);
+            let j = table::at(which);
             let g = b.agents[j];
             let a = agent_after(g, x, e);
             b.agents[j] = a;
             let given = b.given;
-            b.given = given.insert_if(slot, gives_agent(x, e));
+            b.given = given.insert_if(which, gives_agent(x, e));
             let q = table::at(x.places + 1);
             let p = b.places[q];
             let r = place_after(p, x, e);

@@ -1,4 +1,5 @@
-// The machine of the listing's language: what one byte does.
+// The machine of the listing's language: what one byte does. The bytes are 32 for a space, 46 `.`, 47 `/`, 48 to 57 the digits,
+// 91 `[`, 93 `]`, 124 the bar, and 101 `e`, 110 `n`, 111 `o`, 120 `x`; the kinds of actions are 1 enter, 2 exit, 3 open.
 use super::words::spelled_by;
 use language::Control;
 use language::Event;

@@ -1,14 +1,14 @@
 -- One turn of the load loop, on the table of the cell so far: each record changes one element and one set, as the definition does, and a
 -- place is noted as the next that came.
 use mathlib.Core.Path.{_≡_, refl, sym, ap, ap₂, _∙_, subst}
-use mathlib.Core.Bool.{Bool, true, false, not, _&&_, _||_}
+use mathlib.Core.Bool.{Bool, true, false, not, _&&_, _||_, cond}
 use mathlib.Core.List.{List}
 use mathlib.Core.Logic.{_≢_, _⊎_, inl, inr}
 use Prim.Native.Nat.{ℕ, zero, suc, _+_, _%_, _<_, _≤_}
 use native.Mathlib.Omega.{arith}
 use lib.Dec.{ltb, leb, eqb}
 use lib.ListN.{length, getD, set}
-use borrow.Author.Tests.{eqb-true, eq-eqb, ne-eqb, lt-ltb, le-ltb, le-leb, lt-leb, ltb-true, ltb-false, leb-false}
+use borrow.Author.Tests.{eqb-true, eq-eqb, ne-eqb, lt-ltb, le-ltb, le-leb, lt-leb, ltb-true, ltb-false}
 use Rattle.sets.specs.Set.{member, setOf, inserted, insertedIf, removed}
 use Rattle.sets.specs.SetLaws.{set-eq, member-set, set-ext}
 use Rattle.sets.specs.declared.Set.{Set}
@@ -249,9 +249,6 @@ module _ (s : List ℕ) (at : ℕ) (d : Cell) (full counted : Set) (came : List 
       abbrev l : n < 64
       l = low-room .0
 
-      pub has-room : getD (d .agents) i noAgent .count < 16
-      has-room = rw (agent-at n i l e) (leb-false 16 (c .agent n .count) (low-room .1))
-
       full-there : (j : ℕ) → j ≡ n → isFull (addAction c n k m) j ≡ leb 16 (c .agent n .count + 1)
       unfolding addAction withAction
       full-there j f = ap (λ (a : Agent). leb 16 (a .count)) (upd-at (c .agent) n j (withAction (c .agent n) k m) f)
@@ -272,7 +269,11 @@ module _ (s : List ℕ) (at : ℕ) (d : Cell) (full counted : Set) (came : List 
           go j (inl t) = ap (isFull c) t ∙ low-room .1 ∙ sym (full-there j t ∙ lt-leb 16 (c .agent n .count + 1) (omega (arith, ltb-false 15 (c .agent n .count + 1) (sym f))))
           go j (inr t) = sym (full-else j t)
 
-      pub rest-action : (a : Agent) (f : Set) → a ≡ withAction (getD (d .agents) i noAgent) k m → f ≡ insertedIf full n (ltb 15 (a .count))
+      -- the agent as it is where it has sixteen actions, and else with one more
+      abbrev moreIn : Agent → Agent
+      moreIn x = cond (leb 16 (x .count)) x (withAction x k m)
+
+      pub rest-action : (a : Agent) (f : Set) → a ≡ moreIn (getD (d .agents) i noAgent) → f ≡ insertedIf full n (ltb 15 (a .count))
           → Rest s (at + 5) (newAgent i a (d .given)) f counted came many
       unfolding tableOf addAction loadRecord withAction
       rest-action a f b h = record {
@@ -287,4 +288,4 @@ module _ (s : List ℕ) (at : ℕ) (d : Cell) (full counted : Set) (came : List 
       }
         where
           new : a ≡ withAction (c .agent n) k m
-          new = b ∙ ap (λ (x : Agent). withAction x k m) (agent-at n i l e)
+          new = b ∙ ap moreIn (agent-at n i l e) ∙ ap (λ (t : Bool). cond t (c .agent n) (withAction (c .agent n) k m)) (low-room .1)

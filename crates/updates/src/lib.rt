@@ -1,12 +1,14 @@
-// The small changes and tests that the reader, the stages and the moves share.
+// The small changes and tests that the reader, the parser, the stages and the moves share.
+use table::Action;
 use table::Agent;
 use table::Place;
 ghost use mathlib.Core.Path.{_≡_};
-ghost use mathlib.Core.Bool.{_&&_};
-ghost use lib.Dec.{eqb};
+ghost use mathlib.Core.Bool.{_&&_, cond};
+ghost use lib.Dec.{eqb, leb};
 ghost use lib.ListN.{getD};
 ghost use Rattle.table.specs.Base.{tab};
 ghost use Rattle.meaning.specs.Update.{atStage, withHome};
+ghost use Rattle.meaning.specs.File.{withAction};
 
 // The agent with its stage, remembered and chosen place.
 pub fn at_stage(a: Agent, stage: u8, remembered: u8, chosen: u8) -> Agent
@@ -26,6 +28,23 @@ pub fn with_home(a: Agent, h: u8) -> Agent
     let mut b = a;
     b.home = h;
     b
+}
+
+// The agent with one action more, which it is looking for; as it is where it has sixteen.
+pub fn with_action(g: Agent, kind: u8, name: u16) -> Agent
+    ensures { λ r. ⌜ r ≡ cond (leb 16 (g .count)) g (withAction g kind name) ⌝ }
+{
+    let mut a = g;
+    if g.count < 16 {
+        let j = g.count as usize;
+        a.actions[j] = Action {
+            kind: kind,
+            name: name,
+        };
+        a.count = g.count + 1;
+        a.stage = 0;
+    }
+    a
 }
 
 // The locks once those of p and q are released.

@@ -74,7 +74,7 @@ loop-again-2 c =
     let l = m .before .before .loop in
     rest-written _ (l .i) (l .at) (l .d) (l .b) (l .x) (l .inv) (m .before .loop-test .taken) _ (m .moved .ensures) _ _ _ (k .m .given .1)
     _ _ _ _ _ _ _ _ _ _ _
-    (j .before .before .at .ensures) (j .before .slot-of .ensures) (j .at2 .ensures) (g .before .before .agent-after .ensures)
+    (j .before .before .at .ensures) (j .before .agent-written .ensures) (j .at2 .ensures) (g .before .before .agent-after .ensures)
     (g .gives-agent .ensures) (p .before .before .before .before .insert-if .ensures)
     (p .before .before .at3 .ensures) (p .place-after .ensures) (c .before .before .gives-place .ensures) (c .before .insert-if2 .ensures)
     (c .marks-after .ensures)

@@ -6,7 +6,7 @@ use Prim.Native.Nat.{ℕ, _-_, _<_}
 use lib.ListN.{length}
 use Rattle.meaning.specs.File.{byteAt}
 use Rattle.reader.specs.LoadRest.{Rest, five-bytes, eleven-bytes, rest-all, answer-refused, answer-accepted, answer-empty}
-use Rattle.reader.specs.LoadLaws.{stopped, past-end, ended, finished, has-place, rest-place, rest-touches, rest-agent, rest-action, has-room, short}
+use Rattle.reader.specs.LoadLaws.{stopped, past-end, ended, finished, has-place, rest-place, rest-touches, rest-agent, rest-action, short}
 use Rattle.reader.proofs.Tags.{is-end}
 use Rattle.reader.proofs.load.Statement.{statement}
 use Rattle.reader.proofs.load.Tie as tie
@@ -48,14 +48,6 @@ returns-4 c =
     let l = m .before .before .before .before .loop in
     let t = m .before .before .before .loop-test .taken in
     answer-refused _ _ _ _ (stopped _ (l .at) (l .d) (l .full) (l .counted) (l .came) (l .many) (l .inv) t _ (sym (c .before .r5 .given .1) ∙ m .record-at .ensures))
-
-with-action-requires : tie.Need-with-action-requires Inv-loop μ-loop
-with-action-requires c κs =
-    let m = c .before .before .before .before .before .before .before in
-    let l = m .before .before .before .before .loop in
-    let t = m .before .before .before .loop-test .taken in
-    has-room _ (l .at) (l .d) (l .full) (l .counted) (l .came) (l .many) (l .inv) t _ _ _ _ (sym (c .before .before .before .r3 .given .1) ∙ m .record-at .ensures)
-    (c .before .at2 .ensures)
 
 -- touches
 loop-again : tie.Need-loop-again Inv-loop μ-loop
@@ -122,7 +114,7 @@ load-spec =
     omega (arith, t .loop-test .taken, t .before .before .before .before .before .good))
     (λ c. search needs) loop-again
     -- an action
-    (λ c κs. search needs) (λ c. search needs) (λ c. search needs) with-action-requires (λ c. search needs) (λ c. search needs) (λ c κs. search needs)
+    (λ c κs. search needs) (λ c. search needs) (λ c. search needs) (λ c κs. search needs) (λ c. search needs) (λ c. search needs) (λ c κs. search needs)
     (λ c. let t = c .before .before .before .before .before .before .before .before .before .before .before .before .before in
     omega (arith, t .loop-test .taken, t .before .before .before .before .before .good))
     (λ c. search needs) loop-again-2

@@ -21,11 +21,11 @@ returns-3 c = rw (c .before .struct-known .given .1, c .before .before .enum-tol
 
 returns-4 : tie.Need-returns-4
 unfolding agentAfter
-returns-4 c = rw (c .before .before .e .given .1) (c .more-action .ensures)
+returns-4 c = rw (c .before .before .e .given .1) (c .with-action .ensures)
 
 returns-7 : tie.Need-returns-7
 unfolding agentAfter
-returns-7 c = rw (c .before .before .e2 .given .1) (c .more-action2 .ensures)
+returns-7 c = rw (c .before .before .e2 .given .1) (c .with-action2 .ensures)
 
 pub agent-after-spec : {M : Type 1} → statement M
 unfolding agentAfter
