@@ -17,6 +17,17 @@
 **     answer = keeper_load(&cell, file, length);
 **     if (keeper_refusal(answer) != 0)
 **         printf("refused %s at byte %zu\n", keeper_refusal_text(keeper_refusal(answer)), keeper_offset(answer));
+**
+** or, where the layout was typed by hand (the text's size counts its closing zero byte, which is not part of the line):
+**
+**     static const char line[] = "7[enter 9] | 9[exit 7]";
+**
+**     answer = keeper_read(&cell, (const uint8_t *)line, sizeof line - 1);
+**     if (keeper_refusal(answer) != 0)
+**         printf("%s\n%*s^ %s\n", line, (int)keeper_offset(answer), "", keeper_refusal_text(keeper_refusal(answer)));
+**
+** and then
+**
 **     answer = keeper_step(&cell, agent, wish);
 **     if (keeper_refusal(answer) == 0)
 **         printf("%s, %u woken\n", keeper_word_name(keeper_word(answer)), keeper_woken(answer));
@@ -57,7 +68,7 @@ extern "C" {
 ** call, a word, a refusal. The patch number changes with anything else.
 */
 #define KEEPER_MAJOR 5
-#define KEEPER_MINOR 0
+#define KEEPER_MINOR 1
 #define KEEPER_PATCH 0
 #define KEEPER_VERSION (KEEPER_MAJOR * 65536 + KEEPER_MINOR * 256 + KEEPER_PATCH)
 
@@ -80,7 +91,8 @@ extern "C" {
 #define KEEPER_FILE_LONGEST 6390
 #define KEEPER_FILE_DECIDING 6400
 
-/* The longest listing: with a buffer of this size, keeper_list never answers 12 (proved: crates/lengths, `listing-longest`, `enough-room`). */
+/* The longest listing: with a buffer of this size, keeper_list never answers 12 (proved: crates/lengths, `listing-longest`, `enough-room`).
+** No text that keeper_read accepts is longer (counted and not proved); which refusal a longer one gets, only the whole of it decides. */
 #define KEEPER_LISTING_LONGEST 14177
 
 /* The stack that a call uses, in bytes, at most. This is measured and not proved: host/c/stack.c measures it on the library at hand and
@@ -163,7 +175,8 @@ KEEPER_ASSERT(offsetof(keeper_cell, touches) == 5200 && offsetof(keeper_cell, or
 /* The numbers with which a call is refused. Of a cell file, 3 is for the number that a place record gives, 13 for a parent (of a place) or
 ** home (of an agent), 14 for the number of an agent, in an agent or an action record; of the three the earlier byte in the record decides. A
 ** step for an agent above 63 is 11. Of touches, in a record and in a call, 3 is for a place above 63, and 5 for one that is not there. A
-** place record with keys (kind 6) is tested as one without (kind 1); 6 is for its name alone, and its keys may be any numbers. */
+** place record with keys (kind 6) is tested as one without (kind 1); 6 is for its name alone, and its keys may be any numbers. 16 and 17 are
+** keeper_read's, and it has no others. */
 enum {
     KEEPER_CUT_SHORT = 1,
     KEEPER_UNKNOWN_KIND = 2,
@@ -179,7 +192,9 @@ enum {
     KEEPER_LISTING_TOO_LONG = 12,
     KEEPER_PARENT_TOO_LARGE = 13,
     KEEPER_AGENT_TOO_LARGE = 14,
-    KEEPER_TOO_MANY_TOUCHES = 15
+    KEEPER_TOO_MANY_TOUCHES = 15,
+    KEEPER_OUTSIDE_LANGUAGE = 16,
+    KEEPER_TOO_MANY = 17
 };
 
 /* The words that a step answers. */
@@ -198,9 +213,9 @@ enum {
 
 /*
 ** What a call answers, in one number: bits 0 to 7 are 0, or the number with which the call was refused. The bits above are, for
-** keeper_load, the offset of a refusal; for keeper_step, the word (bits 8 to 15) and the number woken (bits 16 to 23); for keeper_list, the
-** length; for keeper_idle, 1 if all agents are asleep or done; for keeper_touch and keeper_touches, the place's touch count. The functions
-** at the end of this file take it apart.
+** keeper_load and keeper_read, the offset of a refusal; for keeper_step, the word (bits 8 to 15) and the number woken (bits 16 to 23); for
+** keeper_list, the length; for keeper_idle, 1 if all agents are asleep or done; for keeper_touch and keeper_touches, the place's touch
+** count. The functions at the end of this file take it apart.
 */
 typedef uint64_t keeper_answer;
 
@@ -240,11 +255,43 @@ keeper_answer keeper_bare(keeper_cell *cell);
 keeper_answer keeper_load(keeper_cell *cell, const uint8_t *file, size_t len);
 
 /*
+** keeper_read: makes the cell what the text in text[0] to text[length - 1] says, which a person may have typed. A text is one line in the
+** language of the listing (keeper_list):
+**
+**     0                                 a bare floor: nothing on the line. A 0 stands for that alone, never inside a place
+**     7[]                               a place named 7 with nothing in it
+**     9[7[] | 8[]]                      places in a place: parts side by side have a bar between them, with one space on each side of it
+**     7[enter 9.exit 9] | 9[]           an agent in place 7 with two actions, joined by a dot; actions are enter, exit and open
+**     20/20/20/0[]                      a place with its keys for entering, exiting and opening; left off, each of them is the name
+**
+** Numbers are decimal without leading zeros: names and those of actions 1 to 65535, keys 0 to 65535. Parts may stand in any order, agents
+** among places too. There are no other spaces, no line end and no closing zero byte: the length alone says where the text ends, and a host
+** that reads lines leaves their ends off. The pointer is not null, also where length is 0; then nothing is read through it, and the answer
+** is 16 at byte 0, since every text has at least one byte.
+**
+** Places are numbered from 1 and agents from 0 in the order in which their first bytes stand in the text, an outer place before those in
+** it. Touches are 0, and of places under one parent the one that stands first counts as having been there longest. For every other call the
+** cell is one that was loaded. Its listing says the same as the text, in the listing's order: `9[] | 7/7/7/7[]` is listed as `7[] | 9[]`.
+** Every listing can be read, and the listing of what was read has the same bytes.
+**
+** Answers 0 if the text was read. Else the cell is as it was, and keeper_refusal(answer) is
+**
+**     16   the text is not one of the language. keeper_offset(answer) is the first byte that cannot stand there, whatever follows it:
+**          `07[]` at 1, `7[0]` at 2, `65536[]` at 4, `7[] |9[]` at 5, `7[]` with a line end at 3; the text's length where it stops too
+**          early, as `7[` at 2. Show the person the text with a caret under that byte: all bytes before it are right.
+**     17   the text is one of the language and has more than 63 places, more than 64 agents, or an agent with more than sixteen actions;
+**          keeper_offset(answer) is the text's length. The layout does not fit a cell: something has to be left out.
+**
+** A text with both faults is refused with 16. What the cell held before plays no part, so the answer is never 10. The text is only read.
+*/
+keeper_answer keeper_read(keeper_cell *cell, const uint8_t *text, size_t length);
+
+/*
 ** keeper_step: one lock step of an agent. `wish` is the number of the place that an enter or open should choose where several qualify. It
 ** counts in the call in which the agent, holding its first lock, chooses. A wish for a place that does not qualify, or for none, such as
 ** 255, is passed over, and of the places that qualify the one is chosen that has been under its parent longest: first in, first served.
-** Loaded places count in file order. A place that comes is the latest, and so are those that an opening frees, which keep their order.
-** Which places qualify, their keys say (keeper_name).
+** Loaded places count in file order, those of a text in its order. A place that comes is the latest, and so are those that an opening
+** frees, which keep their order. Which places qualify, their keys say (keeper_name).
 **
 ** Answers, in keeper_word(answer), what the agent did, and in keeper_woken(answer) how many sleeping agents that woke:
 **
@@ -286,8 +333,8 @@ keeper_answer keeper_step(keeper_cell *cell, uint8_t agent, uint8_t wish);
 keeper_answer keeper_list(const keeper_cell *cell, uint8_t *text, size_t room);
 
 /*
-** keeper_check: whether the table is sound. A cell that keeper_bare or an accepted keeper_load wrote, and that only keeper_step and
-** keeper_touch have changed since, always is.
+** keeper_check: whether the table is sound. A cell that keeper_bare or an accepted keeper_load or keeper_read wrote, and that only
+** keeper_step and keeper_touch have changed since, always is.
 **
 ** Answers 0 if it is sound; refused with 10 if it is not. The cell is only read.
 */
@@ -321,7 +368,7 @@ keeper_answer keeper_touches(const keeper_cell *cell, uint8_t place);
 /* The number with which the call was refused, or 0. */
 static inline unsigned keeper_refusal(keeper_answer answer) { return (unsigned)(answer & 255); }
 
-/* The offset at which keeper_load refused the file. */
+/* The offset at which keeper_load refused the file, or keeper_read the text. */
 static inline size_t keeper_offset(keeper_answer answer) { return (size_t)(answer >> 8); }
 
 /* The word that keeper_step answers. */
@@ -376,6 +423,8 @@ static inline const char *keeper_refusal_text(unsigned refusal)
     case KEEPER_PARENT_TOO_LARGE: return "parent or home above 63";
     case KEEPER_AGENT_TOO_LARGE: return "agent number above 63";
     case KEEPER_TOO_MANY_TOUCHES: return "more than 1,000,000,000,000 touches in all";
+    case KEEPER_OUTSIDE_LANGUAGE: return "not a text of the listing's language";
+    case KEEPER_TOO_MANY: return "more than 63 places, 64 agents or sixteen actions of one agent";
     default: return "unknown";
     }
 }

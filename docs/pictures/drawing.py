@@ -53,6 +53,13 @@ class Svg:
         self._stroke(f"M {x - 16:g} {y:g} C {x - 30:g} {y + s * 44:g} {x + 30:g} {y + s * 44:g} {x + 16:g} {y + s * 2:g}",
                      colour, 1.8, False, True)
 
+    def curve(self, d, colour=LINE):
+        """A line by its own path, without a head."""
+        self._stroke(d, colour, 1.8, False, False)
+
+    def dot(self, x, y):
+        self.parts.append(f'<circle cx="{x:g}" cy="{y:g}" r="5" fill="{LINE}"/>')
+
     def _stroke(self, d, colour, thick, dashed, head):
         dash = ' stroke-dasharray="6 5"' if dashed else ""
         mark = f' marker-end="url(#head-{colour[1:]})"' if head else ""

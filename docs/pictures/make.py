@@ -8,6 +8,7 @@ import sys
 sys.dont_write_bytecode = True
 
 from drawing import (EDGE, FILL, INK, LINE, LOCK_0, LOCK_1, SOFT, WAY_EDGE, WAY_FILL, Svg, agent, panels, place, spent)
+from railroad import Again, Box, Either, Row, Skip, tracks
 
 
 def cell():
@@ -260,6 +261,27 @@ def stages():
     svg.write("stages.svg")
 
 
+def language():
+    """What may be typed as a layout, as tracks."""
+    number, key, parts = Box("number", typed=False), Box("key", typed=False), Box("parts", typed=False)
+    keys = Row(*[p for _ in range(3) for p in (Box("/"), key)])
+    tracks("language.svg", "The language of layouts",
+           "A layout is 0 or parts. Parts are one part or more, a bar with a space on each side between two of them. A part is an agent or a "
+           "place. A place is a number, three keys with a slash before each or none, and in brackets parts or nothing. An agent is one "
+           "action or more with a full stop between two of them. An action is enter, exit or open, a space and a number. A key is 0 or a "
+           "number. A number is a digit from 1 to 9 and any further digits.", [
+               ("layout", "the whole text", Either(Box("0"), parts)),
+               ("parts", "side by side", Again(Box("part", typed=False), Box("␣|␣"))),
+               ("part", "", Either(Box("agent", typed=False), Box("place", typed=False))),
+               ("place", "its name is a number", Row(number, Either(Skip(), keys), Box("["), Either(parts, Skip()), Box("]"))),
+               ("agent", "its actions in turn", Again(Box("action", typed=False), Box("."))),
+               ("action", "", Row(Either(Box("enter␣"), Box("exit␣"), Box("open␣")), number)),
+               ("key", "0: nobody may", Either(number, Box("0"))),
+               ("number", "1 to 65,535", Row(Box("1 .. 9"), Either(Skip(), Again(Box("0 .. 9"), Skip()))))],
+           ["Yellow: typed as it stands; ␣ is one space, and 1 .. 9 one of these digits.",
+            "Blue: go along the track of that name and come back."])
+
+
 if __name__ == "__main__":
-    for draw in (cell, stages, enter, exit_, open_, touches, served, layouts, rights, example_trees, example_held, example_locks, slips):
+    for draw in (cell, stages, enter, exit_, open_, touches, served, layouts, language, rights, example_trees, example_held, example_locks, slips):
         draw()

@@ -220,9 +220,11 @@ static void texts(void)
     HOLDS(strcmp(keeper_refusal_text(KEEPER_TOO_LARGE), "place number above 63, or 0 in a place record") == 0);
     HOLDS(strcmp(keeper_refusal_text(KEEPER_PARENT_TOO_LARGE), "parent or home above 63") == 0);
     HOLDS(strcmp(keeper_refusal_text(KEEPER_AGENT_TOO_LARGE), "agent number above 63") == 0);
-    for (unsigned refusal = 1; refusal <= 15; refusal++)
+    HOLDS(strcmp(keeper_refusal_text(KEEPER_OUTSIDE_LANGUAGE), "not a text of the listing's language") == 0);
+    HOLDS(strcmp(keeper_refusal_text(KEEPER_TOO_MANY), "more than 63 places, 64 agents or sixteen actions of one agent") == 0);
+    for (unsigned refusal = 1; refusal <= 17; refusal++)
         HOLDS(strcmp(keeper_refusal_text(refusal), "unknown") != 0);
-    HOLDS(strcmp(keeper_refusal_text(0), "unknown") == 0 && strcmp(keeper_refusal_text(16), "unknown") == 0);
+    HOLDS(strcmp(keeper_refusal_text(0), "unknown") == 0 && strcmp(keeper_refusal_text(18), "unknown") == 0);
     HOLDS(strcmp(keeper_word_name(8), "unknown") == 0);
 }
 

@@ -18,6 +18,10 @@ int main()
     const keeper_answer answer = keeper_list(&cell, text, sizeof text);
     if (keeper_refusal(answer) != 0 || keeper_length(answer) != 3 || std::memcmp(text, "7[]", 3) != 0)
         return 1;
+    if (keeper_read(&cell, reinterpret_cast<const uint8_t *>("7[0]"), 4) != (2 << 8 | KEEPER_OUTSIDE_LANGUAGE))
+        return 1;
+    if (keeper_read(&cell, text, 3) != 0)
+        return 1;
     const keeper_name &name = cell.places[1].name;
     if (name.name != 7 || name.entering != 7 || name.exiting != 7 || name.opening != 7)
         return 1;

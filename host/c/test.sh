@@ -1,6 +1,6 @@
 #!/bin/sh
-# Runs the example host, with and without sanitizers, on the worked example and on absent, empty, refused and odd files and on files that
-# cannot be read; then the other tests.
+# Runs the example host, with and without sanitizers, on the worked example and on absent, empty, refused and odd files, on typed layouts and
+# on files that cannot be read; then the other tests.
 set -eu
 folder=$(mktemp -d)
 trap 'rm -rf "$folder"' EXIT
@@ -14,6 +14,23 @@ case_of() {
     printf "$4" > "$folder/expected"
     for program in target/walk target/walk-sanitized; do
         "$program" "$folder/cell" "$folder/order" > "$folder/printed"
+        if ! cmp -s "$folder/expected" "$folder/printed"; then
+            echo "$1: $program printed"
+            cat "$folder/printed"
+            exit 1
+        fi
+        passed=$((passed + 1))
+    done
+}
+
+# typed_of NAME TEXT ORDER EXPECTED: the same of a layout that was typed.
+typed_of() {
+    rm -f "$folder/text" "$folder/order"
+    [ "$2" = - ] || printf "$2" > "$folder/text"
+    [ "$3" = - ] || printf "$3" > "$folder/order"
+    printf "$4" > "$folder/expected"
+    for program in target/walk target/walk-sanitized; do
+        "$program" --text "$folder/text" "$folder/order" > "$folder/printed"
         if ! cmp -s "$folder/expected" "$folder/printed"; then
             echo "$1: $program printed"
             cat "$folder/printed"
@@ -60,6 +77,46 @@ case_of 'by text and not by number' '\001\001\000\011\000\001\002\001\007\000\00
     '\000\377\000\377\000\377\000\377' 'start 9[7[exit 9]]\n0 looked 0\n0 took 0\n0 took 0\n0 left 0\nend 7[] | 9[]\n'
 case_of 'action of agent 64' '\002\000\000\003\100\001\007\000\004' "$order" 'refused 14 3\n'
 
+typed='7[enter 9] | 9[exit 7]'
+for end in '' '\n' '\r\n'; do
+    typed_of 'typed worked example' "$typed$end" "$order" "start $typed\n${lines}end 9[exit 7 | 7[]]\n"
+done
+typed_of 'typed in another order' '9[] | 7/7/7/7[] | open 9' - 'start open 9 | 7[] | 9[]\nend open 9 | 7[] | 9[]\n'
+typed_of 'typed bare floor' '0\n' "$order" "start 0\n${nobody}end 0\n"
+typed_of 'absent text' - "$order" 'refused 16 0\n\n^\n'
+typed_of 'empty text' '' "$order" 'refused 16 0\n\n^\n'
+typed_of 'empty line' '\r\n' "$order" 'refused 16 0\n\n^\n'
+typed_of 'leading zero' '07[]\n' "$order" 'refused 16 1\n07[]\n ^\n'
+typed_of '0 in a place' '7[0]' "$order" 'refused 16 2\n7[0]\n  ^\n'
+typed_of 'too large a name' '65536[]' "$order" 'refused 16 4\n65536[]\n    ^\n'
+typed_of 'action number 0' 'enter 0' "$order" 'refused 16 6\nenter 0\n      ^\n'
+typed_of 'one key' '7/0[]' "$order" 'refused 16 3\n7/0[]\n   ^\n'
+typed_of 'a text that stops early' '7[7[]\n' "$order" 'refused 16 5\n7[7[]\n     ^\n'
+typed_of 'two lines' '7[]\n7[]\n' "$order" 'refused 16 3\n7[]?7[]\n   ^\n'
+typed_of 'what cannot be printed' '7[\377\177]' "$order" 'refused 16 2\n7[??]\n  ^\n'
+ten='1[2[3[4[5[' # 10 bytes
+forty="$ten$ten$ten$ten"
+under='                                        ^' # after 40 spaces
+typed_of 'a text of 72 bytes' "$forty $ten$ten$ten]" "$order" "refused 16 40\n$forty $ten$ten$ten]\n$under\n"
+typed_of 'a long text' "$ten$forty $forty$forty" "$order" "refused 16 50\n$forty ${ten}${ten}${ten}1\n$under\n"
+typed_of 'a long text that stops early' "$ten$forty$forty" "$order" "refused 16 90\n$forty\n$under\n"
+many=$(awk 'BEGIN { for (i = 0; i < 64; i++) printf "7[%s", i < 63 ? "] | " : "]" }')
+typed_of 'too many places' "$many" "$order" "refused 17 $((64 * 6 - 3))\n$(printf '%s' "$many" | tail -c 40)\n$under\n"
+
+# a typed text that cannot be read, or is too long to be read whole, is not run
+awk 'BEGIN { for (i = 0; i < 65536; i++) printf "[" }' > "$folder/long"
+for program in target/walk target/walk-sanitized; do
+    for path in "$folder" "$folder/long"; do
+        status=0
+        "$program" --text "$path" "$folder/order" > "$folder/printed" 2> "$folder/said" || status=$?
+        if [ "$status" -ne 1 ] || [ -s "$folder/printed" ] || [ ! -s "$folder/said" ]; then
+            echo "$program --text $path ended with $status"
+            exit 1
+        fi
+        passed=$((passed + 1))
+    done
+done
+
 # a file that is there and cannot be read does not pass for an empty one: a folder, and a path through a file
 printf "$cell" > "$folder/cell"
 printf "$order" > "$folder/order"
@@ -84,7 +141,7 @@ if [ "$status" -ne 1 ] || [ -s "$folder/printed" ]; then
 fi
 passed=$((passed + 1))
 
-for program in calls calls-sanitized served served-sanitized keys keys-sanitized layouts layouts-sanitized header; do
+for program in calls calls-sanitized served served-sanitized keys keys-sanitized layouts layouts-sanitized texts texts-sanitized header; do
     printf '%s: ' "$program"
     "target/$program"
     passed=$((passed + 1))

@@ -13,7 +13,7 @@ use Rattle.meaning.specs.Text.{overlay}
 use Rattle.meaning.specs.Report.{report}
 use Rattle.text.specs.Wrote.{Wrote, least}
 use Rattle.lengths.specs.Longest.{decidingBytes, longestReport}
-use Rattle.lengths.specs.ReportLength.{report-longest, report-whole}
+use Rattle.lengths.specs.ReportLength.{report-longest, text-whole}
 use Rattle.lengths.specs.Prefix.{report-prefix}
 use Rattle.buffers.specs.Held.{Bytes, Holds, Whole}
 
@@ -27,7 +27,7 @@ taken i n s e = go (told (ltb n (length s)))
     go (nay q) = let r : i ≡ length s = e ∙ rw q in take-all i s (omega arith) ∙ sym (take-all n s (ltb-false n (length s) q))
 
 -- the bytes that were read are the file's first, as many as the buffer has room for
-held-start : (file buffer : List ℕ) (n : ℕ) → Holds file buffer n → take n buffer ≡ take (length buffer) file
+pub held-start : (file buffer : List ℕ) (n : ℕ) → Holds file buffer n → take n buffer ≡ take (length buffer) file
 held-start file buffer n h = h .bytes ∙ go (told (ltb (length file) (length buffer)))
   where
     go : Told (ltb (length file) (length buffer)) → take n file ≡ take (length buffer) file
@@ -36,7 +36,7 @@ held-start file buffer n h = h .bytes ∙ go (told (ltb (length file) (length bu
     go (nay e) = let q : n ≡ length buffer = h .count ∙ unfold least in rw e in ap (λ (k : ℕ). take k file) q
 
 -- the first of some bytes are bytes
-bytes-taken : (s : List ℕ) (m : ℕ) → Bytes s → Bytes (take m s)
+pub bytes-taken : (s : List ℕ) (m : ℕ) → Bytes s → Bytes (take m s)
 bytes-taken s zero b j = lit< tt
 bytes-taken [] (suc m) b j = lit< tt
 bytes-taken (x ∷ s) (suc m) b zero = b zero
@@ -49,30 +49,33 @@ over-fits [] b l = refl
 over-fits (x ∷ t) [] l = absurd (not-suc-le-zero l)
 over-fits (x ∷ t) (y ∷ b) l = ap (λ (s : List ℕ). x ∷ s) (over-fits t b (le-of-suc-le-suc l))
 
--- with room for the longest report the report of what was read is written whole
-pub read-whole : (cell order before after : List ℕ) (n m answer : ℕ) → Bytes order → longestReport ≤ length before
-    → Wrote (report (take n cell) (take m order)) 0 before after answer → Whole (report (take n cell) (take m order)) before after answer
-read-whole cell order before after n m answer bytes room w = record {
+-- with room for the longest report a text that is not longer is written whole
+pub fitting-whole : {text before after : List ℕ} {answer : ℕ} → length text ≤ longestReport → longestReport ≤ length before
+    → Wrote text 0 before after answer → Whole text before after answer
+fitting-whole {text} {before} {after} {answer} short room w = record {
   count = count;
-  bytes = w .text ∙ over-fits text before (omega (arith, short)) ∙ ap (λ (k : ℕ). text ++ drop k before) (sym count);
+  bytes = w .text ∙ over-fits text before (omega arith) ∙ ap (λ (k : ℕ). text ++ drop k before) (sym count);
 }
   where
-    text : List ℕ
-    text = report (take n cell) (take m order)
-
-    short : length text ≤ longestReport
-    short = report-longest (take n cell) (take m order) (bytes-taken order m bytes)
-
     count : answer ≡ length text
-    count = report-whole (take n cell) (take m order) before after answer (bytes-taken order m bytes) room w .0
+    count = text-whole text before after answer short room w .0
+
+-- what stands whole at a buffer's start is what is found there
+pub whole-start : {text before after : List ℕ} {answer : ℕ} → Whole text before after answer → take answer after ≡ text
+whole-start {text} {before} {after} {answer} w = ap₂ take (w .count) (w .bytes) ∙ take-append-seam text (drop answer before)
+
+-- so the report of what was read is
+pub read-whole : (cell order before after : List ℕ) (n m answer : ℕ) → Bytes order → longestReport ≤ length before
+    → Wrote (report (take n cell) (take m order)) 0 before after answer → Whole (report (take n cell) (take m order)) before after answer
+read-whole cell order before after n m answer bytes room w =
+    fitting-whole (report-longest (take n cell) (take m order) (bytes-taken order m bytes)) room w
 
 -- and it is the report of every cell file and every order of which the buffers hold the first bytes
 pub files-whole : (cell order before after : List ℕ) (n m answer : ℕ) → decidingBytes ≤ length cell → 32768 ≤ length order
     → Whole (report (take n cell) (take m order)) before after answer
     → (file pairs : List ℕ) → Holds file cell n → Holds pairs order m → take answer after ≡ report file pairs
 files-whole cell order before after n m answer wide long w file pairs h k =
-    ap₂ take (w .count) (w .bytes) ∙ take-append-seam (report (take n cell) (take m order)) (drop answer before)
-    ∙ ap₂ report (held-start file cell n h) (held-start pairs order m k) ∙ report-prefix file pairs (length cell) (length order) wide long
+    whole-start w ∙ ap₂ report (held-start file cell n h) (held-start pairs order m k) ∙ report-prefix file pairs (length cell) (length order) wide long
 
 -- the answer counts bytes of the buffer
 pub whole-within : (text before after : List ℕ) (answer : ℕ) → Whole text before after answer → answer ≤ length after

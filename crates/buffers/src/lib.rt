@@ -1,5 +1,8 @@
 // The report of the files of which walk's buffers hold the first bytes. Nothing that was not read could change it, and none of
 // it is cut.
+mod typed;
+
+pub use typed::write_typed;
 ghost use mathlib.Core.Path.{_≡_};
 ghost use mathlib.Core.List.{List};
 ghost use Prim.Native.Nat.{ℕ};
@@ -13,6 +16,9 @@ pub const CELL_BYTES: usize = 8192;
 
 // How many bytes walk reads of an order: its 16,384 pairs.
 pub const ORDER_BYTES: usize = 32768;
+
+// How much room walk has for a file with a typed layout. It is read whole or not at all: one that fills the room is too long.
+pub const TYPED_BYTES: usize = 65536;
 
 // How much room walk has for a report. None is longer than 312,406 bytes.
 pub const TEXT_BYTES: usize = 524288;

@@ -1,142 +1,49 @@
--- Demand 1: on every table, file, agent, wish and buffer, each call is refused only with its numbers, each exactly under its condition, and a
+-- Demand 1: on every table, file, text, agent, wish and buffer, each call is refused only with its numbers, each exactly under its condition, and a
 -- refusal changes nothing.
--- Idea: a call on a table is a row of tests with a refusal in one arm each; a load's number is that of the record at which it stops.
+-- Idea: a call on a table is a row of tests with a refusal in one arm each; RefusedLoads has a load's numbers, RefusedReading the conditions of
+-- the reading of a text.
 use mathlib.Core.Path.{_≡_, refl, ap, subst}
-use mathlib.Core.Bool.{Bool, true, false, cond}
-use mathlib.Core.List.{List}
-use Prim.Native.Nat.{ℕ, zero, suc, _+_, _-_, _≤_, _<_, zero-le}
+use mathlib.Core.Bool.{true}
+use Prim.Native.Nat.{ℕ, _+_, _≤_, zero-le}
+use native.Mathlib.Nat.{le-refl}
 use native.Mathlib.Omega.{arith}
-use lib.Dec.{ltb, leb, eqb}
+use lib.Dec.{leb}
 use lib.ListN.{length}
-use borrow.Author.Tests.{ltb-true, leb-true, leb-false, le-leb, lt-leb}
+use borrow.Author.Tests.{leb-true, leb-false, le-leb, lt-leb}
 use Rattle.table.specs.BaseLaws.{Told, yea, nay, told}
-use Rattle.table.specs.Cell.{State, cellOf, lastKind}
+use Rattle.table.specs.Cell.{cellOf}
 use Rattle.table.specs.Sound.{touchSum, mostTouches, sound}
 use Rattle.table.specs.Idle.{idle}
-use Rattle.table.specs.declared.Name.{Name}
 use Rattle.table.specs.declared.Cell.{Cell}
-use Rattle.meaning.specs.declared.Record.{Record}
-use Rattle.meaning.specs.declared.Record.the-variants.{PlaceRecord, AgentRecord, ActionRecord, EndRecord, TouchRecord, Faulty}
 use Rattle.meaning.specs.declared.Verdict.the-variants.{Rejected}
 use Rattle.meaning.specs.declared.Answer.the-variants.{Refused}
 use Rattle.meaning.specs.declared.Listed.the-variants.{Unlisted}
 use Rattle.meaning.specs.declared.Touching.the-variants.{Untouched}
 use Rattle.meaning.specs.declared.Checked.the-variants.{Unsound}
 use Rattle.meaning.specs.declared.Idled.the-variants.{Unknown}
-use Rattle.meaning.specs.Refusals.{cutShort, unknownKind, placeTooLarge, parentTooLarge, agentTooLarge, givenTwice, notYetGiven}
-use Rattle.meaning.specs.Refusals.{nameZero, wrongKind, seventeenth, afterEnd}
-use Rattle.meaning.specs.Refusals.{unsoundTable, noSuchAgent, tooLong, tooManyTouches}
-use Rattle.meaning.specs.File.{byteAt, placeRecord, agentRecord, actionRecord, touchRecord, givesPlace, placeLength, Known, recordAt}
-use Rattle.meaning.specs.File.{Progress, knownIn, bareProgress, Load, accepted, refused, loadRecord, loadFrom, load, loaded, loadOf}
-use Rattle.meaning.specs.FileLaws.{load-either, refused-keeps}
+use Rattle.meaning.specs.Refusals.{placeTooLarge, notYetGiven, unsoundTable, noSuchAgent, tooLong, tooManyTouches}
+use Rattle.meaning.specs.File.{Load, accepted, refused, load, loaded, loadOf}
+use Rattle.meaning.specs.FileLaws.{refused-keeps}
 use Rattle.meaning.specs.Run.{made, turnedAway, stepOf}
 use Rattle.meaning.specs.Touch.{counted, untouched, touchOf, touchesOf}
 use Rattle.meaning.specs.Listing.{listing, listAnswer, listBuffer}
 use Rattle.meaning.specs.Codes.{checkOf, idleOf}
-use Rattle.demands.specs.Refusals.{KeeperCall, step-call, list-call, touch-call, touches-call, check-call, idle-call, ofFile, mayAnswer, before, after, RefusedRightly}
-use Rattle.demands.specs.Refusals.{Refuses, load-refused, step-refused, list-refused, touch-refused, touches-refused, check-refused, idle-refused}
-use Rattle.demands.specs.Refusals.{Grounds, in-the-file, step-10, step-11, list-10, list-12, check-10, idle-10}
+use Rattle.language.specs.Read.{readText, readOf}
+use Rattle.language.specs.Answers.{read-outside}
+use Rattle.demands.specs.Refusals.{KeeperCall, step-call, list-call, touch-call, touches-call, check-call, idle-call, mayAnswer, before, after, RefusedRightly}
+use Rattle.demands.specs.Refusals.{Refuses, load-refused, read-refused, step-refused, list-refused, touch-refused, touches-refused, check-refused, idle-refused}
+use Rattle.demands.specs.Refusals.{Grounds, in-the-file, read-16, read-17, step-10, step-11, list-10, list-12, check-10, idle-10}
 use Rattle.demands.specs.Refusals.{touch-10, touch-3, touch-5, touch-15, touches-10, touches-3, touches-5}
+use Rattle.demands.specs.RefusedLoads.{load-refused-with}
+use Rattle.demands.specs.RefusedReading.{reading-grounds, overfull-text}
 
 -- two answers of different kinds are not equal: `cc` finds this equation then
 never : {A : Type 0} → _≡_ {A = ℕ} 0 1 → A
 never e = absurd (omega arith)
 
--- ---- a load's number and offset
-
--- a record is refused with a number of a load
-data Numbered : Record → Type 0 where
-  place : {number parent : ℕ} {name : Name} → Numbered (PlaceRecord number parent name)
-  agent : {number home : ℕ} → Numbered (AgentRecord number home)
-  action : {agent kind name : ℕ} → Numbered (ActionRecord agent kind name)
-  end : Numbered EndRecord
-  touch : {place touches : ℕ} → Numbered (TouchRecord place touches)
-  fault : (number : ℕ) → ofFile number ≡ true → Numbered (Faulty number)
-
--- a test with such a record in both arms
-either : (b : Bool) {x y : Record} → Numbered x → Numbered y → Numbered (cond b x y)
-either true f g = f
-either false f g = g
-
--- a test with a refusal in the first arm
-unless : (b : Bool) (number : ℕ) {y : Record} → ofFile number ≡ true → Numbered y → Numbered (cond b (Faulty number) y)
-unless b number e g = either b (fault number e) g
-
-place-number : (taken known : Bool) (number parent : ℕ) (name : Name) → Numbered (placeRecord taken known number parent name)
-unfolding placeRecord
-place-number taken known n p m = unless (ltb n 1) placeTooLarge refl (unless (leb 64 n) placeTooLarge refl
-    (unless (leb 64 p) parentTooLarge refl (unless taken givenTwice refl
-    (either known (unless (ltb (m .name) 1) nameZero refl place) (fault notYetGiven refl)))))
-
-agent-number : (taken known : Bool) (number home : ℕ) → Numbered (agentRecord taken known number home)
-unfolding agentRecord
-agent-number taken known n h = unless (leb 64 n) agentTooLarge refl (unless (leb 64 h) parentTooLarge refl (unless taken givenTwice refl
-    (either known agent (fault notYetGiven refl))))
-
-action-number : (known full : Bool) (agent kind name : ℕ) → Numbered (actionRecord known full agent kind name)
-unfolding actionRecord
-action-number known full n k m = unless (leb 64 n) agentTooLarge refl (either known (unless (ltb k 1) wrongKind refl
-    (unless (ltb lastKind k) wrongKind refl (unless (ltb m 1) nameZero refl (unless full seventeenth refl action)))) (fault notYetGiven refl))
-
-touch-number : (taken known : Bool) (place touches : ℕ) → Numbered (touchRecord taken known place touches)
-unfolding touchRecord
-touch-number taken known q n = unless (leb 64 q) placeTooLarge refl (unless taken givenTwice refl (either known touch (fault notYetGiven refl)))
-
-record-number : (k : Known) (s : List ℕ) (at : ℕ) → Numbered (recordAt k s at)
-unfolding recordAt
-record-number k s at =
-    either (givesPlace (byteAt s at)) (unless (ltb (length s - at) (placeLength (byteAt s at))) cutShort refl (place-number _ _ _ _ _))
-    (either (eqb (byteAt s at) 2) (unless (ltb (length s - at) 3) cutShort refl (agent-number _ _ _ _))
-    (either (eqb (byteAt s at) 3) (unless (ltb (length s - at) 5) cutShort refl (action-number _ _ _ _ _))
-    (either (eqb (byteAt s at) 4) end
-    (either (eqb (byteAt s at) 5) (unless (ltb (length s - at) 6) cutShort refl (touch-number _ _ _ _)) (fault unknownKind refl)))))
-
-module _ (s : List ℕ) where
-  -- a load is refused with one of its numbers and an offset within the file
-  data Fair : Load → Type 0 where
-    taken : {c : State} → Fair (accepted c)
-    turned : (number offset : ℕ) → ofFile number ≡ true → offset ≤ length s → Fair (refused number offset)
-
-  cut-short : Fair (refused cutShort (length s))
-  cut-short = turned cutShort (length s) refl (omega arith)
-
-  fair-record : (rest : Progress → ℕ → Load) → ((d : Progress) (next : ℕ) → Fair (rest d next)) → (c : Progress) (at : ℕ) → at < length s
-      → {r : Record} → Numbered r → Fair (loadRecord rest c s at r)
-  unfolding loadRecord
-  fair-record rest f c at l place = f _ _
-  fair-record rest f c at l agent = f _ _
-  fair-record rest f c at l action = f _ _
-  fair-record rest f c at l touch = f _ _
-  fair-record rest f c at l end = go (told (ltb (at + 1) (length s)))
-    where
-      go : Told (ltb (at + 1) (length s)) → Fair (cond (ltb (at + 1) (length s)) (refused afterEnd (at + 1)) (accepted (c .cell)))
-      go (yea t) = rw t (turned afterEnd (at + 1) refl (omega arith))
-      go (nay t) = rw t taken
-  fair-record rest f c at l (fault number e) = turned number at e (omega arith)
-
-  fair-from : (turns : ℕ) (c : Progress) (at : ℕ) → Fair (loadFrom turns c s at)
-  unfolding loadFrom
-  fair-from zero c at = cut-short
-  fair-from (suc turns) c at = go (told (ltb at (length s))) (λ d next. fair-from turns d next)
-    where
-      go : Told (ltb at (length s)) → ((d : Progress) (next : ℕ) → Fair (loadFrom turns d s next)) → Fair (loadFrom (suc turns) c s at)
-      go (yea t) f = rw t (fair-record _ f c at (ltb-true _ _ t) (record-number (knownIn c) s at))
-      go (nay t) f = rw t cut-short
-
-  fair-load : Fair (load s)
-  fair-load = load-either s Fair (λ _. taken) (fair-from (suc (length s)) bareProgress 0)
-
-  -- what that says of a refused load
-  fair-number : {l : Load} {number offset : ℕ} → Fair l → l ≡ refused number offset
-      → (ofFile number ≡ true) × (offset ≤ length s)
-  fair-number taken e = never (cc)
-  fair-number {number} {offset} (turned n o one l) e =
-      let p : n ≡ number = cc in
-      let q : o ≡ offset = cc in
-      (subst (λ (k : ℕ). ofFile k ≡ true) p one, omega arith)
-
 -- ---- each number exactly under its condition
 
+-- what a load or a reading rejects, it refused
 load-grounds : (t : Cell) (l : Load) (number offset : ℕ) → loaded t l .verdict ≡ Rejected number offset → l ≡ refused number offset
 unfolding loaded
 load-grounds t (accepted c) number offset e = never (cc)
@@ -148,8 +55,9 @@ of {k} e g = subst (λ (n : ℕ). Grounds k n 0) e g
 
 -- from the answer to the condition
 refused-grounds : {k : KeeperCall} {number offset : ℕ} → Refuses k number offset → Grounds k number offset
-unfolding loadOf stepOf made turnedAway listAnswer touchOf counted untouched touchesOf checkOf idleOf
+unfolding loadOf readOf stepOf made turnedAway listAnswer touchOf counted untouched touchesOf checkOf idleOf
 refused-grounds (load-refused {t} {file} {number} {offset} e) = in-the-file (load-grounds t (load file) number offset e)
+refused-grounds (read-refused {t} {text} {number} {offset} e) = reading-grounds t text number offset (load-grounds t (readText text) number offset e)
 refused-grounds (step-refused {t} {agent} {wish} {number} e) = go (told (sound (cellOf t))) (told (cellOf t .given agent))
   where
     go : Told (sound (cellOf t)) → Told (cellOf t .given agent) → Grounds (step-call t agent wish) number 0
@@ -194,8 +102,10 @@ refused-grounds (idle-refused {t} {number} e) = go (told (sound (cellOf t))) (to
 
 -- and from the condition to the answer
 grounds-refused : {k : KeeperCall} {number offset : ℕ} → Grounds k number offset → Refuses k number offset
-unfolding loadOf loaded stepOf turnedAway listAnswer touchOf untouched touchesOf checkOf idleOf
+unfolding loadOf readOf loaded stepOf turnedAway listAnswer touchOf untouched touchesOf checkOf idleOf
 grounds-refused (in-the-file {t} e) = load-refused (ap (λ (l : Load). loaded t l .verdict) e)
+grounds-refused (read-16 {t} {text} {offset} b l) = read-refused (ap (λ (r : Load). loaded t r .verdict) (read-outside text offset b l))
+grounds-refused (read-17 {t} {text} c q f) = read-refused (ap (λ (r : Load). loaded t r .verdict) (overfull-text text c q f))
 grounds-refused (step-10 {t} {agent} {wish} s) = let e : stepOf t agent wish .answer ≡ Refused unsoundTable = rw s in step-refused e
 grounds-refused (step-11 {t} {agent} {wish} s g) = let e : stepOf t agent wish .answer ≡ Refused noSuchAgent = rw (s, g) in step-refused e
 grounds-refused (list-10 {t} {buffer} s) = let e : listAnswer (cellOf t) buffer ≡ Unlisted unsoundTable = rw s in list-refused e
@@ -220,7 +130,9 @@ grounds-refused (idle-10 {t} s) = let e : idleOf t ≡ Unknown unsoundTable = rw
 -- ---- what follows from the condition
 
 grounds-number : {k : KeeperCall} {number offset : ℕ} → Grounds k number offset → mayAnswer k number ≡ true
-grounds-number (in-the-file {t} {file} e) = fair-number file (fair-load file) e .0
+grounds-number (in-the-file {t} {file} {number} {offset} e) = load-refused-with file number offset e .0
+grounds-number (read-16 b l) = refl
+grounds-number (read-17 c q f) = refl
 grounds-number (step-10 s) = refl
 grounds-number (step-11 s g) = refl
 grounds-number (list-10 s) = refl
@@ -236,7 +148,9 @@ grounds-number (check-10 s) = refl
 grounds-number (idle-10 s) = refl
 
 grounds-within : {k : KeeperCall} {number offset : ℕ} → Grounds k number offset → offset ≤ length (before k .bytes)
-grounds-within (in-the-file {t} {file} e) = fair-number file (fair-load file) e .1
+grounds-within (in-the-file {t} {file} {number} {offset} e) = load-refused-with file number offset e .1
+grounds-within (read-16 b l) = l .within
+grounds-within (read-17 {t} {text} c q f) = le-refl (length text)
 grounds-within (step-10 s) = zero-le
 grounds-within (step-11 s g) = zero-le
 grounds-within (list-10 s) = zero-le
@@ -252,8 +166,10 @@ grounds-within (check-10 s) = zero-le
 grounds-within (idle-10 s) = zero-le
 
 grounds-keep : {k : KeeperCall} {number offset : ℕ} → Grounds k number offset → after k ≡ before k
-unfolding stepOf turnedAway listBuffer touchOf untouched
+unfolding readOf loaded stepOf turnedAway listBuffer touchOf untouched
 grounds-keep (in-the-file {t} {file} {number} {offset} e) = rw (refused-keeps t file number offset e)
+grounds-keep (read-16 {t} {text} {offset} b l) = rw (read-outside text offset b l)
+grounds-keep (read-17 {t} {text} c q f) = rw (overfull-text text c q f)
 grounds-keep (step-10 s) = rw s
 grounds-keep (step-11 s g) = rw (s, g)
 grounds-keep (list-10 s) = rw s

@@ -18,6 +18,9 @@ pub mod NoMoreLaws
 pub mod TouchTotalLaws
 pub mod FirstComeLaws
 pub mod SameListingsLaws
+-- the refusals of a load and of the reading of a text
+pub mod RefusedLoads
+pub mod RefusedReading
 -- the invariant and the ways a step can go
 pub mod Reading
 pub mod ReadingLaws

@@ -1,4 +1,4 @@
--- What program `walk` prints of an accepted file, in words of the plain tree (document 01, "The listing" and "The plain tree"). Definitions only.
+-- What program `walk` prints of a loaded cell, in words of the plain tree (document 01, "The listing" and "The plain tree"). Definitions only.
 use mathlib.Core.List.{List, [], _∷_, _++_}
 use Prim.Native.Nat.{ℕ}
 use Rattle.table.specs.Base.{tab}
@@ -32,7 +32,7 @@ stepLines [] answers = []
 stepLines (k ∷ calls) [] = []
 stepLines (k ∷ calls) (a ∷ answers) = replyLine k a ++ stepLines calls answers
 
--- of the cell c that a file gives and a list of calls: the loaded tree, the answers, and the plain tree after the calls
+-- of a loaded cell c, whether a file or a text gave it, and a list of calls: the loaded tree, the answers, and the plain tree after the calls
 unfoldable pub printedOf : State → List Call → List ℕ
 unfolding tab
 printedOf c calls =

@@ -1,5 +1,5 @@
--- What `walk` prints, over every file and every order: of an accepted file the loaded tree, a line for each call with what it answered, and the
--- plain tree after the calls; of a refused one its number and offset.
+-- What `walk` prints, over every cell as a load leaves it and every order: the loaded tree, a line for each call with what it answered, and the
+-- plain tree after the calls. So it is of every accepted file; of a refused one its number and offset.
 -- Idea: the report goes over the calls as the answers and the run do; the two listings are those of the trees.
 use mathlib.Core.Path.{_≡_, refl, sym, ap, ap₂, _∙_}
 use mathlib.Core.List.{List, [], _∷_, _++_, append-assoc}
@@ -42,8 +42,8 @@ tree-line : (word : List ℕ) (c : State) → listingLine word c ≡ treeLine wo
 unfolding listingLine treeLine tab
 tree-line word c = rw (tree-listing c)
 
--- from a fresh cell: the report of its table
-fresh-printed : (c : State) → Fresh c → (pairs : List Pair) → reportOf (accepted c) pairs ≡ printedOf c (pairCalls pairs)
+-- of a fresh cell: the report of its table
+pub fresh-printed : (c : State) → Fresh c → (pairs : List Pair) → reportOf (accepted c) pairs ≡ printedOf c (pairCalls pairs)
 unfolding reportOf printedOf
 fresh-printed c f pairs = ap₂ _++_ first
     (report-lines (tableOf c) pairs ∙ ap (λ (s : List ℕ). stepLines (pairCalls pairs) (answered c (pairCalls pairs)) ++ s) last)

@@ -1,5 +1,5 @@
--- What demand 1 claims of every call of the keeper (document 01, "Turned-away calls"): which numbers it may be refused with, when, and that a
--- refusal changes nothing. A call more is one line more in each of these definitions. Definitions only.
+-- What demand 1 claims of every call of the keeper (document 01, "Turned-away calls"; document 02, W8): which numbers it may be refused with,
+-- when, and that a refusal changes nothing. A call more is one line more in each of these definitions. Definitions only.
 use mathlib.Core.Path.{_≡_}
 use mathlib.Core.Logic.{_↔_}
 use mathlib.Core.Bool.{Bool, true, false, _&&_, _||_}
@@ -17,17 +17,23 @@ use Rattle.meaning.specs.declared.Touching.the-variants.{Untouched}
 use Rattle.meaning.specs.declared.Checked.the-variants.{Unsound}
 use Rattle.meaning.specs.declared.Idled.the-variants.{Unknown}
 use Rattle.meaning.specs.Refusals.{cutShort, afterEnd, placeTooLarge, notYetGiven, parentTooLarge, agentTooLarge, unsoundTable, noSuchAgent, tooLong, tooManyTouches}
+use Rattle.meaning.specs.Refusals.{outsideLanguage, tooMany}
 use Rattle.meaning.specs.File.{refused, load, loadOf}
 use Rattle.meaning.specs.Run.{stepOf}
 use Rattle.meaning.specs.Touch.{touchOf, touchesOf}
 use Rattle.meaning.specs.Listing.{listing, listAnswer, listBuffer}
 use Rattle.meaning.specs.Codes.{checkOf, idleOf}
+use Rattle.language.specs.Grammar.{Text, Contents, floorTyped, Belongs}
+use Rattle.language.specs.Layout.{fits}
+use Rattle.language.specs.Prefixes.{LongestViable}
+use Rattle.language.specs.Read.{readOf}
 
 -- ---- the calls
 
--- a call with what it is given: a table with anything in it; a file, an agent and a wish, a buffer, a place and a number, or a place
+-- a call with what it is given: a table with anything in it; a file, a text, an agent and a wish, a buffer, a place and a number, or a place
 pub data KeeperCall : Type 0 where
   load-call : Cell → List ℕ → KeeperCall
+  read-call : Cell → Text → KeeperCall
   step-call : Cell → ℕ → ℕ → KeeperCall
   list-call : Cell → List ℕ → KeeperCall
   touch-call : Cell → ℕ → ℕ → KeeperCall
@@ -35,10 +41,12 @@ pub data KeeperCall : Type 0 where
   check-call : Cell → KeeperCall
   idle-call : Cell → KeeperCall
 
--- it is refused with a number; a load answers an offset too, the other calls none (0)
+-- it is refused with a number; a load and the reading of a text answer an offset too, the other calls none (0)
 pub data Refuses : KeeperCall → ℕ → ℕ → Type 0 where
   load-refused : {t : Cell} {file : List ℕ} {number offset : ℕ} → loadOf t file .verdict ≡ Rejected number offset
       → Refuses (load-call t file) number offset
+  read-refused : {t : Cell} {text : Text} {number offset : ℕ} → readOf t text .verdict ≡ Rejected number offset
+      → Refuses (read-call t text) number offset
   step-refused : {t : Cell} {agent wish number : ℕ} → stepOf t agent wish .answer ≡ Refused number → Refuses (step-call t agent wish) number 0
   list-refused : {t : Cell} {buffer : List ℕ} {number : ℕ} → listAnswer (cellOf t) buffer ≡ Unlisted number
       → Refuses (list-call t buffer) number 0
@@ -58,9 +66,11 @@ ofFile number = (leb cutShort number && leb number afterEnd) || (eqb number pare
 abbrev pub ofPlace : ℕ → Bool
 ofPlace number = eqb number unsoundTable || (eqb number placeTooLarge || eqb number notYetGiven)
 
--- the numbers of each call: "Calls on a table test 10 first, then 11 or 12"; a touch call's last is 15 (document 02, W3)
+-- the numbers of each call: "Calls on a table test 10 first, then 11 or 12"; a touch call's last is 15 (document 02, W3); the reading of a
+-- text has 16 and 17 (W8)
 abbrev pub mayAnswer : KeeperCall → ℕ → Bool
 mayAnswer (load-call t file) number = ofFile number
+mayAnswer (read-call t text) number = eqb number outsideLanguage || eqb number tooMany
 mayAnswer (step-call t agent wish) number = eqb number unsoundTable || eqb number noSuchAgent
 mayAnswer (list-call t buffer) number = eqb number unsoundTable || eqb number tooLong
 mayAnswer (touch-call t place touches) number = ofPlace number || eqb number tooManyTouches
@@ -73,6 +83,13 @@ mayAnswer (idle-call t) number = eqb number unsoundTable
 pub data Grounds : KeeperCall → ℕ → ℕ → Type 0 where
   in-the-file : {t : Cell} {file : List ℕ} {number offset : ℕ} → load file ≡ refused number offset
       → Grounds (load-call t file) number offset
+  -- "16 for text outside the language at the first byte that no text of it could continue (the text's length if it stops early)": the text
+  -- does not belong to the language, and just so many of its bytes begin some text of it
+  read-16 : {t : Cell} {text : Text} {offset : ℕ} → (Belongs text → ⊥) → LongestViable text offset
+      → Grounds (read-call t text) outsideLanguage offset
+  -- "then 17, at the text's length, for too many of anything": it is the text of a tree that does not fit
+  read-17 : {t : Cell} {text : Text} (tree : Contents) → floorTyped tree ≡ text → fits tree ≡ false
+      → Grounds (read-call t text) tooMany (length text)
   step-10 : {t : Cell} {agent wish : ℕ} → sound (cellOf t) ≡ false → Grounds (step-call t agent wish) unsoundTable 0
   step-11 : {t : Cell} {agent wish : ℕ} → sound (cellOf t) ≡ true → cellOf t .given agent ≡ false → Grounds (step-call t agent wish) noSuchAgent 0
   list-10 : {t : Cell} {buffer : List ℕ} → sound (cellOf t) ≡ false → Grounds (list-call t buffer) unsoundTable 0
@@ -94,7 +111,7 @@ pub data Grounds : KeeperCall → ℕ → ℕ → Type 0 where
 
 -- ---- what a host lends
 
--- the table, and the bytes: the file of a load, the buffer of a listing
+-- the table, and the bytes: the file of a load, the text that is read, the buffer of a listing
 pub record Lent : Type 0 where
   pub table : Cell
   pub bytes : List ℕ
@@ -102,6 +119,7 @@ pub record Lent : Type 0 where
 -- what a host lends to a call
 abbrev pub before : KeeperCall → Lent
 before (load-call t file) = record { table = t; bytes = file }
+before (read-call t text) = record { table = t; bytes = text }
 before (step-call t agent wish) = record { table = t; bytes = [] }
 before (list-call t buffer) = record { table = t; bytes = buffer }
 before (touch-call t place touches) = record { table = t; bytes = [] }
@@ -112,6 +130,7 @@ before (idle-call t) = record { table = t; bytes = [] }
 -- and what it has of it afterwards
 abbrev pub after : KeeperCall → Lent
 after (load-call t file) = record { table = loadOf t file .cell; bytes = file }
+after (read-call t text) = record { table = readOf t text .cell; bytes = text }
 after (step-call t agent wish) = record { table = stepOf t agent wish .cell; bytes = [] }
 after (list-call t buffer) = record { table = t; bytes = listBuffer (cellOf t) buffer }
 after (touch-call t place touches) = record { table = touchOf t place touches .cell; bytes = [] }
@@ -125,7 +144,7 @@ after (idle-call t) = record { table = t; bytes = [] }
 pub record RefusedRightly (k : KeeperCall) : Type 0 where
   -- a call is refused only with one of its numbers
   pub only : (number offset : ℕ) → Refuses k number offset → mayAnswer k number ≡ true
-  -- the offset lies within the file: at its end where the end record is missing
+  -- the offset lies within the file or the text: at its end where the end record is missing, where a text stops early, or with 17
   pub within : (number offset : ℕ) → Refuses k number offset → offset ≤ length (before k .bytes)
   -- each number exactly under its condition
   pub exactly : (number offset : ℕ) → Refuses k number offset ↔ Grounds k number offset

@@ -1,5 +1,5 @@
 -- What is claimed of listings (document 02, W7): they are equal exactly if the terms are equal by the equivalence of source 002 section 2.2.
--- Definitions only; SameListingsLaws proves it of every two sound tables, and of the cells that any two accepted files and lists of calls reach.
+-- Definitions only; SameListingsLaws proves it of every two sound tables, and of the cells that any two loads and lists of calls reach.
 -- Document 01 says: "Two layouts are taken as alike when their listings are equal." By this claim alike is that equivalence, neither finer nor
 -- coarser: the same places with the same names, keys and contents, and the same agents with the same unused actions in the same places, whatever
 -- numbers they have and whatever order they stand in.

@@ -1,5 +1,5 @@
--- Listings are equal exactly if the terms are equivalent: of every two sound tables (`same-listings`), and of the cells that any two accepted
--- files and any two lists of calls reach (`same-after`).
+-- Listings are equal exactly if the terms are equivalent: of every two sound tables (`same-listings`), of the cells that any two cells as a load
+-- leaves them and any two lists of calls reach (`fresh-after`), and so for any two accepted files (`same-after`).
 -- Idea: the listing of a cell is that of its tree, which is that of its term. A table's names have 16 bits by its type; a file's are two bytes
 -- each, and moves give no name.
 use mathlib.Core.Path.{_≡_, sym, ap, _∙_, subst}
@@ -20,10 +20,11 @@ use Rattle.calculus.specs.SameListing.{same-listing}
 use Rattle.demands.specs.Invariant.{Sound}
 use Rattle.demands.specs.SoundTest.{sound-bounded}
 use Rattle.demands.specs.Layouts.{tree-listing}
+use Rattle.demands.specs.Fresh.{Fresh}
 use Rattle.demands.specs.LoadingFile.{accepted-fresh}
 use Rattle.demands.specs.LoadingNumbers.{table16, tree16, accepted16}
-use Rattle.demands.specs.AfterCalls.{reached, plainAfter}
-use Rattle.demands.specs.DemandThree.{reached-inv, reached-tree, demand-three}
+use Rattle.demands.specs.AfterCalls.{reached}
+use Rattle.demands.specs.DemandThree.{reached-inv, reached-tree, fresh-three}
 use Rattle.demands.specs.Agrees.{termAfter}
 use Rattle.demands.specs.AgreesLaws.{tree-formed, history-moves}
 use Rattle.demands.specs.SameListings.{termOf, AlikeExactly, OfBytes}
@@ -43,30 +44,34 @@ same-listings t u z n y m e f = cells-alike (cellOf t) (cellOf u)
     (sound-bounded (cellOf t) (bounded t z) e) (tree16 (cellOf t) (table16 t n))
     (sound-bounded (cellOf u) (bounded u y) f) (tree16 (cellOf u) (table16 u m))
 
+-- ---- loaded cells and calls
+
+module _ (c : State) (f : Fresh c) (calls : List Call) where
+  -- the term of the cell that is reached is the one to which the loaded term reduces (`reduces` of Agrees)
+  pub fresh-term : termAfter c calls ≡ termOf (cellOf (reached c calls))
+  fresh-term = ap term (reached-tree c f calls)
+
+  -- where the loaded tree has numbers of 16 bits, the moves to the plain tree keep it so
+  pub fresh16 : Numbers16 (treeOf c) → Numbers16 (treeOf (cellOf (reached c calls)))
+  fresh16 n = subst Numbers16 (reached-tree c f calls) (moves16 (history-moves (fresh-three c f calls .history)) (unfold plainOf in n))
+
+-- of the cells that any two such cells and any two lists of calls reach
+pub fresh-after : (c d : State) → Fresh c → Numbers16 (treeOf c) → Fresh d → Numbers16 (treeOf d) → (calls others : List Call)
+    → AlikeExactly (cellOf (reached c calls)) (cellOf (reached d others))
+fresh-after c d f n g m calls others = cells-alike (cellOf (reached c calls)) (cellOf (reached d others))
+    (reached-inv c f calls .sound) (fresh16 c f calls n) (reached-inv d g others .sound) (fresh16 d g others m)
+
 -- ---- files and calls
 
-module _ (s : List ℕ) (c : State) (e : load s ≡ accepted c) (calls : List Call) where
-  -- the cell that is reached is sound
-  pub reached-sound : Sound (cellOf (reached c calls))
-  reached-sound = reached-inv c (accepted-fresh s c e) calls .sound
+-- the tree of an accepted file has numbers of two bytes
+pub accepted-numbers : (s : List ℕ) → OfBytes s → (c : State) → load s ≡ accepted c → Numbers16 (treeOf c)
+accepted-numbers s b c e = tree16 c (accepted16 s b c e)
 
-  -- its tree is the plain tree
-  same-tree : plainAfter c calls .tree ≡ treeOf (cellOf (reached c calls))
-  same-tree = reached-tree c (accepted-fresh s c e) calls
-
-  -- so its term is the one to which the loaded term reduces (`reduces` of Agrees)
-  pub reached-term : termAfter c calls ≡ termOf (cellOf (reached c calls))
-  reached-term = ap term same-tree
-
-  -- the loaded tree has numbers of two bytes, and the moves to the plain tree keep it so
-  pub reached16 : OfBytes s → Numbers16 (treeOf (cellOf (reached c calls)))
-  reached16 b = subst Numbers16 same-tree (moves16 (history-moves (demand-three s c e calls .history)) loaded)
-    where
-      loaded : Numbers16 (plainOf c .tree)
-      loaded = unfold plainOf in tree16 c (accepted16 s b c e)
+-- the term of the cell that is reached is the one to which the loaded term reduces
+pub reached-term : (s : List ℕ) (c : State) → load s ≡ accepted c → (calls : List Call) → termAfter c calls ≡ termOf (cellOf (reached c calls))
+reached-term s c e = fresh-term c (accepted-fresh s c e)
 
 -- of the cells that any two accepted files and any two lists of calls reach
 pub same-after : (s r : List ℕ) → OfBytes s → OfBytes r → (c d : State) → load s ≡ accepted c → load r ≡ accepted d → (calls others : List Call)
     → AlikeExactly (cellOf (reached c calls)) (cellOf (reached d others))
-same-after s r a b c d e f calls others = cells-alike (cellOf (reached c calls)) (cellOf (reached d others))
-    (reached-sound s c e calls) (reached16 s c e calls a) (reached-sound r d f others) (reached16 r d f others b)
+same-after s r a b c d e f = fresh-after c d (accepted-fresh s c e) (accepted-numbers s a c e) (accepted-fresh r d f) (accepted-numbers r b d f)

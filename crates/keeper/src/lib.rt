@@ -21,6 +21,9 @@ pub use table::bare;
 // The cell of a cell file, or the refusal and the cell as it was: `loadOf`.
 pub use reader::load;
 
+// The cell of a text in the listing's language, or the refusal and the cell as it was: `readOf`.
+pub use parser::read;
+
 // One step call: `stepOf`.
 pub use step::step;
 
@@ -40,7 +43,7 @@ pub use numbers::step_number;
 pub use numbers::touch_number;
 pub use numbers::word_number;
 
-// The number that a load answers.
+// The number that a load answers, or the reading of a text.
 fn numbered_load(verdict: Verdict) -> u64
     ensures { λ r. ⌜ r ≡ loadNumber verdict ⌝ }
 {

@@ -4,6 +4,9 @@ pub mod Machine
 pub mod Read
 pub mod Layout
 pub mod Examples
+-- what walk writes for a typed layout
+pub mod TypedReport
+pub mod TypedExamples
 -- what every text answers
 pub mod Answers
 -- every text of the language is read to its end

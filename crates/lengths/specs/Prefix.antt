@@ -9,7 +9,7 @@ use Rattle.lengths.specs.Longest.{decidingBytes}
 use Rattle.lengths.specs.FileLength.{prefix}
 
 -- whatever follows two bytes for each call, the calls are the same
-calls-prefix : (limit b : ℕ) (order : List ℕ) → 2 * limit ≤ b → callsIn limit (take b order) ≡ callsIn limit order
+pub calls-prefix : (limit b : ℕ) (order : List ℕ) → 2 * limit ≤ b → callsIn limit (take b order) ≡ callsIn limit order
 unfolding callsIn
 calls-prefix zero b order l = refl
 calls-prefix (suc limit) zero order l = absurd (omega arith)

@@ -134,7 +134,7 @@ line-length agent (Refused number) l m = omega (
   length-append ((decimal agent ++ ascii " refused ") ++ decimal number) (ascii "\n"),
 )
 
-refused-length : (number offset : ℕ) → length (refusedLine number offset) ≤ 50
+pub refused-length : (number offset : ℕ) → length (refusedLine number offset) ≤ 50
 unfolding refusedLine tab
 refused-length number offset = omega (
   arith,
@@ -171,30 +171,33 @@ run-length (suc limit) (agent ∷ wish ∷ order) t bytes = omega (
   run-length limit order (stepOf t agent wish .cell) (λ j. bytes (suc (suc j))),
 )
 
+-- the report of a load and an order of bytes, wherever the cell was loaded from
+pub load-longest : (l : Load) (order : List ℕ) → ((j : ℕ) → getD order j 0 < 256) → length (reportOf l (callsIn 16384 order)) ≤ longestReport
+unfolding reportOf tab
+load-longest (accepted c) order bytes = omega (
+  arith,
+  length-append (listingLine (ascii "start") (cellOf (tableOf c))) (reportRun (tableOf c) (callsIn 16384 order)),
+  listing-line-length (ascii "start") (cellOf (tableOf c)),
+  run-length 16384 order (tableOf c) bytes,
+)
+load-longest (refused number offset) order bytes = omega (arith, refused-length number offset)
+
 -- the report of an order of bytes, on every file
 pub report-longest : (cell order : List ℕ) → ((j : ℕ) → getD order j 0 < 256) → length (report cell order) ≤ longestReport
-unfolding report reportOf tab
-report-longest cell order bytes = go (load cell)
-  where
-    go : (l : Load) → length (reportOf l (callsIn 16384 order)) ≤ longestReport
-    go (accepted c) = omega (
-      arith,
-      length-append (listingLine (ascii "start") (cellOf (tableOf c))) (reportRun (tableOf c) (callsIn 16384 order)),
-      listing-line-length (ascii "start") (cellOf (tableOf c)),
-      run-length 16384 order (tableOf c) bytes,
-    )
-    go (refused number offset) = omega (arith, refused-length number offset)
+unfolding report
+report-longest cell order bytes = load-longest (load cell) order bytes
 
 -- ---- the whole of it is written
 
--- what walk's buffer holds, up to the answered length, is the report: nothing is cut off
+-- what walk's buffer holds, up to the answered length, is a text that is not longer than the longest report: nothing is cut off
+pub text-whole : (text before after : List ℕ) (answer : ℕ) → length text ≤ longestReport → longestReport ≤ length before
+    → Wrote text 0 before after answer → (answer ≡ length text) × (take answer after ≡ text)
+text-whole text before after answer short l w = (count, ap₂ take count (w .text) ∙ over-start text before (omega arith))
+  where
+    count : answer ≡ length text
+    count = w .count ∙ capped-low (0 + length text) (omega arith) ∙ omega arith
+
+-- so it is with every report
 pub report-whole : (cell order before after : List ℕ) (answer : ℕ) → ((j : ℕ) → getD order j 0 < 256) → longestReport ≤ length before
     → Wrote (report cell order) 0 before after answer → (answer ≡ length (report cell order)) × (take answer after ≡ report cell order)
-report-whole cell order before after answer bytes l w =
-    (count, ap₂ take count (w .text) ∙ over-start (report cell order) before (omega (arith, short)))
-  where
-    short : length (report cell order) ≤ longestReport
-    short = report-longest cell order bytes
-
-    count : answer ≡ length (report cell order)
-    count = w .count ∙ capped-low (0 + length (report cell order)) (omega (arith, short)) ∙ omega arith
+report-whole cell order before after answer bytes = text-whole (report cell order) before after answer (report-longest cell order bytes)

@@ -1,3 +1,4 @@
 pub mod Run
 pub mod RunLaws
 pub mod ReportLaws
+pub mod TypedLaws

@@ -1,9 +1,12 @@
 // The report of a run: the listing at the start, a line for each call, the listing at the end.
+mod typed;
+
 use lines::write_refused;
 use lines::write_step;
 use meaning::Verdict;
 use table::Cell;
 use text::offset;
+pub use typed::write_typed_report;
 ghost use mathlib.Core.Path.{_≡_};
 ghost use mathlib.Core.List.{[], _∷_, _++_};
 ghost use Prim.Native.Nat.{_/_};

@@ -1,5 +1,5 @@
--- The listing of every sound table is read back: `read-back`; and so is that of the cell that any accepted file and any list of calls reach:
--- `reached-back`.
+-- The listing of every sound table is read back: `read-back`; and so is that of the cell that any load, of a file or of a text, and any list of
+-- calls reach: `loaded-back`, `reached-back`, `typed-back`. In words of calls: `listed-again`, `loaded-again`.
 -- Idea: the table's term can be typed, the text is its listing, and it fits as the table does.
 use mathlib.Core.Path.{_≡_, refl, sym, ap, _∙_}
 use mathlib.Core.Logic.{_≢_}
@@ -18,11 +18,11 @@ use Rattle.table.specs.CellLaws.{bounded}
 use Rattle.table.specs.Sound.{sound}
 use Rattle.table.specs.declared.Action.{Action}
 use Rattle.table.specs.declared.Cell.{Cell}
-use Rattle.meaning.specs.File.{load, accepted}
+use Rattle.meaning.specs.File.{Load, load, accepted, loaded}
 use Rattle.meaning.specs.Calculus.{standsAt}
 use Rattle.meaning.specs.Plain.{treeOf}
 use Rattle.meaning.specs.Run.{Call}
-use Rattle.meaning.specs.Listing.{listing}
+use Rattle.meaning.specs.Listing.{listing, listAnswer, listBuffer}
 use Rattle.meaning.specs.Every.{Every, every-none, every-more}
 use Rattle.calculus.specs.Formed.{Good, none, more}
 use Rattle.calculus.specs.MoveCases.{Stands, stands-in}
@@ -36,19 +36,21 @@ use Rattle.calculus.specs.SameListing.{fine-rows}
 use Rattle.demands.specs.Invariant.{Sound}
 use Rattle.demands.specs.Reading.{nameIn}
 use Rattle.demands.specs.AfterCalls.{reached}
-use Rattle.demands.specs.SoundTest.{sound-bounded}
+use Rattle.demands.specs.SoundTest.{sound-true, sound-bounded}
+use Rattle.demands.specs.DemandThree.{reached-inv}
 use Rattle.demands.specs.Layouts.{tree-listing}
 use Rattle.demands.specs.LoadingNumbers.{table16, tree16}
 use Rattle.demands.specs.AgreesLaws.{tree-formed}
 use Rattle.demands.specs.SameListings.{termOf, OfBytes}
-use Rattle.demands.specs.SameListingsLaws.{reached-sound, reached16}
+use Rattle.demands.specs.SameListingsLaws.{fresh16}
 use Rattle.language.specs.Grammar.{Text, Contents, nothing, agent, place, contentsTyped, floorTyped}
-use Rattle.language.specs.Read.{readText}
+use Rattle.language.specs.Read.{readText, readOf}
 use Rattle.language.specs.Layout.{fits, layout}
 use Rattle.language.specs.Answers.{read-fits}
 use Rattle.typed.specs.TermTyped.{termTyped}
 use Rattle.typed.specs.LayoutTerm.{layout-term}
-use Rattle.typed.specs.LoadedLaws.{layout-listed}
+use Rattle.typed.specs.Loaded.{IsLoaded, from-file, from-text, ReadAs}
+use Rattle.typed.specs.LoadedLaws.{layout-listed, read-as, loaded-fresh, loaded-numbers}
 use Rattle.typed.specs.Weighed.{tree-fits, fits-same}
 use Rattle.typed.specs.Typable.{Able, Typable, can-amb, can-nil, can-par, can-row, Says, says}
 use Rattle.calculus.specs.Decimals.{decimal-some}
@@ -56,7 +58,7 @@ use Rattle.calculus.specs.TreeListed.{action-some, left-some}
 use Rattle.calculus.specs.OneListing.{one-listing}
 use Rattle.language.specs.Grammar.{actionOf, actionTyped, agentTyped}
 use Rattle.typed.specs.CellFits.{term-fits}
-use Rattle.typed.specs.ReadBack.{ReadBack}
+use Rattle.typed.specs.ReadBack.{ReadBack, ListedAgain}
 
 -- ---- the term of a sound cell can be typed
 
@@ -146,6 +148,51 @@ cell-back c i s = record {
 pub read-back : (t : Cell) → Sized t → Names16 t → sound (cellOf t) ≡ true → ReadBack (cellOf t)
 read-back t z n e = cell-back (cellOf t) (sound-bounded (cellOf t) (bounded t z) e) (tree16 (cellOf t) (table16 t n))
 
--- of the cell that any accepted file and any list of calls reach
-pub reached-back : (s : List ℕ) → OfBytes s → (c : State) (e : load s ≡ accepted c) (calls : List Call) → ReadBack (cellOf (reached c calls))
-reached-back s b c e calls = cell-back (cellOf (reached c calls)) (reached-sound s c e calls) (reached16 s c e calls b)
+-- of the cell that any loaded cell, from a file or from a text, and any list of calls reach
+pub loaded-back : (c : State) → IsLoaded c → (calls : List Call) → ReadBack (cellOf (reached c calls))
+loaded-back c l calls = cell-back (cellOf (reached c calls)) (reached-inv c (loaded-fresh c l) calls .sound)
+    (fresh16 c (loaded-fresh c l) calls (loaded-numbers c l))
+
+-- from an accepted file
+pub reached-back : (s : List ℕ) → OfBytes s → (c : State) → load s ≡ accepted c → (calls : List Call) → ReadBack (cellOf (reached c calls))
+reached-back s b c e = loaded-back c (from-file s b e)
+
+-- from a text that is read
+pub typed-back : (s : Text) (c : State) → readText s ≡ accepted c → (calls : List Call) → ReadBack (cellOf (reached c calls))
+typed-back s c e = loaded-back c (from-text s e)
+
+-- ---- in words of calls
+
+-- two sound cells with one listing are answered alike by the listing call
+same-answer : (c d : State) → sound c ≡ true → sound d ≡ true → listing c ≡ listing d → (buffer : List ℕ) → listAnswer c buffer ≡ listAnswer d buffer
+unfolding listAnswer
+same-answer c d s r e buffer = rw (s, r, e)
+
+-- and leave the same bytes
+same-bytes : (c d : State) → sound c ≡ true → sound d ≡ true → listing c ≡ listing d → (buffer : List ℕ) → listBuffer c buffer ≡ listBuffer d buffer
+unfolding listBuffer
+same-bytes c d s r e buffer = rw (s, r, e)
+
+-- reading what was listed and listing it again gives the same bytes: of a sound table whose listing is read back
+back-again : (u t : Cell) → sound (cellOf t) ≡ true → ReadBack (cellOf t) → ListedAgain u t
+unfolding readOf loaded
+back-again u t s b = record {
+  verdict = ap (λ (l : Load). loaded u l .verdict) (b .read);
+  answer = λ buffer. ap (λ (d : State). listAnswer d buffer) there ∙ same-answer (b .cell) (cellOf t) (back .loaded .sound) s (b .again) buffer;
+  bytes = λ buffer. ap (λ (d : State). listBuffer d buffer) there ∙ same-bytes (b .cell) (cellOf t) (back .loaded .sound) s (b .again) buffer;
+}
+  where
+    back : ReadAs (listing (cellOf t)) (b .cell)
+    back = read-as (listing (cellOf t)) (b .cell) (b .read)
+
+    there : cellOf (readOf u (listing (cellOf t)) .cell) ≡ b .cell
+    there = ap (λ (l : Load). cellOf (loaded u l .cell)) (b .read) ∙ back .loaded .table
+
+-- of every sound table
+pub listed-again : (u t : Cell) → Sized t → Names16 t → sound (cellOf t) ≡ true → ListedAgain u t
+listed-again u t z n e = back-again u t e (read-back t z n e)
+
+-- of the table that any loaded cell and any list of calls reach
+pub loaded-again : (u : Cell) (c : State) → IsLoaded c → (calls : List Call) → ListedAgain u (reached c calls)
+loaded-again u c l calls = back-again u (reached c calls) (sound-true (cellOf (reached c calls)) (reached-inv c (loaded-fresh c l) calls .sound))
+    (loaded-back c l calls)

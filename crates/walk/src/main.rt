@@ -1,11 +1,15 @@
-// Level A, the program: reads a cell and an order and writes the report of the run.
+// Level A, the program: reads a cell or a typed layout, and an order, and writes the report of the run.
 //
-// With no argument it reads the files `cell` and `order` of its working folder, with two the files that they name. An absent
-// file reads as empty. Where anything else keeps it from reading, it writes why to standard error, and nothing to standard output.
-// What it reads of the files decides their report, and the text holds every report whole (`buffers::write_whole`).
+// With no argument it reads the files `cell` and `order` of its working folder, with two the files that they name. With three of
+// which the first is `--text` it reads a layout as a listing writes it, one line, from the file that the second names, and the order
+// from the file that the third names. An absent file reads as empty: a cell file that is a bare floor, a text that is refused (16 at
+// 0). A text of 65,536 bytes or more is not read. Where anything else keeps it from reading, it writes why to standard error, and
+// nothing to standard output. What it reads of the files decides their report, and the text holds every report whole
+// (`buffers::write_whole`, `buffers::write_typed`).
 use buffers::CELL_BYTES;
 use buffers::ORDER_BYTES;
 use buffers::TEXT_BYTES;
+use buffers::TYPED_BYTES;
 use libc::ENOENT;
 use libc::STDERR_FILENO;
 use libc::STDOUT_FILENO;
@@ -13,10 +17,11 @@ ghost use mathlib.Core.Path.{_≡_};
 ghost use lib.ListN.{length};
 ghost use Rattle.walk.specs.Inputs.{namingBy, Within};
 
-// Where the two files' names come from.
+// Where the two files' names come from: their own, two arguments, or two arguments after `--text`.
 enum Naming {
     Usual,
     Given,
+    Typed,
     Unclear,
 }
 
@@ -26,18 +31,35 @@ enum Input {
     Failed,
 }
 
-// Without arguments the names are `cell` and `order`; two arguments are the names; any other number is not understood. The
-// program's own name is counted among its arguments.
-fn naming_by(count: usize) -> Naming
-    ensures { λ r. ⌜ r ≡ namingBy count ⌝ }
+// Without arguments the names are `cell` and `order`; two arguments are the names, unless the first is the option; so are the two
+// after the option; anything else is not understood. The program's own name is counted among its arguments.
+fn naming_by(count: usize, option: bool) -> Naming
+    ensures { λ r. ⌜ r ≡ namingBy count option ⌝ }
 {
     if count < 2 {
         Naming::Usual
     } else if count == 3 {
-        Naming::Given
+        if option {
+            Naming::Unclear
+        } else {
+            Naming::Given
+        }
+    } else if count == 4 {
+        if option {
+            Naming::Typed
+        } else {
+            Naming::Unclear
+        }
     } else {
         Naming::Unclear
     }
+}
+
+// Whether argument 1 is `--text`.
+fn has_option() -> bool {
+    let mut word = [0u8; 8];
+    let n = os::arg(1, &mut word);
+    check::same(&word[..n], b"--text")
 }
 
 // A line on standard error: what failed, and the system's reason.
@@ -49,7 +71,7 @@ fn complain(what: &[u8]) {
 fn usage() {
     io::write_all(
         STDERR_FILENO,
-        b"usage: walk [CELL ORDER]   (without paths: the files cell and order of the working folder)\n",
+        b"usage: walk [CELL ORDER | --text TEXT ORDER]   (without paths: the files cell and order of the working folder)\n",
     );
 }
 
@@ -109,17 +131,14 @@ fn read_argument(i: usize, name: &[u8], buf: &mut [u8]) -> Input
     read_file(&path[..n], buf)
 }
 
-// The bytes of the file with this name, or of the file that argument i names.
-fn read_input(names: Naming, i: usize, name: &[u8], buf: &mut [u8]) -> Input
+// The bytes of the file that argument i names, where names are given, or else of the file with this name.
+fn read_input(given: bool, i: usize, name: &[u8], buf: &mut [u8]) -> Input
     ensures { λ r. ⌜ Within r (length (now (buf .exit))) ⌝ }
 {
-    match names {
-        Naming::Usual => read_file(name, buf),
-        Naming::Given => read_argument(i, name, buf),
-        Naming::Unclear => {
-            usage();
-            Input::Failed
-        }
+    if given {
+        read_argument(i, name, buf)
+    } else {
+        read_file(name, buf)
     }
 }
 
@@ -130,17 +149,55 @@ fn show(report: &[u8]) {
     }
 }
 
-fn main() {
+// The report of a cell file: `cell` and `order`, or the files that two arguments name.
+fn run_cell(given: bool) {
     let mut cell = [0u8; CELL_BYTES];
     let mut order = [0u8; ORDER_BYTES];
     let mut text = [0u8; TEXT_BYTES];
-    let names = naming_by(os::arg_count());
-    let Input::Bytes(n) = read_input(names, 1, b"cell", &mut cell) else {
+    let Input::Bytes(n) = read_input(given, 1, b"cell", &mut cell) else {
         return;
     };
-    let Input::Bytes(m) = read_input(names, 2, b"order", &mut order) else {
+    let Input::Bytes(m) = read_input(given, 2, b"order", &mut order) else {
         return;
     };
     let k = buffers::write_whole(&cell, n, &order, m, &mut text);
     show(&text[..k]);
+}
+
+// A line on standard error: the text that argument 2 names is too long.
+fn complain_of_length() {
+    let mut path = io::buffer();
+    let n = os::arg(2, &mut path);
+    io::write_all(STDERR_FILENO, b"walk: ");
+    io::write_all(STDERR_FILENO, &path[..n]);
+    io::write_all(STDERR_FILENO, b": longer than 65535 bytes\n");
+}
+
+// The report of a typed layout. A text that fills its buffer may go on and is not read.
+fn run_typed() {
+    let mut typed = [0u8; TYPED_BYTES];
+    let mut order = [0u8; ORDER_BYTES];
+    let mut text = [0u8; TEXT_BYTES];
+    let Input::Bytes(n) = read_argument(2, b"text", &mut typed) else {
+        return;
+    };
+    if n == TYPED_BYTES {
+        complain_of_length();
+        return;
+    }
+    let Input::Bytes(m) = read_argument(3, b"order", &mut order) else {
+        return;
+    };
+    let k = buffers::write_typed(&typed, n, &order, m, &mut text);
+    show(&text[..k]);
+}
+
+fn main() {
+    let names = naming_by(os::arg_count(), has_option());
+    match names {
+        Naming::Usual => run_cell(false),
+        Naming::Given => run_cell(true),
+        Naming::Typed => run_typed(),
+        Naming::Unclear => usage(),
+    }
 }

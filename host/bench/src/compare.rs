@@ -5,6 +5,7 @@ use crate::cells::{random, Random};
 use crate::jobs::{Job, Room, Workload};
 use crate::keeper::{Keeper, Proved};
 use crate::plain::Plain;
+use crate::texts;
 use crate::tuned::Tuned;
 
 /// Compares on every workload and on random cells; answers how many calls were compared, or the first difference.
@@ -46,6 +47,11 @@ fn job(job: &Job) -> Result<usize, String> {
             (0..=file.len()).try_for_each(|length| load(&file[..length]).map(|_| ()))?;
             Ok(file.len() + 1)
         }
+        Job::Read { text } => {
+            let lengths: Vec<usize> = (0..=text.len()).rev().step_by(1 + text.len() / 500).collect();
+            lengths.iter().try_for_each(|&length| read(&text[..length]))?;
+            Ok(lengths.len())
+        }
         Job::List { cell, .. } => lists(cell),
         Job::Check { cell } | Job::Idle { cell } => asks(cell).map(|_| 2),
         Job::Walk { .. } => {
@@ -82,6 +88,31 @@ fn load(file: &[u8]) -> Result<[Cell; 3], String> {
     let answers = [Plain::load(one, file), Tuned::load(two, file), Proved::load(three, file)];
     same(&format!("answers {answers:x?} of a load"), answers)?;
     same("loaded cells", cells).map(|_| cells)
+}
+
+/// A reading of a text into a bare floor by each.
+fn read(text: &[u8]) -> Result<(), String> {
+    let mut cells = [Cell::BARE; 3];
+    let [one, two, three] = &mut cells;
+    let answers = [Plain::read(one, text), Tuned::read(two, text), Proved::read(three, text)];
+    same(&format!("answers {answers:x?} of a reading of {}", text.escape_ascii()), answers)?;
+    same(&format!("cells read from {}", text.escape_ascii()), cells)
+}
+
+/// The listing of a cell, whole and damaged; of an unsound one there is none.
+fn reads(numbers: &mut Random, cell: &Cell) -> Result<usize, String> {
+    let mut text = vec![0; LISTING_LONGEST];
+    let length = (Tuned::list(cell, &mut text) >> 8) as usize;
+    text.truncate(length);
+    if text.is_empty() {
+        return Ok(0);
+    }
+    read(&text)?;
+    for _ in 0..8 {
+        read(&texts::damaged(numbers, &text))?;
+    }
+    read(&texts::more(numbers, &text))?;
+    Ok(10)
 }
 
 fn list(cell: &Cell, room: usize) -> Result<(), String> {
@@ -132,6 +163,7 @@ fn one_random(numbers: &mut Random, damaged: bool) -> Result<usize, String> {
         if i % 50 == 0 {
             asks(&cells[0])?;
             listed += lists(&cells[0])?;
+            listed += reads(numbers, &cells[0])?;
         }
     }
     let at = numbers.below(file.len());

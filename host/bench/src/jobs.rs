@@ -3,6 +3,7 @@
 use crate::cell::{Cell, LISTING_LONGEST};
 use crate::cells::{self, Random, Sketch};
 use crate::keeper::Keeper;
+use crate::texts;
 use crate::tuned::Tuned;
 use crate::walk::{self, walk};
 use std::hint::black_box;
@@ -15,6 +16,8 @@ pub enum Job {
     Touch { start: Box<Cell>, order: Vec<(u8, u32)> },
     /// The load of a file.
     Load { file: Vec<u8> },
+    /// The reading of a text.
+    Read { text: Vec<u8> },
     /// The listing of a cell into a buffer of this size.
     List { cell: Box<Cell>, room: usize },
     /// The soundness check of a cell.
@@ -34,19 +37,20 @@ pub struct Workload {
     pub job: Job,
 }
 
-/// What a ratio should stay within: the goal, and the bar where there is one above the goal; and which peer the keeper's time is divided by.
+/// What a ratio should stay within: the goal, and the bar where there is one above the goal; and what the keeper's time is divided by.
 #[derive(Clone, Copy)]
 pub struct Limits {
     pub goal: f64,
     pub bar: Option<f64>,
-    pub beside: Peer,
+    pub beside: Beside,
 }
 
-/// One of the two peers.
+/// The time of one of the two peers, or the bytes of a text, which makes it nanoseconds a byte.
 #[derive(Clone, Copy)]
-pub enum Peer {
+pub enum Beside {
     Plain,
     Tuned,
+    Bytes,
 }
 
 /// What a lap writes to.
@@ -71,6 +75,14 @@ impl Job {
         }
     }
 
+    /// The bytes that a call reads, where it reads a text.
+    pub fn bytes(&self) -> usize {
+        match self {
+            Job::Read { text } => text.len(),
+            _ => 1,
+        }
+    }
+
     /// Whether the plain peer has its own call for it; its other calls are the tuned peer's.
     pub fn is_own_of_plain(&self) -> bool {
         !matches!(self, Job::Load { .. } | Job::Copy { .. })
@@ -88,6 +100,7 @@ impl Job {
                 order.iter().fold(0, |sum, &(place, number)| sum + K::touch(&mut room.cell, place, number))
             }
             Job::Load { file } => K::load(&mut room.cell, file),
+            Job::Read { text } => K::read(&mut room.cell, text),
             Job::List { cell, room: size } => K::list(cell, &mut room.text[..*size]),
             Job::Check { cell } => K::check(cell),
             Job::Idle { cell } => K::idle(cell),
@@ -100,15 +113,16 @@ impl Job {
     }
 }
 
-const fn within(beside: Peer, goal: f64, bar: Option<f64>) -> Option<Limits> {
+const fn within(beside: Beside, goal: f64, bar: Option<f64>) -> Option<Limits> {
     Some(Limits { goal, bar, beside })
 }
 
-const EMPTY: Option<Limits> = within(Peer::Plain, 1.2, Some(2.0));
-const STEP: Option<Limits> = within(Peer::Plain, 1.2, Some(1.5));
-const CHAIN: Option<Limits> = within(Peer::Plain, 1.2, None);
-const LIST: Option<Limits> = within(Peer::Tuned, 1.5, None);
-const WALK: Option<Limits> = within(Peer::Plain, 1.2, None);
+const EMPTY: Option<Limits> = within(Beside::Plain, 1.2, Some(2.0));
+const STEP: Option<Limits> = within(Beside::Plain, 1.2, Some(1.5));
+const CHAIN: Option<Limits> = within(Beside::Plain, 1.2, None);
+const LIST: Option<Limits> = within(Beside::Tuned, 1.5, None);
+const READ: Option<Limits> = within(Beside::Bytes, 4.0, None);
+const WALK: Option<Limits> = within(Beside::Plain, 1.2, None);
 
 /// Calls that change nothing: of agents that are held, asleep or done.
 fn quiet(sketch: Sketch) -> Job {
@@ -129,6 +143,7 @@ fn busy(sketch: Sketch, before: usize) -> Job {
 pub fn workloads() -> Vec<Workload> {
     let boxed = |sketch: &Sketch| Box::new(sketch.cell());
     let load = |sketch: Sketch| Job::Load { file: sketch.file() };
+    let read = |text: String| Job::Read { text: text.into_bytes() };
     let list = |sketch: Sketch| Job::List { cell: boxed(&sketch), room: LISTING_LONGEST };
     let check = |sketch: Sketch| Job::Check { cell: boxed(&sketch) };
     let idle = |sketch: Sketch| Job::Idle { cell: boxed(&sketch) };
@@ -158,6 +173,10 @@ pub fn workloads() -> Vec<Workload> {
         of("load, worked example", None, load(cells::worked())),
         of("load, typical", None, load(cells::typical())),
         of("load, longest", None, load(cells::longest())),
+        of("read, full", READ, read(texts::full())),
+        of("read, typical", None, read(texts::typical())),
+        of("read, over-full", None, read(texts::over_full())),
+        of("read, refused at its end", None, read(texts::refused())),
         of("list, typical", LIST, list(cells::typical())),
         of("list, full", LIST, list(cells::full())),
         of("list, chain", LIST, list(cells::chain())),

@@ -6,6 +6,7 @@ use crate::cell::Cell;
 pub trait Keeper {
     fn bare(cell: &mut Cell) -> u64;
     fn load(cell: &mut Cell, file: &[u8]) -> u64;
+    fn read(cell: &mut Cell, text: &[u8]) -> u64;
     fn step(cell: &mut Cell, agent: u8, wish: u8) -> u64;
     fn list(cell: &Cell, text: &mut [u8]) -> u64;
     fn check(cell: &Cell) -> u64;
@@ -17,6 +18,7 @@ pub trait Keeper {
 extern "C" {
     fn keeper_bare(cell: *mut Cell) -> u64;
     fn keeper_load(cell: *mut Cell, file: *const u8, len: usize) -> u64;
+    fn keeper_read(cell: *mut Cell, text: *const u8, length: usize) -> u64;
     fn keeper_step(cell: *mut Cell, agent: u8, wish: u8) -> u64;
     fn keeper_list(cell: *const Cell, text: *mut u8, room: usize) -> u64;
     fn keeper_check(cell: *const Cell) -> u64;
@@ -34,6 +36,9 @@ impl Keeper for Proved {
     }
     fn load(cell: &mut Cell, file: &[u8]) -> u64 {
         unsafe { keeper_load(cell, file.as_ptr(), file.len()) }
+    }
+    fn read(cell: &mut Cell, text: &[u8]) -> u64 {
+        unsafe { keeper_read(cell, text.as_ptr(), text.len()) }
     }
     fn step(cell: &mut Cell, agent: u8, wish: u8) -> u64 {
         unsafe { keeper_step(cell, agent, wish) }

@@ -10,10 +10,11 @@ mod jobs;
 mod keeper;
 mod measure;
 mod plain;
+mod texts;
 mod tuned;
 mod walk;
 
-use jobs::{sweep, workloads, Job, Limits, Peer, Room, Workload};
+use jobs::{sweep, workloads, Beside, Job, Limits, Room, Workload};
 use keeper::{Keeper, Proved};
 use measure::{measure, Pace};
 use plain::Plain;
@@ -58,10 +59,12 @@ fn table(workloads: &[Workload], pace: &Pace) {
             Some(limits) => {
                 let bar = limits.bar.map_or(String::new(), |bar| format!("{bar:.1}"));
                 let ratio = match limits.beside {
-                    Peer::Plain => cost.keeper_to_plain,
-                    Peer::Tuned => cost.keeper_to_tuned,
+                    Beside::Plain => cost.keeper_to_plain,
+                    Beside::Tuned => cost.keeper_to_tuned,
+                    Beside::Bytes => cost.keeper / workload.job.bytes() as f64,
                 };
-                println!("{:>6.1}{bar:>5}  {}", limits.goal, verdict(ratio, limits));
+                let unit = if matches!(limits.beside, Beside::Bytes) { format!(", {ratio:.2} ns a byte") } else { String::new() };
+                println!("{:>6.1}{bar:>5}  {}{unit}", limits.goal, verdict(ratio, limits));
             }
         }
     }

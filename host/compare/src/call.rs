@@ -6,6 +6,8 @@ use std::fmt;
 #[derive(Clone, PartialEq, Debug)]
 pub enum Call {
     Load(Vec<u8>),
+    /// A text of the listing's language, or one that is not.
+    Read(Vec<u8>),
     Step {
         agent: u8,
         wish: u8,
@@ -38,6 +40,7 @@ impl fmt::Display for Call {
                     Err(_) => Ok(()),
                 }
             }
+            Call::Read(text) => write!(out, "read \"{}\"", text.escape_ascii()),
             Call::Step { agent, wish } => write!(out, "step of agent {agent}, wish {wish}"),
             Call::Touch { place, number } => write!(out, "touch of place {place}, {number}"),
             Call::List { room } => write!(out, "list with room for {room} bytes"),

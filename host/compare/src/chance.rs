@@ -8,7 +8,7 @@ use crate::random::Random;
 /// An example of one file, steps and touch calls, with fewer of them than this one, if some tries find one.
 pub fn shorter(calls: &[Call], thorough: bool) -> Option<Vec<Call>> {
     let (load, steps) = calls.split_first()?;
-    if !matches!(load, Call::Load(_)) || !steps.iter().all(|call| matches!(call, Call::Step { .. } | Call::Touch { .. })) {
+    if !matches!(load, Call::Load(_) | Call::Read(_)) || !steps.iter().all(|call| matches!(call, Call::Step { .. } | Call::Touch { .. })) {
         return None;
     }
     let mut random = Random::new(calls.len() as u64);

@@ -19,7 +19,10 @@ pub struct Counts {
     pub sums: u64,
     pub accepted: u64,
     pub refused: BTreeMap<u8, u64>,
+    pub texts: u64,
+    pub texts_refused: BTreeMap<u8, u64>,
     pub listings: u64,
+    pub read_back: u64,
     pub renumbered: u64,
     pub otherwise: u64,
     pub compared: u64,
@@ -53,7 +56,11 @@ impl fmt::Display for Counts {
         write!(out, "files           {:>9}   ({} accepted, {} refused:", self.accepted + refused, self.accepted, refused)?;
         self.refused.iter().try_for_each(|(number, count)| write!(out, " {count} with {number}"))?;
         writeln!(out, ")")?;
-        writeln!(out, "listings        {:>9}", self.listings)?;
+        let refused: u64 = self.texts_refused.values().sum();
+        write!(out, "texts           {:>9}   ({} read, {} refused:", self.texts + refused, self.texts, refused)?;
+        self.texts_refused.iter().try_for_each(|(number, count)| write!(out, " {count} with {number}"))?;
+        writeln!(out, ")")?;
+        writeln!(out, "listings        {:>9}   ({} read back and listed again)", self.listings, self.read_back)?;
         writeln!(out, "renumbered cells {:>8}   (listed alike; by number {} of them would not be)", self.renumbered, self.otherwise)?;
         writeln!(out, "layouts compared {:>8}   (after a small change; {} of them alike)", self.compared, self.alike)?;
         writeln!(out, "damaged cells   {:>9}   ({} sound, {} unsound)", self.sound + self.unsound, self.sound, self.unsound)?;

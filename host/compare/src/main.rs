@@ -1,12 +1,13 @@
 //! Compares the library with the model, call by call, through the C exports.
 //!
-//!     compare [--quick] [--seconds N] [--seed S] [--walk PROGRAM]
+//!     compare [--quick] [--seconds N] [--seed S] [--walk PROGRAM] [--typed-walk PROGRAM]..
 //!
-//! First document 01's cases, touches up to the most there may be, listings of full cells, and every single-byte change and truncation of good
-//! files; then rounds of random files, random orders of steps and touch calls on random cells, and cells with bytes changed, those of keys and
-//! of the row of places too: a fixed number of rounds, or as many as fit in N seconds. Cells are also listed under other numbers, which must
-//! give the same bytes. The same seed gives the same rounds. With a program `walk`, what it writes is compared too. At a difference the smallest
-//! example found is printed and the exit status is 1.
+//! First document 01's cases, touches up to the most there may be, listings of full cells, every single-byte change and truncation of good
+//! files and of texts, and texts at and past each limit; then rounds of random files, random orders of steps and touch calls on random cells,
+//! random texts, damaged ones and orders on cells that were read, and cells with bytes changed, those of keys and of the row of places too: a
+//! fixed number of rounds, or as many as fit in N seconds. Listings are read back. Cells are also listed under other numbers, which must
+//! give the same bytes. The same seed gives the same rounds. With a program `walk`, what it writes is compared too; with programs that run typed
+//! layouts (PROGRAM --text TEXT ORDER), what those write. At a difference the smallest example found is printed and the exit status is 1.
 
 mod answer;
 mod bench;
@@ -16,16 +17,19 @@ mod counts;
 mod damage;
 mod demands;
 mod differing;
+mod edits;
 mod files;
 mod keys;
 mod layouts;
 mod orders;
 mod pair;
 mod random;
+mod reading;
 mod renumber;
 mod rounds;
 mod rows;
 mod shrink;
+mod texts;
 mod touches;
 mod walks;
 
@@ -35,17 +39,21 @@ use std::path::PathBuf;
 use std::process::ExitCode;
 use std::time::{Duration, Instant};
 
+/// What the command line may ask for.
+const USAGE: &str = "usage: compare [--quick] [--seconds N] [--seed S] [--walk PROGRAM] [--typed-walk PROGRAM]..";
+
 /// What the command line asks for.
 struct Options {
     quick: bool,
     seconds: Option<u64>,
     seed: u64,
     walk: Option<PathBuf>,
+    typed_walks: Vec<PathBuf>,
 }
 
 /// Reads the command line.
 fn options() -> Result<Options, String> {
-    let mut options = Options { quick: false, seconds: None, seed: 1, walk: None };
+    let mut options = Options { quick: false, seconds: None, seed: 1, walk: None, typed_walks: Vec::new() };
     let mut words = std::env::args().skip(1);
     while let Some(word) = words.next() {
         let mut next = || words.next().ok_or(format!("{word} takes a value"));
@@ -55,7 +63,8 @@ fn options() -> Result<Options, String> {
             "--seconds" => options.seconds = Some(number(next()?)?),
             "--seed" => options.seed = number(next()?)?,
             "--walk" => options.walk = Some(PathBuf::from(next()?)),
-            _ => return Err(format!("unknown option {word}\nusage: compare [--quick] [--seconds N] [--seed S] [--walk PROGRAM]")),
+            "--typed-walk" => options.typed_walks.push(PathBuf::from(next()?)),
+            _ => return Err(format!("unknown option {word}\n{USAGE}")),
         }
     }
     Ok(options)
@@ -68,6 +77,7 @@ fn run(session: &mut Session, options: &Options) -> Result<(), Vec<Call>> {
     session.most_touches()?;
     session.full_listings()?;
     session.changed_files(if options.quick { 64 } else { 4 })?;
+    session.changed_texts(if options.quick { 64 } else { 4 })?;
     let rounds = if options.quick { 20 } else { 500 };
     let mut round = 0;
     while match options.seconds {
@@ -101,8 +111,11 @@ fn main() -> ExitCode {
         session.counts_mut().differences += 1;
         print_example(calls);
     }
-    if let Some(program) = &options.walk {
-        match walks::walks(program, options.seed, if options.quick { 100 } else { 1_000 }) {
+    let count = if options.quick { 100 } else { 1_000 };
+    let walks = options.walk.iter().map(|program| walks::walks(program, options.seed, count));
+    let typed = options.typed_walks.iter().map(|program| walks::typed_walks(program, options.seed, count));
+    for outcome in walks.chain(typed) {
+        match outcome {
             Ok(count) => session.counts_mut().walks += count as u64,
             Err(text) => {
                 session.counts_mut().differences += 1;

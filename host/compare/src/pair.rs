@@ -25,11 +25,11 @@ static FILLED: [u8; ROOM] = [FILL; ROOM];
 /// The lent cell; the model's cell, none where the table is unsound; and the plain tree and all touches loaded and added, both kept from an
 /// accepted load on for as long as nobody else writes the cell.
 pub struct Pair {
-    lent: Lent,
+    pub lent: Lent,
     pub cell: Option<Cell>,
-    plain: Option<Plain>,
-    total: u128,
-    text: Vec<u8>,
+    pub plain: Option<Plain>,
+    pub total: u128,
+    pub text: Vec<u8>,
     thorough: bool,
     pub counts: Counts,
 }
@@ -78,6 +78,7 @@ impl Pair {
     pub fn call(&mut self, call: &Call) -> Result<(), String> {
         match *call {
             Call::Load(ref file) => self.load(file),
+            Call::Read(ref text) => self.read(text),
             Call::Step { agent, wish } => self.step(agent, wish),
             Call::Touch { place, number } => self.touch(place, number),
             Call::List { room } => self.list(room),
@@ -215,7 +216,7 @@ impl Pair {
 
     /// What can be seen between two calls: check, idle, the listing, the count of one place or, in a thorough pair, of all, and the fields of
     /// the table.
-    fn agree(&mut self) -> Result<(), String> {
+    pub fn agree(&mut self) -> Result<(), String> {
         let before = self.lent.clone();
         let table = Table::read(self.lent.bytes());
         let seen = table.cell();
@@ -235,6 +236,9 @@ impl Pair {
         same("check", self.lent.check(), answer::of_value(sound), answer::value_text)?;
         same("idle", self.lent.idle(), answer::of_value(idle), answer::value_text)?;
         self.list(ROOM)?;
+        if self.thorough || self.counts.listings % 32 == 0 {
+            self.read_back()?;
+        }
         let one = (self.counts.steps % 67) as u8;
         let (first, last) = if self.thorough { (0, 255) } else { (one, one) };
         (first..=last).try_for_each(|place| self.count(place))?;
@@ -266,7 +270,7 @@ impl Pair {
     }
 
     /// The lent cell has these bytes.
-    fn unchanged(&self, what: &str, bytes: &[u8; model::SIZE]) -> Result<(), String> {
+    pub fn unchanged(&self, what: &str, bytes: &[u8; model::SIZE]) -> Result<(), String> {
         match self.lent.bytes().iter().zip(bytes).position(|(now, then)| now != then) {
             None => Ok(()),
             Some(at) => Err(format!("{what} makes byte {at} of the cell {:02X} and not {:02X}", self.lent.bytes()[at], bytes[at])),
@@ -275,7 +279,7 @@ impl Pair {
 }
 
 /// The library's answer is the model's.
-fn same(call: &str, library: u64, model: u64, text: fn(u64) -> String) -> Result<(), String> {
+pub fn same(call: &str, library: u64, model: u64, text: fn(u64) -> String) -> Result<(), String> {
     if library == model {
         Ok(())
     } else {

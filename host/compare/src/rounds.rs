@@ -14,12 +14,12 @@ use model::Table;
 
 /// A pair, and the calls since its last load.
 pub struct Session {
-    pair: Pair,
+    pub pair: Pair,
     calls: Vec<Call>,
 }
 
 /// What a part of the session answers: nothing, or the calls that led to a difference.
-type Outcome = Result<(), Vec<Call>>;
+pub type Outcome = Result<(), Vec<Call>>;
 
 impl Session {
     /// A session on a bare floor.
@@ -41,8 +41,14 @@ impl Session {
 
     /// Loads a file. An accepted one is a new start, and a refused one has left everything as it was.
     fn start(&mut self, file: Vec<u8>) -> Outcome {
-        let accepted = model::load(&file).is_ok();
-        self.call(Call::Load(file))?;
+        self.start_by(Call::Load(file))
+    }
+
+    /// A new start by a file or by a text.
+    pub fn start_by(&mut self, call: Call) -> Outcome {
+        let before = self.pair.counts.accepted + self.pair.counts.texts;
+        self.call(call)?;
+        let accepted = self.pair.counts.accepted + self.pair.counts.texts > before;
         let last = self.calls.len() - 1;
         if accepted {
             self.calls.drain(..last);
@@ -182,8 +188,10 @@ impl Session {
             self.start(file)?;
         }
         for _ in 0..25 {
+            self.start(files::good(&mut random))?;
             self.order(&mut random)?;
         }
+        self.texts(&mut random)?;
         for _ in 0..10 {
             self.changed_cell(&mut random)?;
         }
@@ -194,9 +202,8 @@ impl Session {
         Ok(())
     }
 
-    /// A random order on a random cell, with touch calls, listings into small buffers and listings under other numbers among the steps.
-    fn order(&mut self, random: &mut Random) -> Outcome {
-        self.start(files::good(random))?;
+    /// A random order on the cell, with touch calls, listings into small buffers and listings under other numbers among the steps.
+    pub fn order(&mut self, random: &mut Random) -> Outcome {
         let mut order = Order::new(random);
         let agents = self.pair.cell.as_ref().map_or(0, |cell| cell.agents.len());
         let most = 10 + random.below(10 + 30 * agents);

@@ -17,6 +17,11 @@ pub fn loaded(file: &[u8]) -> Vec<u8> {
     (0..64).filter(|number| !given.contains(number)).chain(given.iter().copied()).collect()
 }
 
+/// "Places .. are numbered as they appear", and their age is the order in which they do: the row that a text with so many places gives.
+pub fn read(places: usize) -> Vec<u8> {
+    (0..64).filter(|&number| number == 0 || number > places as u8).chain(1..=places as u8).collect()
+}
+
 /// "A place that comes is the latest; children freed by an opening become the latest and keep their order among themselves": the row after
 /// a step of this agent, from the cell before it. Numbers that are not in use, places elsewhere and the opened one keep their order too.
 pub fn stepped(before: &[u8; SIZE], agent: u8, word: Word) -> Vec<u8> {

@@ -2,6 +2,7 @@
 
 use crate::call::Call;
 use crate::chance::shorter;
+use crate::edits::{agents, bytes, halves, names, numbers, pieces, plainer, rows, Edit, Edits};
 use crate::files::records;
 use crate::pair::Pair;
 use std::time::{Duration, Instant};
@@ -18,31 +19,6 @@ pub fn difference(calls: &[Call], thorough: bool) -> Option<(usize, String)> {
     calls.iter().enumerate().find_map(|(at, call)| pair.call(call).err().map(|text| (at, text)))
 }
 
-/// Something that makes an example simpler.
-#[derive(Clone, Copy)]
-enum Edit {
-    /// An agent's records and steps taken out.
-    Agent(u8),
-    /// So many calls taken out from one on.
-    Calls(usize, usize),
-    /// A record of a file taken out.
-    Record(usize, usize),
-    /// A place's record taken out, and what stood in it standing around it.
-    Opened(usize, usize),
-    /// An agent with another number, everywhere.
-    AgentNumber(u8, u8),
-    /// A place with another number, everywhere.
-    PlaceNumber(u8, u8),
-    /// A name, key or action's number replaced, everywhere.
-    Name([u8; 2], [u8; 2]),
-    /// A place's record without its keys.
-    Keyless(usize, usize),
-    /// A byte of a file replaced.
-    Byte(usize, usize, u8),
-    /// A step without a wish, fewer touches, a listing into less room, a lower byte written.
-    Plainer(usize),
-}
-
 /// An example that is being made smaller.
 struct Shrinking {
     calls: Vec<Call>,
@@ -55,15 +31,12 @@ pub fn smallest(calls: &[Call]) -> (Vec<Call>, Option<String>) {
     let thorough = difference(calls, false).is_none();
     let mut shrinking = Shrinking { calls: calls.to_vec(), thorough, end: Instant::now() + TIME };
     shrinking.cut();
-    let fewer: &[Edits] = &[agents, halves, rows];
+    let fewer: &[Edits] = &[agents, halves, rows, pieces];
     let plainer: &[Edits] = &[numbers, bytes, plainer];
     while shrinking.rounds(fewer) | shrinking.rounds(plainer) | shrinking.by_chance() {}
     let text = difference(&shrinking.calls, thorough).map(|(_, text)| text);
     (shrinking.calls, text)
 }
-
-/// The edits of one sort that an example allows.
-type Edits = fn(&[Call]) -> Vec<Edit>;
 
 impl Shrinking {
     /// Tries these edits until none of them makes the example smaller; whether any did.
@@ -105,9 +78,9 @@ impl Shrinking {
 
 /// How large an example is: calls first, then the bytes of its files, then how far its numbers are from plain ones.
 fn weight(calls: &[Call]) -> (usize, usize, usize) {
-    let bytes = calls.iter().map(|call| if let Call::Load(file) = call { file.len() } else { 0 }).sum();
+    let bytes = calls.iter().map(|call| if let Call::Load(bytes) | Call::Read(bytes) = call { bytes.len() } else { 0 }).sum();
     let numbers = |call: &Call| match call {
-        Call::Load(file) => file.iter().map(|&byte| byte as usize).sum(),
+        Call::Load(bytes) | Call::Read(bytes) => bytes.iter().map(|&byte| byte as usize).sum(),
         Call::Step { agent, wish } => *agent as usize + if *wish == 255 { 0 } else { 256 + *wish as usize },
         Call::Touch { place, number } => *place as usize + *number as usize,
         Call::List { room } => *room,
@@ -115,63 +88,6 @@ fn weight(calls: &[Call]) -> (usize, usize, usize) {
         Call::Write { byte, .. } => *byte as usize,
     };
     (calls.len(), bytes, calls.iter().map(numbers).sum())
-}
-
-/// The loads of an example, with their places in it.
-fn loads(calls: &[Call]) -> impl DoubleEndedIterator<Item = (usize, &Vec<u8>)> {
-    calls.iter().enumerate().filter_map(|(at, call)| if let Call::Load(file) = call { Some((at, file)) } else { None })
-}
-
-/// Each agent out.
-fn agents(_: &[Call]) -> Vec<Edit> {
-    (0..64).map(Edit::Agent).collect()
-}
-
-/// Halves, quarters and so on of the calls out, from the end.
-fn halves(calls: &[Call]) -> Vec<Edit> {
-    let mut edits = Vec::new();
-    let mut size = calls.len() / 2;
-    while size > 0 {
-        edits.extend((0..=calls.len() - size).rev().step_by(size).map(|from| Edit::Calls(from, size)));
-        size /= 2;
-    }
-    edits
-}
-
-/// Each record out or without its keys, from the end.
-fn rows(calls: &[Call]) -> Vec<Edit> {
-    let edits = |at, row| [Edit::Record(at, row), Edit::Opened(at, row), Edit::Keyless(at, row)];
-    let each = |(at, file): (usize, &Vec<u8>)| (0..records(file).len()).rev().flat_map(move |row| edits(at, row));
-    loads(calls).flat_map(each).collect()
-}
-
-/// Each agent, place and name with a low number.
-fn numbers(calls: &[Call]) -> Vec<Edit> {
-    let mut edits = Vec::new();
-    for row in loads(calls).flat_map(|(_, file)| records(file)) {
-        match row[..] {
-            [1 | 6, number, ..] => edits.extend((1..number.min(9)).map(|to| Edit::PlaceNumber(number, to))),
-            [2, number, ..] => edits.extend((0..number.min(9)).map(|to| Edit::AgentNumber(number, to))),
-            _ => {}
-        }
-        for name in names(&row).map(|at| [row[at], row[at + 1]]) {
-            edits.extend((1..9).map(|to| Edit::Name(name, [to, 0])));
-        }
-    }
-    edits
-}
-
-/// Each byte of the files lower, and of short files.
-fn bytes(calls: &[Call]) -> Vec<Edit> {
-    let short = loads(calls).filter(|(_, file)| file.len() < 200);
-    short
-        .flat_map(|(at, file)| (0..file.len()).flat_map(move |index| [0, 1, file[index] / 2].map(|to| Edit::Byte(at, index, to))))
-        .collect()
-}
-
-/// Each call plainer.
-fn plainer(calls: &[Call]) -> Vec<Edit> {
-    (0..calls.len()).map(Edit::Plainer).collect()
 }
 
 /// The example with the edit, if it applies.
@@ -241,13 +157,17 @@ fn edited(calls: &[Call], edit: Edit) -> Option<Vec<Call>> {
             Call::Load(file) => *file.get_mut(index)? = to,
             _ => return None,
         },
+        Edit::Piece(at, from, count) => match other.get_mut(at)? {
+            Call::Read(text) if from + count <= text.len() => drop(text.drain(from..from + count)),
+            _ => return None,
+        },
         Edit::Plainer(at) => match other.get_mut(at)? {
             Call::Step { wish, .. } => *wish = 255,
             Call::Touch { number, .. } => *number /= 2,
             Call::List { room } => *room /= 2,
             Call::Renumber { seed } => *seed /= 2,
             Call::Write { byte, .. } => *byte /= 2,
-            Call::Load(file) => drop(file.pop()),
+            Call::Load(bytes) | Call::Read(bytes) => drop(bytes.pop()),
         },
     }
     Some(other)
@@ -276,12 +196,6 @@ fn take_out(rows: &mut Vec<Vec<u8>>, row: usize, opened: bool) {
             replace(row, &[2], *number, *parent);
         }
     }
-}
-
-/// Where the names, keys or numbers of two bytes stand in a record.
-fn names(row: &[u8]) -> impl Iterator<Item = usize> {
-    let whole = matches!((row[0], row.len()), (1 | 3, 5) | (6, 11));
-    (3..row.len()).step_by(2).filter(move |_| whole)
 }
 
 /// Replaces a number in these bytes of a record.

@@ -12,6 +12,7 @@ mod choice;
 mod file;
 mod listing;
 mod plain;
+mod reading;
 mod sound;
 mod step;
 mod table;
@@ -27,12 +28,13 @@ pub use choice::{can_exit, choose, qualifying};
 pub use file::{load, Refused};
 pub use listing::listing;
 pub use plain::Plain;
+pub use reading::{is_beginning, read, tree};
 pub use sound::{holds, sound};
 pub use step::{step, Stepped, Word};
 pub use table::{ActionRecord, AgentRecord, PlaceRecord, Table, SIZE};
 pub use term::file_of;
 pub use touch::{touch, touch_sum, touches, MOST_TOUCHES};
-pub use walk::walk;
+pub use walk::{typed_walk, walk};
 
 /// "cut short: a body incomplete, or no end record"
 pub const CUT_SHORT: u8 = 1;
@@ -65,3 +67,7 @@ pub const PARENT_TOO_LARGE: u8 = 13;
 pub const AGENT_TOO_LARGE: u8 = 14;
 /// Document 02, W3: "15, last in a touch call, if that call would make it so": a table whose touches pass [`MOST_TOUCHES`]
 pub const TOO_MANY_TOUCHES: u8 = 15;
+/// Document 02, W8: "16 for text outside the language"
+pub const OUTSIDE_LANGUAGE: u8 = 16;
+/// Document 02, W8: "17, at the text's length, for too many of anything"
+pub const TOO_MANY: u8 = 17;

@@ -66,6 +66,11 @@ pub enum Refusal {
     AgentTooLarge,
     /// 15: the touch call would bring the places in use past [`TOUCHES_MOST`](crate::TOUCHES_MOST) touches.
     TooManyTouches,
+    /// 16: the text is not one of the listing's language. The offset is the first byte that cannot stand there, whatever follows it, or the text's
+    /// length where it stops too early: [`Cell::read`](crate::Cell::read) says what the language is.
+    OutsideLanguage,
+    /// 17: the text has more than 63 places, more than 64 agents, or an agent with more than sixteen actions. The offset is the text's length.
+    TooMany,
     /// 255, which no library answers: the linked library is not one that this crate was made for, and was not called.
     OtherLibrary,
     /// A refusal of a later library, by its number.
@@ -78,7 +83,7 @@ pub struct Refused {
     /// Why.
     pub refusal: Refusal,
     /// For a file that the library refused, the byte offset of the faulty record: of a missing end record, the file's length; of bytes
-    /// after the end record, the first of them.
+    /// after the end record, the first of them. For a text, the offset of the byte at which it goes wrong, or the text's length.
     pub offset: Option<usize>,
 }
 
@@ -128,8 +133,8 @@ impl Word {
 }
 
 impl Refusal {
-    /// The library's refusals, 1 to 15, in the order of their numbers.
-    pub const ALL: [Refusal; 15] = [
+    /// The library's refusals, 1 to 17, in the order of their numbers.
+    pub const ALL: [Refusal; 17] = [
         Refusal::CutShort,
         Refusal::UnknownKind,
         Refusal::TooLarge,
@@ -145,6 +150,8 @@ impl Refusal {
         Refusal::ParentTooLarge,
         Refusal::AgentTooLarge,
         Refusal::TooManyTouches,
+        Refusal::OutsideLanguage,
+        Refusal::TooMany,
     ];
 
     /// The number of [`Refusal::OtherLibrary`].
@@ -168,6 +175,8 @@ impl Refusal {
             13 => Refusal::ParentTooLarge,
             14 => Refusal::AgentTooLarge,
             15 => Refusal::TooManyTouches,
+            16 => Refusal::OutsideLanguage,
+            17 => Refusal::TooMany,
             Refusal::OTHER_LIBRARY => Refusal::OtherLibrary,
             _ => Refusal::Unknown(number),
         }
@@ -191,6 +200,8 @@ impl Refusal {
             Refusal::ParentTooLarge => 13,
             Refusal::AgentTooLarge => 14,
             Refusal::TooManyTouches => 15,
+            Refusal::OutsideLanguage => 16,
+            Refusal::TooMany => 17,
             Refusal::OtherLibrary => Refusal::OTHER_LIBRARY,
             Refusal::Unknown(number) => number,
         }
@@ -214,6 +225,8 @@ impl Refusal {
             Refusal::ParentTooLarge => "parent or home above 63",
             Refusal::AgentTooLarge => "agent number above 63",
             Refusal::TooManyTouches => "more than 1,000,000,000,000 touches in all",
+            Refusal::OutsideLanguage => "not a text of the listing's language",
+            Refusal::TooMany => "more than 63 places, 64 agents or sixteen actions of one agent",
             Refusal::OtherLibrary => "not the library that this crate was made for",
             Refusal::Unknown(_) => "unknown",
         }
@@ -260,8 +273,8 @@ mod tests {
 
     #[test]
     fn unknown_numbers_have_texts() {
-        assert!((1..=254).all(|number| (Refusal::of(number) == Refusal::Unknown(number)) == (number > 15)));
-        assert_eq!(Refusal::of(16).text(), "unknown");
+        assert!((1..=254).all(|number| (Refusal::of(number) == Refusal::Unknown(number)) == (number > 17)));
+        assert_eq!(Refusal::of(18).text(), "unknown");
         assert_eq!(Word::of(8).name(), "unknown");
     }
 }

@@ -119,6 +119,7 @@ extern "C" {
     fn keeper_cell_bytes() -> u64;
     fn keeper_bare(cell: *mut Lent) -> u64;
     fn keeper_load(cell: *mut Lent, file: *const u8, len: usize) -> u64;
+    fn keeper_read(cell: *mut Lent, text: *const u8, length: usize) -> u64;
     fn keeper_step(cell: *mut Lent, agent: u8, wish: u8) -> u64;
     fn keeper_list(cell: *const Lent, text: *mut u8, room: usize) -> u64;
     fn keeper_check(cell: *const Lent) -> u64;
@@ -183,6 +184,11 @@ impl Lent {
         asked(|| unsafe { keeper_load(self, file.as_ptr(), file.len()) })
     }
 
+    /// Makes the cell what the text, of the listing's language, says. It may have any bytes.
+    pub fn read(&mut self, text: &[u8]) -> u64 {
+        asked(|| unsafe { keeper_read(self, text.as_ptr(), text.len()) })
+    }
+
     /// One lock step of an agent.
     pub fn step(&mut self, agent: u8, wish: u8) -> u64 {
         asked(|| unsafe { keeper_step(self, agent, wish) })
@@ -233,7 +239,7 @@ mod tests {
         let size = SIZE as u64;
         assert!(fits());
         assert!(fitting(VERSION, size) && fitting(VERSION + 1, size) && fitting(VERSION + 256, size));
-        assert!(!fitting(VERSION + 65_536, size) && !fitting(VERSION - 65_536, size));
+        assert!(!fitting(VERSION + 65_536, size) && !fitting(VERSION - 65_536, size) && !fitting(VERSION - 256, size));
         assert!(!fitting(VERSION, size + 8) && !fitting(VERSION, 0));
     }
 }

@@ -253,7 +253,7 @@ fn texts() {
     let refused = Cell::load(&[4, 4]).unwrap_err();
     assert_eq!(refused.to_string(), "refused with 9: bytes after the end record, at byte 1");
     let numbers: Vec<u8> = Refusal::ALL.iter().map(|refusal| refusal.number()).collect();
-    assert_eq!(numbers, (1..=15).collect::<Vec<u8>>());
+    assert_eq!(numbers, (1..=17).collect::<Vec<u8>>());
     assert_eq!(Refusal::TooLarge.to_string(), "place number above 63, or 0 in a place record");
     assert_eq!(Cell::load(&[1, 1, 64, 7, 0, 4]).unwrap_err().to_string(), "refused with 13: parent or home above 63, at byte 0");
     assert_eq!(Cell::load(&[2, 64, 0, 4]).unwrap_err().to_string(), "refused with 14: agent number above 63, at byte 0");

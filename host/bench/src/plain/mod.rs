@@ -3,12 +3,13 @@
 //! The cell is changed in place. Every pass goes over all 64 numbers and asks of each whether it is in use. Loading is the tuned peer's.
 
 mod list;
+mod read;
 mod sound;
 mod step;
 
 use crate::cell::{has, Cell};
 use crate::keeper::Keeper;
-use crate::tuned::{Tuned, NOT_GIVEN, NO_SUCH_AGENT, TOO_LARGE, TOO_LONG, TOO_MANY, UNSOUND};
+use crate::tuned::{take, Tuned, NOT_GIVEN, NO_SUCH_AGENT, TOO_LARGE, TOO_LONG, TOO_MANY_TOUCHES, UNSOUND};
 use sound::{few_touches, sound};
 
 /// The plain Rust keeper.
@@ -21,6 +22,11 @@ impl Keeper for Plain {
 
     fn load(cell: &mut Cell, file: &[u8]) -> u64 {
         Tuned::load(cell, file)
+    }
+
+    #[inline(never)]
+    fn read(cell: &mut Cell, text: &[u8]) -> u64 {
+        take(cell, read::read(text))
     }
 
     #[inline(never)]
@@ -75,7 +81,7 @@ impl Keeper for Plain {
             return refused;
         }
         if !few_touches(cell, number as u64) {
-            return TOO_MANY;
+            return TOO_MANY_TOUCHES;
         }
         cell.touches[place as usize] += number as u64;
         cell.touches[place as usize] << 8

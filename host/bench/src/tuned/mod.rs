@@ -5,11 +5,13 @@
 
 mod list;
 mod load;
+mod read;
 mod sound;
 mod step;
 
 use crate::cell::{has, members, Cell, MOST_TOUCHES};
 use crate::keeper::Keeper;
+pub use load::Refused;
 use sound::{sound, sound_touches};
 
 /// Refusal: a place above 63.
@@ -23,10 +25,25 @@ pub const NO_SUCH_AGENT: u64 = 11;
 /// Refusal: listing longer than the buffer.
 pub const TOO_LONG: u64 = 12;
 /// Refusal: too many touches.
-pub const TOO_MANY: u64 = 15;
+pub const TOO_MANY_TOUCHES: u64 = 15;
+/// Refusal: a text outside the language.
+pub const OUTSIDE_LANGUAGE: u8 = 16;
+/// Refusal: a text with too many of anything.
+pub const TOO_MANY: u8 = 17;
 
 /// The tuned Rust keeper.
 pub struct Tuned;
+
+/// Takes the cell of a file or a text, and answers 0; or its refusal.
+pub fn take(cell: &mut Cell, given: Result<Cell, Refused>) -> u64 {
+    match given {
+        Ok(given) => {
+            *cell = given;
+            0
+        }
+        Err(refused) => (refused.offset as u64) << 8 | refused.number as u64,
+    }
+}
 
 impl Keeper for Tuned {
     #[inline(never)]
@@ -37,13 +54,12 @@ impl Keeper for Tuned {
 
     #[inline(never)]
     fn load(cell: &mut Cell, file: &[u8]) -> u64 {
-        match load::load(file) {
-            Ok(loaded) => {
-                *cell = loaded;
-                0
-            }
-            Err(refused) => (refused.offset as u64) << 8 | refused.number as u64,
-        }
+        take(cell, load::load(file))
+    }
+
+    #[inline(never)]
+    fn read(cell: &mut Cell, text: &[u8]) -> u64 {
+        take(cell, read::read(text))
     }
 
     #[inline(never)]
@@ -93,7 +109,7 @@ impl Keeper for Tuned {
             None => UNSOUND,
             Some(_) if place > 63 => TOO_LARGE,
             Some(_) if !has(cell.used, place) => NOT_GIVEN,
-            Some(sum) if number as u64 > MOST_TOUCHES - sum => TOO_MANY,
+            Some(sum) if number as u64 > MOST_TOUCHES - sum => TOO_MANY_TOUCHES,
             Some(_) => {
                 cell.touches[place as usize] += number as u64;
                 cell.touches[place as usize] << 8

@@ -6,7 +6,7 @@ use Rattle.parser.proofs.machine.more_digits.Statement.{statement}
 use Rattle.parser.proofs.machine.more_digits.Tie as tie
 
 returns : tie.Need-returns
-returns c = longer-zero _ _ (c .if1 .taken)
+returns c = let a = c .before .args in longer-zero (a .v) (a .b) (c .if1 .taken)
 
 sub-wide : tie.Need-sub-wide
 sub-wide c = omega (

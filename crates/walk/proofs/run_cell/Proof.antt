@@ -3,14 +3,13 @@ use mathlib.Core.Path.{sym}
 use lib.Seq.{length-take-le}
 use Rattle.buffers.specs.HeldLaws.{whole-within}
 use borrow.Author.Needs.{needs}
-use Rattle.walk.proofs.main.Statement.{statement}
-use Rattle.walk.proofs.main.Tie as tie
+use Rattle.walk.proofs.run_cell.Statement.{statement}
+use Rattle.walk.proofs.run_cell.Tie as tie
 
-pub main-spec : {M : Type 1} → statement M
-main-spec =
+pub run-cell-spec : {M : Type 1} → statement M
+run-cell-spec =
     tie.close
     (tie.spec
-    (λ c κs. search needs) (λ c κs. search needs)
     (λ c. search needs) (λ c. search needs) (λ c κs. search needs)
     (λ c. search needs) (λ c. search needs) (λ c. search needs)
     (λ c. search needs) (λ c. search needs) (λ c κs. search needs)
