@@ -7,6 +7,7 @@ pub mod Agrees
 pub mod NoMore
 pub mod TouchTotal
 pub mod FirstCome
+pub mod FileTree
 pub mod SameListings
 -- the theorems
 pub mod DemandOne
@@ -17,6 +18,7 @@ pub mod AgreesLaws
 pub mod NoMoreLaws
 pub mod TouchTotalLaws
 pub mod FirstComeLaws
+pub mod FileTreeLaws
 pub mod SameListingsLaws
 -- the refusals of a load and of the reading of a text
 pub mod RefusedLoads

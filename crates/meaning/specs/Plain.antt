@@ -24,7 +24,7 @@ pub record Plain : Type 0 where
   pub pick : ℕ → ℕ
   pub order : List ℕ
 
--- ---- one part of a plain tree written anew: besides plainOf the only definitions that write one out
+-- ---- one part of a plain tree written anew: besides plainOf, and plainIn of demands, the only definitions that write one out
 
 abbrev pub withTree : Plain → Tree → Plain
 withTree t u = record { tree = u; travels = t .travels; pick = t .pick; order = t .order }
@@ -56,7 +56,8 @@ treeFrom l home unused = record {
 unfoldable pub treeOf : State → Tree
 treeOf c = treeFrom (c .land) (λ x. cond (c .given x) (c .agent x .home) 0) (λ x. cond (c .given x) (unused (c .agent x)) [])
 
--- "It starts as the file says, with nothing travelling and no picks": c is the cell that the file gives
+-- "It starts as the file says, with nothing travelling and no picks": c is the cell that the file gives. What the file's bytes say is plainIn of
+-- demands, and starts-as-file there shows the two equal
 unfoldable pub plainOf : State → Plain
 unfolding treeOf
 plainOf c = record { tree = treeOf c; travels = λ q. false; pick = λ x. none; order = c .land .order }
