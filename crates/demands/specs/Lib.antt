@@ -1,4 +1,5 @@
 -- what is claimed
+pub mod FileFaults
 pub mod Refusals
 pub mod AfterCalls
 pub mod Printed
@@ -21,6 +22,8 @@ pub mod FirstComeLaws
 pub mod FileTreeLaws
 pub mod SameListingsLaws
 -- the refusals of a load and of the reading of a text
+pub mod RecordFaultLaws
+pub mod FileFaultLaws
 pub mod RefusedLoads
 pub mod RefusedReading
 -- the invariant and the ways a step can go
