@@ -27,6 +27,7 @@ firstNumber s at = byteAt s (at + 1)
 abbrev pub secondNumber : List ℕ → ℕ → ℕ
 secondNumber s at = byteAt s (at + 2)
 
+-- the other kinds by name: an agent, an action, the end, touches
 abbrev pub isAgent : ℕ → Bool
 isAgent kind = eqb kind 2
 
@@ -121,7 +122,7 @@ isSeventeenth s e at = isAction (kindAt s at) && leb 16 (howOften (firstNumber s
 
 -- ---- the order of the tests
 
--- a number and whether its condition holds
+-- a number, and whether its condition holds of the record
 pub data Test : Type 0 where
   test : ℕ → Bool → Test
 

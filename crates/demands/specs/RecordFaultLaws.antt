@@ -74,6 +74,7 @@ pub data KindIs (kind : ℕ) : Type 0 where
   is-keyed : kind ≡ 6 → KindIs kind
   is-unknown : (ltb kind 1 || ltb 6 kind) ≡ true → ((n : ℕ) → 1 ≤ n → n ≤ 6 → eqb kind n ≡ false) → KindIs kind
 
+-- every number is one of these
 pub kind-is : (kind : ℕ) → KindIs kind
 kind-is k = go (told (ltb k 1)) (told (ltb 6 k)) (told (ltb k 2)) (told (ltb k 3)) (told (ltb k 4)) (told (ltb k 5)) (told (ltb k 6))
   where
@@ -87,7 +88,7 @@ kind-is k = go (told (ltb k 1)) (told (ltb 6 k)) (told (ltb k 2)) (told (ltb k 3
     go (nay a) (nay b) (nay c) (nay d) (nay e) (nay f) (yea g) = is-touches (omega (arith, ltb-false k 5 f, ltb-true k 6 g))
     go (nay a) (nay b) (nay c) (nay d) (nay e) (nay f) (nay g) = is-keyed (omega (arith, ltb-false 6 k b, ltb-false k 6 g))
 
--- ---- the tests that can hold of each kind, in the order of the row
+-- ---- the tests that can hold of each kind, in the order of the row: on the left as a record is read, on the right as the row has them
 
 place-row : (cut zero large parent taken known unnamed : Bool) (r : Record)
     → cond cut (Faulty cutShort) (cond zero (Faulty placeTooLarge) (cond large (Faulty placeTooLarge) (cond parent (Faulty parentTooLarge)
