@@ -128,7 +128,7 @@ pub record OnlyAgent (c : State) (x : ℕ) (d : State) : Type 0 where
   pub touches : d .touches ≡ c .touches
   pub others : (y : ℕ) → y ≢ x → d .agent y ≡ c .agent y
 
--- "release": the locks of x given back: those of others stay, and no place in use is x's any more
+-- "release", "release both": the locks of x given back: those of others stay, and no place in use is x's any more
 pub record Returned (c : State) (x : ℕ) (lock′ : ℕ → ℕ) : Type 0 where
   pub others : (r : ℕ) → c .lock r ≢ x → lock′ r ≡ c .lock r
   pub ours : (r : ℕ) → c .land .used r ≡ true → c .lock r ≡ x → lock′ r ≡ none
@@ -190,7 +190,7 @@ pub record ByReleasing (c : State) (x : ℕ) (d : State) : Type 0 where
   pub locks : Returned c x (d .lock)
 
 -- "unlink its place; the destination is the chosen place, or p's parent as it is now; .. release both; wake all asleep on p or its own place;
--- left"
+-- left"; p is the place that x remembers
 pub record ByLeaving (c : State) (x : ℕ) (d : State) : Type 0 where
   pub place : OnlyPlace c (c .agent x .home) (destinationOf (c .land) (c .agent x)) 1 d
   pub locks : Returned c x (d .lock)
@@ -209,7 +209,7 @@ pub record ByComing (c : State) (x : ℕ) (d : State) : Type 0 where
 
 -- "Open: children and agents of the chosen place go to p, its number becomes unused, the moved agents that aren't done go to stage 0, a lock that
 -- one of them held at stage 2 being released; wake all asleep on p or on it, and set to stage 0 all that remembered it at stage 1; .. release
--- both; opened"; a child keeps its name, keys and way
+-- both; opened"; p is the place that x remembers, and a child keeps its name, keys and way
 pub record ByOpening (c : State) (x : ℕ) (d : State) : Type 0 where
   pub dissolved : d .land .place (c .agent x .chosen) ≡ noPlace
   pub children : (q : ℕ) → c .land .used q ≡ true → q ≢ c .agent x .chosen → c .land .place q .parent ≡ c .agent x .chosen
