@@ -4,8 +4,7 @@
 use mathlib.Core.Path.{_≡_, refl, sym, ap, _∙_, subst}
 use mathlib.Core.Logic.{_≢_, inl, inr}
 use mathlib.Core.Bool.{true, cond}
-use Prim.Native.Nat.{ℕ, _+_, _≤_}
-use native.Mathlib.Nat.{add-zero}
+use Prim.Native.Nat.{ℕ, _≤_}
 use native.Mathlib.Omega.{arith}
 use lib.Dec.{eqb}
 use borrow.Author.Tests.{eqb-true, eqb-false, eq-eqb, ne-eqb}
@@ -16,13 +15,13 @@ use Rattle.table.specs.Sound.{secondPlace}
 use Rattle.table.specs.declared.Place.{Place}
 use Rattle.table.specs.declared.Agent.{Agent}
 use Rattle.meaning.specs.declared.Word.{Word}
-use Rattle.meaning.specs.declared.Word.the-variants.{Looked, Took, Held, Back, Slept, Left, Came, Opened, Asleep, Done}
+use Rattle.meaning.specs.declared.Word.the-variants.{Looked, Took, Back, Slept, Left, Came, Opened}
 use Rattle.meaning.specs.declared.Answer.the-variants.{Did}
 use Rattle.meaning.specs.Update.{atStage, useUp, withLocks, withAgent, released}
 use Rattle.meaning.specs.Step.{Outcome, still, leave, dissolve, arrive, wake, asleepOn, destinationOf, beyond}
-use Rattle.demands.specs.NoMore.{usedUp, stageBy, Stepped, OnlyAgent, Returned, needed, Waking, Dissolved, is-woken, is-awake, sleeps-elsewhere, around}
+use Rattle.demands.specs.NoMore.{usedUp, stageBy, rememberedBy, chosenBy, Stepped, OnlyAgent, Returned, needed, Waking, Dissolved, is-woken, is-awake, sleeps-elsewhere, around}
 use Rattle.demands.specs.NoMore.{ByTaking, ByReleasing, ByLeaving, ByComing, ByOpening, Changes}
-use Rattle.demands.specs.Reading.{agentIn}
+use Rattle.demands.specs.Reading.{parentIn, agentIn}
 use Rattle.demands.specs.ReadingLaws.{agent-given}
 use Rattle.demands.specs.Invariant.{Sound, Holds, Kept, free, kept}
 use Rattle.demands.specs.Ways.{Way, takesLock, givesBack, is-done, is-asleep, held-first, held-second, held-own, held-destination, looks-up}
@@ -31,36 +30,11 @@ use Rattle.demands.specs.Ways.{takes-own, takes-destination, comes}
 use Rattle.demands.specs.Facts.{parent-read, link-used}
 use Rattle.demands.specs.Actions.{has-some}
 use Rattle.demands.specs.Stages.{ok-at, ok-given, home-given, holds-none, returned-two, returned-three, returned-move, returned-six}
+use Rattle.demands.specs.StepWays.{kind-given}
+use Rattle.demands.specs.SteppedLaws.{stepped-at, stepped-used, stepped-held, stepped-asleep, stepped-done, looks-around, looks-inside}
+use Rattle.demands.specs.SteppedLaws.{sleeps-at-home, sleeps-around, took-near, took-travelling, took-none, took-choice}
 use Rattle.demands.specs.OpeningAgents.{dissolved}
 use Rattle.demands.specs.OpeningLocks.{Opener, opener, own-freed, moved-freed, others-kept}
-
--- ---- the agent that steps
-
--- at another stage, with no action used up
-stepped-at : (word : Word) (a : Agent) (stage remembered chosen : ℕ) → usedUp word ≡ 0 → stage ≡ stageBy word a (atStage a stage remembered chosen)
-    → Stepped word a (atStage a stage remembered chosen)
-stepped-at word a stage remembered chosen u s = record {
-  home = refl;
-  actions = refl;
-  count = refl;
-  next = sym (ap (λ (n : ℕ). a .next + n) u ∙ add-zero (a .next));
-  stage = s;
-}
-
--- as it was
-stepped-same : (word : Word) (a : Agent) → usedUp word ≡ 0 → a .stage ≡ stageBy word a a → Stepped word a a
-stepped-same word a u s = stepped-at word a (a .stage) (a .remembered) (a .chosen) u s
-
--- with one action used up, where it had one
-stepped-used : (word : Word) (a : Agent) (stage : ℕ) → hasAction a ≡ true → usedUp word ≡ 1 → stage ≡ stageBy word a (atStage (useUp a) stage 0 0)
-    → Stepped word a (atStage (useUp a) stage 0 0)
-stepped-used word a stage h u s = record {
-  home = refl;
-  actions = refl;
-  count = refl;
-  next = rw (h, u);
-  stage = s;
-}
 
 -- ---- waking
 
@@ -108,8 +82,9 @@ module _ (c : State) (i : Sound c) (x : ℕ) (g : c .given x ≡ true) where
   only-agent a lock = record { land = refl; touches = refl; others = λ y n. upd-other (c .agent) x y a n }
 
   -- what holds of the agent written anew holds of agent x after
-  own : {word : Word} (f : ℕ → Agent) (a : Agent) → Stepped word (c .agent x) a → Stepped word (c .agent x) (upd f x a x)
-  own {word} f a = subst (Stepped word (c .agent x)) (sym (upd-same f x a))
+  own : {word : Word} {wish : ℕ} (f : ℕ → Agent) (a : Agent) → Stepped word (c .land) wish (c .agent x) a
+      → Stepped word (c .land) wish (c .agent x) (upd f x a x)
+  own {word} {wish} f a = subst (Stepped word (c .land) wish (c .agent x)) (sym (upd-same f x a))
 
   taking : (q stage remembered chosen : ℕ) → c .lock q ≡ none
       → needed (c .land) (c .agent x) chosen ≡ q
@@ -209,37 +184,76 @@ module _ (c : State) (i : Sound c) (x : ℕ) (g : c .given x ≡ true) where
 
   -- ---- every way
 
-  pub way-changes : {wish : ℕ} {o : Outcome} → Way c x wish o → Changes (Did (o .word) (o .woken)) c x (o .cell)
-  unfolding still leave dissolve arrive
-  way-changes (is-done _) = (stepped-same Done _ refl refl, refl)
-  way-changes (is-asleep _) = (stepped-same Asleep _ refl refl, refl)
-  way-changes (held-first _ _) = (stepped-same Held _ refl refl, refl)
-  way-changes (held-second _ _ _ _) = (stepped-same Held _ refl refl, refl)
-  way-changes (held-own _ _) = (stepped-same Held _ refl refl, refl)
-  way-changes (held-destination _ _) = (stepped-same Held _ refl refl, refl)
-  way-changes (looks-up _ _ _) = (own _ _ (stepped-at Looked _ _ _ _ refl refl), record { only = only-agent _ _; locks = refl })
-  way-changes (looks-home _ _) = (own _ _ (stepped-at Looked _ _ _ _ refl refl), record { only = only-agent _ _; locks = refl })
-  way-changes (sleeps-alone s _ _) = (own _ _ (stepped-at Slept _ _ _ _ refl refl), record { only = only-agent _ _; locks = idle (omega arith) })
-  way-changes (takes-first s f) = (own _ _ (stepped-at Took _ _ _ _ refl (omega arith)), taking _ _ _ _ f (needed-first (c .land) (c .agent x) 0 s))
-  way-changes (goes-back s _) = (own _ _ (stepped-at Back _ _ _ _ refl refl), releasing _ _ _ _ (returned-two c i x g s))
-  way-changes (sleeps-stuck s _ _) = (own _ _ (stepped-at Slept _ _ _ _ refl refl), releasing _ _ _ _ (returned-two c i x g s))
-  way-changes (takes-second q s _ _ _ f) = (
-    own _ _ (stepped-at Took _ _ _ _ refl (omega arith)),
-    taking _ _ _ _ f (needed-second (c .land) (c .agent x) _ s ∙ second-kept (kindOf (c .agent x)) (c .agent x .home) q),
-  )
-  way-changes (gives-up s _) = (own _ _ (stepped-at Back _ _ _ _ refl refl), releasing _ _ _ _ (returned-three c i x g s))
-  way-changes (enters s k _) = (own _ _ (stepped-used Left _ _ (acts s) refl refl), leaving _ (rw k) s (omega arith))
-  way-changes (exits s k _) = (
-    own _ _ (stepped-used Left _ _ (acts s) refl refl),
-    leaving _ (parent-read (c .land) (c .agent x .remembered) (ok-at 3 s (ok-given c i x g) .0 .known) ∙ rw k) s (omega arith),
-  )
-  way-changes (opens s k _) = (own _ _ (stepped-used Opened _ _ (acts s) refl refl), opening (opener c i x g s k))
-  way-changes (takes-own s f) = (own _ _ (stepped-at Took _ _ _ _ refl (omega arith)), taking _ _ _ _ f (needed-own (c .land) (c .agent x) 0 s))
-  way-changes (takes-destination s f) = (
-    own _ _ (stepped-at Took _ _ _ _ refl (omega arith)),
-    taking _ _ _ _ f (needed-destination (c .land) (c .agent x) 0 s ∙ sym (parent-read (c .land) (c .agent x .home) (home-given c i x g))),
-  )
-  way-changes (comes s) = (
-    own _ _ (stepped-at Came _ _ _ _ refl refl),
-    coming _ (parent-read (c .land) (c .agent x .home) (home-given c i x g)) (returned-six c i x g s),
-  )
+  module _ (wish : ℕ) where
+    abbrev l : Land
+    l = c .land
+
+    abbrev a : Agent
+    a = c .agent x
+
+    known : a .stage ≡ 3 → l .used (a .remembered) ≡ true
+    known s = ok-at 3 s (ok-given c i x g) .0 .known
+
+    destination : parentIn l (a .home) ≡ l .place (a .home) .parent
+    destination = parent-read l (a .home) (home-given c i x g)
+
+    -- x goes on to a stage, and with its action used up
+    goes : (word : Word) (f : ℕ → Agent) (stage remembered chosen : ℕ) → usedUp word ≡ 0
+        → stage ≡ stageBy word a (atStage a stage remembered chosen) → rememberedBy word l a ≡ remembered → chosenBy word l a wish ≡ chosen
+        → Stepped word l wish a (upd f x (atStage a stage remembered chosen) x)
+    goes word f stage remembered chosen u s r q = own f (atStage a stage remembered chosen)
+        (stepped-at word l wish a stage remembered chosen u s (sym r) (sym q))
+
+    uses : (word : Word) (f : ℕ → Agent) (stage : ℕ) → a .stage ≡ 3 → usedUp word ≡ 1 → stage ≡ stageBy word a (atStage (useUp a) stage 0 0)
+        → 0 ≡ rememberedBy word l a → 0 ≡ chosenBy word l a wish → Stepped word l wish a (upd f x (atStage (useUp a) stage 0 0) x)
+    uses word f stage e u s r q = own f (atStage (useUp a) stage 0 0) (stepped-used word l wish a stage (acts e) u s r q)
+
+    pub way-changes : {o : Outcome} → Way c x wish o → Changes (Did (o .word) (o .woken)) c x wish (o .cell)
+    unfolding still leave dissolve arrive
+    way-changes (is-done _) = (stepped-done l wish a, refl)
+    way-changes (is-asleep _) = (stepped-asleep l wish a, refl)
+    way-changes (held-first _ _) = (stepped-held l wish a, refl)
+    way-changes (held-second _ _ _ _) = (stepped-held l wish a, refl)
+    way-changes (held-own _ _) = (stepped-held l wish a, refl)
+    way-changes (held-destination _ _) = (stepped-held l wish a, refl)
+    way-changes (looks-up _ k _) = (
+      goes Looked _ _ _ _ refl refl (looks-around l wish a k ∙ sym destination) refl,
+      record { only = only-agent _ _; locks = refl },
+    )
+    way-changes (looks-home _ k) = (
+      goes Looked _ _ _ _ refl refl (looks-inside l wish a (omega (arith, kind-given c i x g))) refl,
+      record { only = only-agent _ _; locks = refl },
+    )
+    way-changes (sleeps-alone s _ _) = (
+      goes Slept _ _ _ _ refl refl (sleeps-at-home l wish a s) refl,
+      record { only = only-agent _ _; locks = idle (omega arith) },
+    )
+    way-changes (takes-first s f) = (
+      goes Took _ _ _ _ refl (omega arith) (took-near l wish a 1 refl s) (took-none l wish a 1 refl s),
+      taking _ _ _ _ f (needed-first l a 0 s),
+    )
+    way-changes (goes-back s _) = (goes Back _ _ _ _ refl refl refl refl, releasing _ _ _ _ (returned-two c i x g s))
+    way-changes (sleeps-stuck s _ _) = (
+      goes Slept _ _ _ _ refl refl (sleeps-around l wish a s) refl,
+      releasing _ _ _ _ (returned-two c i x g s),
+    )
+    way-changes (takes-second q s _ e _ f) = (
+      goes Took _ _ _ _ refl (omega arith) (took-near l wish a 2 refl s) (took-choice l wish a q s e),
+      taking _ _ _ _ f (needed-second l a _ s ∙ second-kept (kindOf a) (a .home) q),
+    )
+    way-changes (gives-up s _) = (goes Back _ _ _ _ refl refl refl refl, releasing _ _ _ _ (returned-three c i x g s))
+    way-changes (enters s k _) = (uses Left _ _ s refl refl refl refl, leaving _ (rw k) s (omega arith))
+    way-changes (exits s k _) = (
+      uses Left _ _ s refl refl refl refl,
+      leaving _ (parent-read l (a .remembered) (known s) ∙ rw k) s (omega arith),
+    )
+    way-changes (opens s k _) = (uses Opened _ _ s refl refl refl refl, opening (opener c i x g s k))
+    way-changes (takes-own s f) = (
+      goes Took _ _ _ _ refl (omega arith) (took-travelling l wish a 4 refl s) (took-none l wish a 4 refl s),
+      taking _ _ _ _ f (needed-own l a 0 s),
+    )
+    way-changes (takes-destination s f) = (
+      goes Took _ _ _ _ refl (omega arith) (took-travelling l wish a 5 refl s) (took-none l wish a 5 refl s),
+      taking _ _ _ _ f (needed-destination l a 0 s ∙ sym destination),
+    )
+    way-changes (comes s) = (goes Came _ _ _ _ refl refl refl refl, coming _ destination (returned-six c i x g s))

@@ -60,6 +60,7 @@ pub mod OpeningLocks
 pub mod OpeningTouches
 pub mod Opening
 pub mod Woken
+pub mod SteppedLaws
 pub mod ChangesLaws
 pub mod Touching
 pub mod Always

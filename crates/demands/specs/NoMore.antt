@@ -4,9 +4,9 @@ use mathlib.Core.Logic.{_≢_, _⊎_}
 use mathlib.Core.Bool.{Bool, true, false, not, _&&_, cond}
 use mathlib.Core.List.{List}
 use Prim.Native.Nat.{ℕ, _+_}
-use lib.Dec.{eqb}
+use lib.Dec.{eqb, leb}
 use Rattle.order.specs.Row.{later, latest}
-use Rattle.table.specs.Cell.{Land, State, none, noPlace, kindOf, looking, found, holding, onWay, asleep, done}
+use Rattle.table.specs.Cell.{Land, State, none, noPlace, kindOf, exitKind, looksHome, looking, found, holding, onWay, asleep, done}
 use Rattle.table.specs.Sound.{secondPlace}
 use Rattle.table.specs.declared.Agent.{Agent}
 use Rattle.meaning.specs.declared.Word.{Word}
@@ -15,7 +15,7 @@ use Rattle.meaning.specs.declared.Answer.{Answer}
 use Rattle.meaning.specs.declared.Answer.the-variants.{Did, Refused}
 use Rattle.meaning.specs.declared.Touching.{Touching}
 use Rattle.meaning.specs.Update.{atStage, withHome, withParent}
-use Rattle.meaning.specs.Step.{restStage, childOf, letsGo, destinationOf, beyond}
+use Rattle.meaning.specs.Step.{choice, restStage, childOf, letsGo, destinationOf, beyond}
 use Rattle.meaning.specs.Run.{touchCall, touchReply}
 use Rattle.demands.specs.TouchTotal.{addedBy}
 
@@ -111,14 +111,44 @@ stageBy Opened a b = restStage b
 stageBy Asleep a b = a .stage
 stageBy Done a b = a .stage
 
--- the agent that steps, a before and b after: it lives where it lived and has the same row of actions, of which the step uses up what its word
--- says, and is at the stage that the word says; which places it remembers then is left to the step
-pub record Stepped (word : Word) (a b : Agent) : Type 0 where
+-- "An agent remembers a place at stages 1 to 3 and 7 (there the one it sleeps on) .. otherwise nothing": the place that an agent, which is a,
+-- remembers after a step with this word. "Open: remember its own place", "Enter or exit: remember the parent"; p stays remembered up to stage 3;
+-- "slept, stage 7 on its own place" at stage 0, "stage 7 on p" at stage 2
+abbrev pub rememberedBy : Word → Land → Agent → ℕ
+rememberedBy Looked l a = cond (looksHome (kindOf a)) (a .home) (l .place (a .home) .parent)
+rememberedBy Took l a = cond (leb (a .stage) holding) (a .remembered) 0
+rememberedBy Held l a = a .remembered
+rememberedBy Back l a = 0
+rememberedBy Slept l a = cond (eqb (a .stage) looking) (a .home) (a .remembered)
+rememberedBy Left l a = 0
+rememberedBy Came l a = 0
+rememberedBy Opened l a = 0
+rememberedBy Asleep l a = a .remembered
+rememberedBy Done l a = a .remembered
+
+-- "and a chosen place at stage 3 of enter and open; otherwise nothing": the chosen place after a step with this word and wish
+abbrev pub chosenBy : Word → Land → Agent → ℕ → ℕ
+chosenBy Looked l a wish = 0
+chosenBy Took l a wish = cond (eqb (a .stage) holding && not (eqb (kindOf a) exitKind)) (choice l a wish) 0
+chosenBy Held l a wish = a .chosen
+chosenBy Back l a wish = 0
+chosenBy Slept l a wish = 0
+chosenBy Left l a wish = 0
+chosenBy Came l a wish = 0
+chosenBy Opened l a wish = 0
+chosenBy Asleep l a wish = a .chosen
+chosenBy Done l a wish = a .chosen
+
+-- the agent that steps among these places, with this wish, a before and b after: it lives where it lived and has the same row of actions, of which
+-- the step uses up what its word says; its stage, its remembered and its chosen place are those that the word says
+pub record Stepped (word : Word) (l : Land) (wish : ℕ) (a b : Agent) : Type 0 where
   pub home : b .home ≡ a .home
   pub actions : b .actions ≡ a .actions
   pub count : b .count ≡ a .count
   pub next : b .next ≡ a .next + usedUp word
   pub stage : b .stage ≡ stageBy word a b
+  pub remembered : b .remembered ≡ rememberedBy word l a
+  pub chosen : b .chosen ≡ chosenBy word l a wish
 
 -- ---- the others, the locks and the places
 
@@ -233,22 +263,22 @@ ChangesBy Opened c x d = ByOpening c x d
 ChangesBy Asleep c x d = d ≡ c
 ChangesBy Done c x d = d ≡ c
 
--- what a call of agent x with this answer changes, of x itself and of the rest; a refused one nothing
-abbrev pub Changes : Answer → State → ℕ → State → Type 0
-Changes (Did word woken) c x d = Stepped word (c .agent x) (d .agent x) × ChangesBy word c x d
-Changes (Refused number) c x d = d ≡ c
+-- what a call of agent x with this wish and answer changes, of x itself and of the rest; a refused one nothing
+abbrev pub Changes : Answer → State → ℕ → ℕ → State → Type 0
+Changes (Did word woken) c x wish d = Stepped word (c .land) wish (c .agent x) (d .agent x) × ChangesBy word c x d
+Changes (Refused number) c x wish d = d ≡ c
 
 -- ---- the claims
 
--- by a step call of agent x with this answer nothing is changed that is not in use; the places in use are the same but for the one that is
+-- by a step call of agent x with this wish and answer nothing is changed that is not in use; the places in use are the same but for the one that is
 -- opened, so are the touches but for that one and the opener's place, and the row but for those that arrive; and of what is in use only that
--- changes which the sentence of the word lists
-pub record NoMore (c : State) (x : ℕ) (d : State) (answer : Answer) : Type 0 where
+-- changes which the sentence of the word lists. Together they give the whole cell after the call
+pub record NoMore (c : State) (x wish : ℕ) (d : State) (answer : Answer) : Type 0 where
   pub untouched : Untouched c d
   pub used : (q : ℕ) → d .land .used q ≡ usedAfter answer (c .agent x) (c .land .used) q
   pub touches : (q : ℕ) → d .touches q ≡ touchesAfter answer (c .agent x) (c .touches) q
   pub order : d .land .order ≡ orderAfter answer c x
-  pub changes : Changes answer c x d
+  pub changes : Changes answer c x wish d
 
 -- "A touch call adds a four-byte number to a place", and that is all: from cell c to cell d the count of place p grows by the number n, by nothing
 -- if the call is refused, and nothing else changes
