@@ -17,6 +17,7 @@ pub mod DemandThree
 pub mod PrintedLaws
 pub mod AgreesLaws
 pub mod NoMoreLaws
+pub mod WholeLaws
 pub mod TouchTotalLaws
 pub mod FirstComeLaws
 pub mod FileTreeLaws

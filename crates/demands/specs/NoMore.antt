@@ -272,7 +272,7 @@ Changes (Refused number) c x wish d = d ≡ c
 
 -- by a step call of agent x with this wish and answer nothing is changed that is not in use; the places in use are the same but for the one that is
 -- opened, so are the touches but for that one and the opener's place, and the row but for those that arrive; and of what is in use only that
--- changes which the sentence of the word lists. Together they give the whole cell after the call
+-- changes which the sentence of the word lists. Together they leave nothing open: only one cell satisfies them
 pub record NoMore (c : State) (x wish : ℕ) (d : State) (answer : Answer) : Type 0 where
   pub untouched : Untouched c d
   pub used : (q : ℕ) → d .land .used q ≡ usedAfter answer (c .agent x) (c .land .used) q
