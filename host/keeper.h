@@ -46,7 +46,8 @@
 **   - A cell has been written before any call but keeper_bare, by that call or in any other way (all zeros will do): the keeper takes
 **     every bit pattern, and refuses one that is not a sound table with 10, but it does read it.
 **   - A file or text lent together with a cell does not overlap it.
-**   - No other thread touches what is lent during the call. Calls that lend different memory may run at the same time.
+**   - During the call no other thread writes what is lent, nor reads what the call may write. So calls on different cells may run at the same
+**     time; and on one cell those that only read it (keeper_list, keeper_check, keeper_idle, keeper_touches), each with a text of its own.
 **   - The stack has room for KEEPER_STACK bytes.
 */
 #ifndef KEEPER_H
@@ -102,8 +103,9 @@ extern "C" {
 /*
 ** The memory of a cell. It is plain data: a host may copy it, keep it in a file for the same kind of machine and the same KEEPER_MAJOR, and
 ** read its fields. A cell that a host of version 4 kept is one of version 5 too. A host that writes the fields itself can make the table
-** unsound; keeper_check tells. Fields of numbers that are not in use mean nothing, nor does the byte between an action's kind and its
-** name; but every place number stands in `order`.
+** unsound; keeper_check tells. Fields of numbers that are not in use mean nothing; but every place number stands in `order`. Nor does the
+** byte between an action's kind and its name: no answer depends on it, and what it holds after a call, a refused one too, is not promised.
+** A host that compares cells compares their fields.
 */
 
 /* A name with its three keys, which say who may enter, leave and open the place: `enter n` acts on a place whose `entering` is n, `exit n`
@@ -172,29 +174,30 @@ KEEPER_ASSERT(offsetof(keeper_cell, locks) == 640 && offsetof(keeper_cell, agent
 KEEPER_ASSERT(offsetof(keeper_cell, used) == 5184 && offsetof(keeper_cell, given) == 5192, "keeper_cell");
 KEEPER_ASSERT(offsetof(keeper_cell, touches) == 5200 && offsetof(keeper_cell, order) == 5712, "keeper_cell");
 
-/* The numbers with which a call is refused. Of a cell file, 3 is for the number that a place record gives, 13 for a parent (of a place) or
+/* The numbers with which a call is refused, and what to do about each (more on it: docs/MEANING.md, section 7). Of a cell file, 3 is for the number that a place record gives, 13 for a parent (of a place) or
 ** home (of an agent), 14 for the number of an agent, in an agent or an action record; of the three the earlier byte in the record decides. A
 ** step for an agent above 63 is 11. Of touches, in a record and in a call, 3 is for a place above 63, and 5 for one that is not there. A
 ** place record with keys (kind 6) is tested as one without (kind 1); 6 is for its name alone, and its keys may be any numbers. 16 and 17 are
 ** keeper_read's, and it has no others. */
 enum {
-    KEEPER_CUT_SHORT = 1,
-    KEEPER_UNKNOWN_KIND = 2,
-    KEEPER_TOO_LARGE = 3,
-    KEEPER_GIVEN_TWICE = 4,
-    KEEPER_NOT_YET_GIVEN = 5,
-    KEEPER_NAME_ZERO = 6,
-    KEEPER_ACTION_KIND = 7,
-    KEEPER_SEVENTEENTH_ACTION = 8,
-    KEEPER_AFTER_THE_END = 9,
-    KEEPER_UNSOUND = 10,
-    KEEPER_NO_SUCH_AGENT = 11,
-    KEEPER_LISTING_TOO_LONG = 12,
-    KEEPER_PARENT_TOO_LARGE = 13,
-    KEEPER_AGENT_TOO_LARGE = 14,
-    KEEPER_TOO_MANY_TOUCHES = 15,
-    KEEPER_OUTSIDE_LANGUAGE = 16,
-    KEEPER_TOO_MANY = 17
+    KEEPER_CUT_SHORT = 1,           /* copy the file anew; put the byte 4 at its end */
+    KEEPER_UNKNOWN_KIND = 2,        /* look at the record before it too: a byte too many or too few there shifts all that follows */
+    KEEPER_TOO_LARGE = 3,           /* number places 1 to 63 and do not give the floor; in a call, correct the place's number */
+    KEEPER_GIVEN_TWICE = 4,         /* give each number once, and each place's touches once, also where they are 0 */
+    KEEPER_NOT_YET_GIVEN = 5,       /* put parents before what stands in them, agents before their actions, places before their touches; in a
+                                       call: if the place was opened, its touches are now those of the opener's place, add further ones there */
+    KEEPER_NAME_ZERO = 6,           /* use 1 to 65,535, and mind the low byte first */
+    KEEPER_ACTION_KIND = 7,         /* 1 is enter, 2 exit, 3 open */
+    KEEPER_SEVENTEENTH_ACTION = 8,  /* give an agent sixteen at most; a second agent of the same place can take the rest */
+    KEEPER_AFTER_THE_END = 9,       /* cut the file there, or move the end record to the end */
+    KEEPER_UNSOUND = 10,            /* somebody else wrote the cell, or it was restored from a damaged copy: load again */
+    KEEPER_NO_SUCH_AGENT = 11,      /* correct the order: the cell has no agent of that number */
+    KEEPER_LISTING_TOO_LONG = 12,   /* lend a larger text; KEEPER_LISTING_LONGEST bytes are enough for every cell */
+    KEEPER_PARENT_TOO_LARGE = 13,   /* look at the record's third byte: it names a place, 0 to 63 */
+    KEEPER_AGENT_TOO_LARGE = 14,    /* look at the record's second byte, and number agents 0 to 63 */
+    KEEPER_TOO_MANY_TOUCHES = 15,   /* no line comes near that many: find out who adds them */
+    KEEPER_OUTSIDE_LANGUAGE = 16,   /* show the text with a caret under the offset's byte: all bytes before it are right */
+    KEEPER_TOO_MANY = 17            /* leave something out: the text itself is right, but the layout is too large for one cell */
 };
 
 /* The words that a step answers. */
@@ -245,6 +248,18 @@ keeper_answer keeper_bare(keeper_cell *cell);
 /*
 ** keeper_load: makes the cell what the cell file in file[0] to file[len - 1] says. A file of length 0 (len is 0, and file not null all the
 ** same) is accepted as a bare floor with no agents, as the file of the one byte 4 is. A file that begins and lacks its end is cut short.
+** Any other file is a row of records, each a byte of kind and a body; numbers of two and of four bytes have the low byte first:
+**
+**     kind  bytes  what                   the body, one byte for each number unless it says otherwise
+**     1     5      a place                number (1 to 63), parent (0 to 63), name (2 bytes, from 1 on)
+**     2     3      an agent               number (0 to 63), the place that it lives in (0 to 63)
+**     3     5      an action              agent, kind (1 enter, 2 exit, 3 open), its number (2 bytes, from 1 on); after the agent's earlier ones
+**     4     1      the end                nothing; it stands last
+**     5     6      touches of a place     place (0 to 63), count (4 bytes); once for each place
+**     6     11     a place with its keys  number, parent, name (2 bytes), keys for entering, exiting and opening (2 bytes each)
+**
+** What a record names has been given before it; the floor, place 0, always is. docs/MEANING.md has a file byte by byte (section 4) and every
+** refusal with what to do about it (section 7).
 **
 ** Answers 0 if the file was accepted. Else keeper_refusal(answer) is a number from 1 to 9, or 13 or 14, keeper_offset(answer) is the byte
 ** offset of the first faulty record (for a missing end record, the file's length; for 9, the first byte after the end record), and the cell
@@ -341,7 +356,7 @@ keeper_answer keeper_list(const keeper_cell *cell, uint8_t *text, size_t room);
 keeper_answer keeper_check(const keeper_cell *cell);
 
 /*
-** keeper_idle: whether all agents are asleep or done, so that no step changes the cell any more.
+** keeper_idle: whether all agents are asleep or done, so that no step changes the cell any more. Where there are no agents, they are.
 **
 ** Answers it in keeper_all_rest(answer). Refused with 10 where the table is unsound. The cell is only read.
 */

@@ -1,12 +1,14 @@
--- The row of unused actions of an agent: its first is the next action, and using that up leaves the rest.
+-- The row of unused actions of an agent: its first is the next action, using that up leaves the rest, and an action more is the last.
 -- By cases on whether an action is left.
 use mathlib.Core.Path.{_≡_, refl, sym, ap, ap₂, _∙_, subst}
-use mathlib.Core.List.{List, []}
+use mathlib.Core.List.{List, [], _∷_, _++_}
 use mathlib.Core.Bool.{true, false}
 use Prim.Native.Nat.{ℕ, zero, suc, _+_, _-_, _≤_, _<_}
 use native.Mathlib.Omega.{arith}
 use native.Mathlib.Numerals.{add-one}
 use lib.Dec.{ltb}
+use lib.ListN.{length, getD, set}
+use lib.Seq.{getD-set-same, getD-set-other}
 use borrow.Author.Tests.{ltb-true, ltb-false, lt-ltb}
 use Rattle.table.specs.Base.{tab}
 use Rattle.table.specs.BaseLaws.{Told, yea, nay, told}
@@ -15,6 +17,7 @@ use Rattle.table.specs.Kinds.{Kind, kind-is}
 use Rattle.table.specs.declared.Action.{Action}
 use Rattle.table.specs.declared.Agent.{Agent}
 use Rattle.meaning.specs.Update.{useUp, atStage}
+use Rattle.meaning.specs.File.{withAction}
 use Rattle.meaning.specs.Calculus.{firstOf, restOf}
 use Rattle.calculus.specs.Formed.{Good, none, more}
 use Rattle.calculus.specs.MoveFormed.{good-rest, good-first}
@@ -84,6 +87,53 @@ rest-unused a = go (told (hasAction a))
     go : Told (hasAction a) → unused (useUp a) ≡ restOf (unused a)
     go (yea e) = rw e (rest-tab _ (rowEnd (a .count) - a .next) (rowEnd (a .count) - (a .next + 1)) (a .next) (omega arith))
     go (nay e) = rw e (unused-none a e ∙ sym (ap restOf (unused-none a e)))
+
+-- ---- an action more
+
+-- a table with one more at its end
+tab-more : (f g : ℕ → Action) (n k : ℕ) (x : Action) → ((j : ℕ) → j < k + n → g j ≡ f j) → g (k + n) ≡ x → tab g (suc n) k ≡ tab f n k ++ (x ∷ [])
+unfolding tab
+tab-more f g zero k x h e = ap (λ z. z ∷ []) (ap g (let z : k ≡ k + 0 = omega arith in z) ∙ e)
+tab-more f g (suc n) k x h e =
+    ap₂ _∷_ (h k (omega arith)) (tab-more f g n (suc k) x (λ j l. h j (omega arith)) (ap g (let z : suc k + n ≡ k + suc n = omega arith in z) ∙ e))
+
+-- a row of sixteen actions at most ends at its count
+row-end : (n : ℕ) → n ≤ 16 → rowEnd n ≡ n
+unfolding rowEnd
+row-end n l = go (told (ltb n 16))
+  where
+    go : Told (ltb n 16) → rowEnd n ≡ n
+    go (yea e) = rw e
+    go (nay e) = rw e (omega (arith, ltb-false n 16 e))
+
+-- an action more is the last of the unused ones
+pub unused-more : (a : Agent) (k v : ℕ) → a .next ≤ a .count → a .count < 16 → length (a .actions) ≡ 16
+    → unused (withAction a k v) ≡ unused a ++ (record { kind = k; name = v } ∷ [])
+unfolding unused withAction
+unused-more a k v l h w =
+    ap (λ n. tab g n (a .next)) longer
+    ∙ tab-more f g (a .count - a .next) (a .next) x
+    (λ j m. getD-set-other (a .actions) (a .count) j x noAction (λ e. omega arith))
+    (ap g there ∙ getD-set-same (a .actions) (a .count) x noAction (omega arith))
+    ∙ ap (λ n. tab f n (a .next) ++ (x ∷ [])) before
+  where
+    x : Action
+    x = record { kind = k; name = v }
+
+    f : ℕ → Action
+    f j = getD (a .actions) j noAction
+
+    g : ℕ → Action
+    g j = getD (set (a .actions) (a .count) x) j noAction
+
+    longer : rowEnd (a .count + 1) - a .next ≡ suc (a .count - a .next)
+    longer = omega (arith, row-end (a .count + 1) (omega arith))
+
+    there : a .next + (a .count - a .next) ≡ a .count
+    there = omega arith
+
+    before : a .count - a .next ≡ rowEnd (a .count) - a .next
+    before = omega (arith, row-end (a .count) (omega arith))
 
 -- ---- kind and name of the next action
 

@@ -16,8 +16,8 @@ use Rattle.demands.specs.ReadingLaws.{agent-given}
 use Rattle.demands.specs.Invariant.{Under, Places, Has, Fit, Away, Ok, ok0, Travels, Mover, Sleeper, Sound, Reasons, Inv}
 use Rattle.demands.specs.Invariant.{Holds, near, far, own, destination, Kept, free, kept}
 use Rattle.demands.specs.Actions.{fit-stage, kind-of}
-use Rattle.demands.specs.Stages.{SameOrReset, same-between, ok-at, travels-away, holds-between, Returned}
-use Rattle.demands.specs.NoMore.{Untouched}
+use Rattle.demands.specs.Stages.{SameOrReset, same-between, ok-at, travels-away, holds-between}
+use Rattle.demands.specs.NoMore.{Untouched, Returned}
 use Rattle.demands.specs.Touches.{same-sum}
 use Rattle.demands.specs.Frame.{ok-frame, Roused, woken, unchanged, roused-home, roused-reset}
 

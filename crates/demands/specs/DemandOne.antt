@@ -1,7 +1,7 @@
 -- Demand 1: on every table, file, text, agent, wish and buffer, each call is refused only with its numbers, each exactly under its condition, and a
 -- refusal changes nothing.
--- Idea: a call on a table is a row of tests with a refusal in one arm each; RefusedLoads has a load's numbers, RefusedReading the conditions of
--- the reading of a text.
+-- Idea: a call on a table is a row of tests with a refusal in one arm each; a load is
+-- refused by the fault in its file (FileFaultLaws), the reading of a text as RefusedReading says.
 use mathlib.Core.Path.{_≡_, refl, ap, subst}
 use mathlib.Core.Bool.{true}
 use Prim.Native.Nat.{ℕ, _+_, _≤_, zero-le}
@@ -34,7 +34,8 @@ use Rattle.demands.specs.Refusals.{KeeperCall, step-call, list-call, tou
 use Rattle.demands.specs.Refusals.{Refuses, load-refused, read-refused, step-refused, list-refused, touch-refused, touches-refused, check-refused, idle-refused}
 use Rattle.demands.specs.Refusals.{Grounds, in-the-file, read-16, read-17, step-10, step-11, list-10, list-12, check-10, idle-10}
 use Rattle.demands.specs.Refusals.{touch-10, touch-3, touch-5, touch-15, touches-10, touches-3, touches-5}
-use Rattle.demands.specs.RefusedLoads.{load-refused-with}
+use Rattle.demands.specs.FileFaultLaws.{refused-by-fault}
+use Rattle.demands.specs.RefusedLoads.{fault-number, fault-within}
 use Rattle.demands.specs.RefusedReading.{reading-grounds, overfull-text}
 
 -- two answers of different kinds are not equal: `cc` finds this equation then
@@ -56,7 +57,8 @@ of {k} e g = subst (λ (n : ℕ). Grounds k n 0) e g
 -- from the answer to the condition
 refused-grounds : {k : KeeperCall} {number offset : ℕ} → Refuses k number offset → Grounds k number offset
 unfolding loadOf readOf stepOf made turnedAway listAnswer touchOf counted untouched touchesOf checkOf idleOf
-refused-grounds (load-refused {t} {file} {number} {offset} e) = in-the-file (load-grounds t (load file) number offset e)
+refused-grounds (load-refused {t} {file} {number} {offset} e) =
+    in-the-file (refused-by-fault file number offset .0 (load-grounds t (load file) number offset e))
 refused-grounds (read-refused {t} {text} {number} {offset} e) = reading-grounds t text number offset (load-grounds t (readText text) number offset e)
 refused-grounds (step-refused {t} {agent} {wish} {number} e) = go (told (sound (cellOf t))) (told (cellOf t .given agent))
   where
@@ -103,7 +105,7 @@ refused-grounds (idle-refused {t} {number} e) = go (told (sound (cellOf t))) (to
 -- and from the condition to the answer
 grounds-refused : {k : KeeperCall} {number offset : ℕ} → Grounds k number offset → Refuses k number offset
 unfolding loadOf readOf loaded stepOf turnedAway listAnswer touchOf untouched touchesOf checkOf idleOf
-grounds-refused (in-the-file {t} e) = load-refused (ap (λ (l : Load). loaded t l .verdict) e)
+grounds-refused (in-the-file {t} {file} {number} {offset} f) = load-refused (ap (λ (l : Load). loaded t l .verdict) (refused-by-fault file number offset .1 f))
 grounds-refused (read-16 {t} {text} {offset} b l) = read-refused (ap (λ (r : Load). loaded t r .verdict) (read-outside text offset b l))
 grounds-refused (read-17 {t} {text} c q f) = read-refused (ap (λ (r : Load). loaded t r .verdict) (overfull-text text c q f))
 grounds-refused (step-10 {t} {agent} {wish} s) = let e : stepOf t agent wish .answer ≡ Refused unsoundTable = rw s in step-refused e
@@ -130,7 +132,7 @@ grounds-refused (idle-10 {t} s) = let e : idleOf t ≡ Unknown unsoundTable = rw
 -- ---- what follows from the condition
 
 grounds-number : {k : KeeperCall} {number offset : ℕ} → Grounds k number offset → mayAnswer k number ≡ true
-grounds-number (in-the-file {t} {file} {number} {offset} e) = load-refused-with file number offset e .0
+grounds-number (in-the-file f) = fault-number f
 grounds-number (read-16 b l) = refl
 grounds-number (read-17 c q f) = refl
 grounds-number (step-10 s) = refl
@@ -148,7 +150,7 @@ grounds-number (check-10 s) = refl
 grounds-number (idle-10 s) = refl
 
 grounds-within : {k : KeeperCall} {number offset : ℕ} → Grounds k number offset → offset ≤ length (before k .bytes)
-grounds-within (in-the-file {t} {file} {number} {offset} e) = load-refused-with file number offset e .1
+grounds-within (in-the-file f) = fault-within f
 grounds-within (read-16 b l) = l .within
 grounds-within (read-17 {t} {text} c q f) = le-refl (length text)
 grounds-within (step-10 s) = zero-le
@@ -167,7 +169,7 @@ grounds-within (idle-10 s) = zero-le
 
 grounds-keep : {k : KeeperCall} {number offset : ℕ} → Grounds k number offset → after k ≡ before k
 unfolding readOf loaded stepOf turnedAway listBuffer touchOf untouched
-grounds-keep (in-the-file {t} {file} {number} {offset} e) = rw (refused-keeps t file number offset e)
+grounds-keep (in-the-file {t} {file} {number} {offset} f) = rw (refused-keeps t file number offset (refused-by-fault file number offset .1 f))
 grounds-keep (read-16 {t} {text} {offset} b l) = rw (read-outside text offset b l)
 grounds-keep (read-17 {t} {text} c q f) = rw (overfull-text text c q f)
 grounds-keep (step-10 s) = rw s

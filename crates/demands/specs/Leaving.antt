@@ -13,12 +13,13 @@ use Rattle.table.specs.declared.Agent.{Agent}
 use Rattle.meaning.specs.Update.{useUp, atStage, released}
 use Rattle.meaning.specs.Step.{awaited, fires, sendTo, leave}
 use Rattle.calculus.specs.Up.{Up, enter-up, exit-up}
+use Rattle.demands.specs.NoMore.{Returned}
 use Rattle.demands.specs.Reading.{parentIn, agentIn}
 use Rattle.demands.specs.ReadingLaws.{linked-sent, parent-sent, name-sent, wakeAgent, agent-woken}
 use Rattle.demands.specs.Invariant.{Under, Places, Has, ok4, Travels, Sound}
-use Rattle.demands.specs.Facts.{not-yes, Comes, awaited-yes, awaited-some, enters-fits, link-used, fires-target, target-chosen, second-move}
+use Rattle.demands.specs.Facts.{not-yes, Comes, awaited-yes, awaited-some, enters-fits, link-used, fires-target, target-chosen}
 use Rattle.demands.specs.Actions.{has-some, fit-stage, fit-used}
-use Rattle.demands.specs.Stages.{BothMove, both-move, ok-at, travels-away, ok-given, fit-given, home-given, Returned, returned-three}
+use Rattle.demands.specs.Stages.{BothMove, both-move, ok-at, travels-away, ok-given, fit-given, home-given, returned-move}
 use Rattle.demands.specs.Unused.{released-outside, woken-untouched}
 use Rattle.demands.specs.Frame.{Calm, sleeper-frame, Apart, rouses}
 use Rattle.demands.specs.Change.{is-free, returned-has, returned-free, Change, Keeps, keeps}
@@ -96,8 +97,7 @@ module _ (c : State) (i : Sound c) (x : ℕ) (g : c .given x ≡ true) (e : c .a
 
   -- all that it held is given back
   back : Returned c x (released (c .lock) (a .remembered) h)
-  back = subst (λ (q : ℕ). Returned c x (released (c .lock) (a .remembered) q)) (second-move (kindOf a) h (a .chosen) (m .kind))
-      (returned-three c i x g e)
+  back = returned-move c i x g e (m .kind)
 
   keep-leave : Keeps c x (leave c x (c .agent x) d .cell)
   unfolding leave agentIn

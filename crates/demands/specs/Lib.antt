@@ -1,4 +1,5 @@
 -- what is claimed
+pub mod FileFaults
 pub mod Refusals
 pub mod AfterCalls
 pub mod Printed
@@ -7,6 +8,7 @@ pub mod Agrees
 pub mod NoMore
 pub mod TouchTotal
 pub mod FirstCome
+pub mod FileTree
 pub mod SameListings
 -- the theorems
 pub mod DemandOne
@@ -15,10 +17,14 @@ pub mod DemandThree
 pub mod PrintedLaws
 pub mod AgreesLaws
 pub mod NoMoreLaws
+pub mod WholeLaws
 pub mod TouchTotalLaws
 pub mod FirstComeLaws
+pub mod FileTreeLaws
 pub mod SameListingsLaws
 -- the refusals of a load and of the reading of a text
+pub mod RecordFaultLaws
+pub mod FileFaultLaws
 pub mod RefusedLoads
 pub mod RefusedReading
 -- the invariant and the ways a step can go
@@ -55,6 +61,8 @@ pub mod OpeningLocks
 pub mod OpeningTouches
 pub mod Opening
 pub mod Woken
+pub mod SteppedLaws
+pub mod ChangesLaws
 pub mod Touching
 pub mod Always
 -- an accepted load

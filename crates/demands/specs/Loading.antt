@@ -56,7 +56,7 @@ new-agent home = record {
 only-floor : (q : ℕ) → cellOf bareTable .land .used q ≡ true → q ≡ 0
 only-floor q e = eqb-true q 0 (sym (bare-used q) ∙ e)
 
-bare-parent : (q : ℕ) → parentIn (cellOf bareTable .land) q ≡ 0
+pub bare-parent : (q : ℕ) → parentIn (cellOf bareTable .land) q ≡ 0
 bare-parent q = go (eq? q 0)
   where
     go : (q ≡ 0) ⊎ (q ≢ 0) → parentIn (cellOf bareTable .land) q ≡ 0
@@ -103,14 +103,14 @@ module _ (c : State) (f : Fresh c) (n p : ℕ) (m : Name) (n0 : n ≢ 0) (n64 : 
   added read = written read was _ n (linkedPlace m p) (λ q d. rw (ne-eqb q n d))
       ∙ ap (λ (u : Bool). upd (λ q. read q (was .used q) (was .place q)) n (read n u (linkedPlace m p))) (rw (eq-eqb n n refl))
 
-  used-added : grown .used ≡ upd (was .used) n true
+  pub used-added : grown .used ≡ upd (was .used) n true
   used-added = added readUsed
 
-  parent-added : parentIn grown ≡ upd (parentIn was) n p
+  pub parent-added : parentIn grown ≡ upd (parentIn was) n p
   unfolding parentIn
   parent-added = added readParent
 
-  name-added : nameIn grown ≡ upd (nameIn was) n m
+  pub name-added : nameIn grown ≡ upd (nameIn was) n m
   unfolding nameIn
   name-added = added readName
 

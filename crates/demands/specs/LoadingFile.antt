@@ -171,14 +171,14 @@ load-from (suc turns) p s at b = go (told (ltb at (length s))) (record-fits (kno
 
     rest : Rest turns s at → (r : Record) → Fits (knownIn p) r → Stands s at r
         → Freshly (touchSum (p .cell) + touchesFrom (suc turns) s at) (loadRecord (λ q i. loadFrom turns q s i) p s at r)
-    rest h (PlaceRecord n parent m) (place one low under new known named) (a-place e _ _) =
+    rest h (PlaceRecord n parent m) (place one low under new known named) (a-place e _ _ _) =
         let z : n ≢ 0 = λ z. absurd (omega arith) in
         unfold loadRecord in so (omega (arith, place-sum p b n parent m z low new known named, from-place turns s at e))
         (h (withCell p (addPlace (p .cell) n parent m)) (at + placeLength (byteAt s at)) (begun-place p b n parent m z low new known named))
-    rest h (AgentRecord n home) (agent low under new known) (an-agent e) =
+    rest h (AgentRecord n home) (agent low under new known) (an-agent e _ _) =
         unfold loadRecord in so (omega (arith, agent-sum p b n home, from-agent turns s at e))
         (h (withCell p (addAgent (p .cell) n home)) (at + 3) (begun-agent p b n home low new known))
-    rest h (ActionRecord n k m) (action low known room one three named) (an-action e _) =
+    rest h (ActionRecord n k m) (action low known room one three named) (an-action e _ _ _) =
         unfold loadRecord in so (omega (arith, action-sum p b n k m, from-action turns s at e))
         (h (withCell p (addAction (p .cell) n k m)) (at + 5) (begun-action p b n k m low known room one three named))
     rest h (TouchRecord q n) (touch low new known few) (touches e) =

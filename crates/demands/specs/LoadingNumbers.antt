@@ -155,10 +155,10 @@ module _ (s : List ℕ) (b : OfBytes s) where
   load-from (suc turns) p at n = go (told (ltb at (length s))) (record-stands s at (knownIn p)) (load-from turns)
     where
       rest : Rest turns → (r : Record) → Stands s at r → Loaded16 (loadRecord (λ q i. loadFrom turns q s i) p s at r)
-      rest h (PlaceRecord number parent name) (a-place _ _ f) = unfold loadRecord in
+      rest h (PlaceRecord number parent name) (a-place _ _ _ f) = unfold loadRecord in
           h _ _ (place16 (p .cell) n number parent name (subst Name16 (sym f) (given16 s b at)))
-      rest h (AgentRecord number home) (an-agent _) = unfold loadRecord in h _ _ (agent16 (p .cell) n number home)
-      rest h (ActionRecord number kind name) (an-action _ f) = unfold loadRecord in
+      rest h (AgentRecord number home) (an-agent _ _ _) = unfold loadRecord in h _ _ (agent16 (p .cell) n number home)
+      rest h (ActionRecord number kind name) (an-action _ _ _ f) = unfold loadRecord in
           h _ _ (action16 (p .cell) n number kind name (subst (λ (k : ℕ). k < 65536) (sym f) (name16 s b at)))
       rest h (TouchRecord q touched) (touches _) = unfold loadRecord in h _ _ (touches16 (p .cell) n q _)
       rest h EndRecord (the-end _) = unfold loadRecord in last (ltb (at + 1) (length s))

@@ -123,14 +123,14 @@ load-from (suc turns) p s at log m = go (told (ltb at (length s))) (record-fits 
 
     rest : Rest turns s at → (r : Record) → Fits (knownIn p) r → Stands s at r
         → Ordered (log ++ placesFrom (suc turns) s at) (loadRecord (λ q i. loadFrom turns q s i) p s at r)
-    rest h (PlaceRecord n parent name) (place one low under new known named) (a-place e f _) =
+    rest h (PlaceRecord n parent name) (place one low under new known named) (a-place e f _ _) =
         let next = at + placeLength (byteAt s at) in
         unfold loadRecord in so (append-assoc log (n ∷ []) (placesFrom turns s next)
         ∙ ap (λ (t : List ℕ). log ++ t) (ap (λ (k : ℕ). k ∷ placesFrom turns s next) f ∙ sym (from-place turns s at e)))
         (h (withCell p (addPlace (p .cell) n parent name)) next (log ++ (n ∷ [])) (loading-place (p .cell) log n parent name low new m))
-    rest h (AgentRecord n home) (agent low under new known) (an-agent e) =
+    rest h (AgentRecord n home) (agent low under new known) (an-agent e _ _) =
         unfold loadRecord in so (quiet (at + 3) (from-agent turns s at e)) (h (withCell p (addAgent (p .cell) n home)) (at + 3) log (unfold addAgent in m))
-    rest h (ActionRecord n k name) (action low known room one three named) (an-action e _) =
+    rest h (ActionRecord n k name) (action low known room one three named) (an-action e _ _ _) =
         unfold loadRecord in so (quiet (at + 5) (from-action turns s at e)) (h (withCell p (addAction (p .cell) n k name)) (at + 5) log (unfold addAction in m))
     rest h (TouchRecord q n) (touch low new known few) (touches e) =
         unfold loadRecord in so (quiet (at + 6) (from-touches turns s at e)) (h (withCounted p q _) (at + 6) log (unfold giveTouches in m))

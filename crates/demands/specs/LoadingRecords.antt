@@ -15,12 +15,13 @@ use Rattle.meaning.specs.declared.Record.the-variants.{PlaceRecord, AgentRecord
 use Rattle.meaning.specs.File.{byteAt, nameAt, nameGiven, countAt, placeRecord, agentRecord, actionRecord, touchRecord, givesPlace, placeLength, Known, recordAt}
 
 module _ (s : List ℕ) (at : ℕ) where
-  -- the kind that a record has at the offset: 1 for a place or 6 for one with keys, 2, 3, 4, 5
+  -- the kind that a record has at the offset, 1 for a place or 6 for one with keys, 2, 3, 4, 5, and the bytes that its numbers are
   pub data Stands : Record → Type 0 where
-    a-place : {number parent : ℕ} {name : Name} → (byteAt s at ≡ 1) ⊎ (byteAt s at ≡ 6) → number ≡ byteAt s (at + 1) → name ≡ nameGiven s at
-        → Stands (PlaceRecord number parent name)
-    an-agent : {number home : ℕ} → byteAt s at ≡ 2 → Stands (AgentRecord number home)
-    an-action : {agent kind name : ℕ} → byteAt s at ≡ 3 → name ≡ nameAt s at → Stands (ActionRecord agent kind name)
+    a-place : {number parent : ℕ} {name : Name} → (byteAt s at ≡ 1) ⊎ (byteAt s at ≡ 6) → number ≡ byteAt s (at + 1) → parent ≡ byteAt s (at + 2)
+        → name ≡ nameGiven s at → Stands (PlaceRecord number parent name)
+    an-agent : {number home : ℕ} → byteAt s at ≡ 2 → number ≡ byteAt s (at + 1) → home ≡ byteAt s (at + 2) → Stands (AgentRecord number home)
+    an-action : {agent kind name : ℕ} → byteAt s at ≡ 3 → agent ≡ byteAt s (at + 1) → kind ≡ byteAt s (at + 2) → name ≡ nameAt s at
+        → Stands (ActionRecord agent kind name)
     the-end : byteAt s at ≡ 4 → Stands EndRecord
     touches : {q : ℕ} → byteAt s at ≡ 5 → Stands (TouchRecord q (countAt s at))
     at-fault : {number : ℕ} → Stands (Faulty number)
@@ -37,20 +38,21 @@ module _ (s : List ℕ) (at : ℕ) where
   where-known : (b : Bool) (number : ℕ) (x : Record) → Stands x → Stands (cond b x (Faulty number))
   where-known b number x g = either b x (Faulty number) (λ _. g) (λ _. at-fault)
 
-  place-stands : (taken known : Bool) (n p : ℕ) (m : Name) → (byteAt s at ≡ 1) ⊎ (byteAt s at ≡ 6) → n ≡ byteAt s (at + 1) → m ≡ nameGiven s at
-      → Stands (placeRecord taken known n p m)
+  place-stands : (taken known : Bool) (n p : ℕ) (m : Name) → (byteAt s at ≡ 1) ⊎ (byteAt s at ≡ 6) → n ≡ byteAt s (at + 1) → p ≡ byteAt s (at + 2)
+      → m ≡ nameGiven s at → Stands (placeRecord taken known n p m)
   unfolding placeRecord
-  place-stands taken known n p m e f g = unless (ltb n 1) _ _ (unless (leb 64 n) _ _ (unless (leb 64 p) _ _ (unless taken _ _
-      (where-known known _ _ (unless (ltb (m .name) 1) _ _ (a-place e f g))))))
+  place-stands taken known n p m e f o g = unless (ltb n 1) _ _ (unless (leb 64 n) _ _ (unless (leb 64 p) _ _ (unless taken _ _
+      (where-known known _ _ (unless (ltb (m .name) 1) _ _ (a-place e f o g))))))
 
-  agent-stands : (taken known : Bool) (n h : ℕ) → byteAt s at ≡ 2 → Stands (agentRecord taken known n h)
+  agent-stands : (taken known : Bool) (n h : ℕ) → byteAt s at ≡ 2 → n ≡ byteAt s (at + 1) → h ≡ byteAt s (at + 2) → Stands (agentRecord taken known n h)
   unfolding agentRecord
-  agent-stands taken known n h e = unless (leb 64 n) _ _ (unless (leb 64 h) _ _ (unless taken _ _ (where-known known _ _ (an-agent e))))
+  agent-stands taken known n h e f o = unless (leb 64 n) _ _ (unless (leb 64 h) _ _ (unless taken _ _ (where-known known _ _ (an-agent e f o))))
 
-  action-stands : (known full : Bool) (n k m : ℕ) → byteAt s at ≡ 3 → m ≡ nameAt s at → Stands (actionRecord known full n k m)
+  action-stands : (known full : Bool) (n k m : ℕ) → byteAt s at ≡ 3 → n ≡ byteAt s (at + 1) → k ≡ byteAt s (at + 2) → m ≡ nameAt s at
+      → Stands (actionRecord known full n k m)
   unfolding actionRecord
-  action-stands known full n k m e f = unless (leb 64 n) _ _ (where-known known _ _ (unless (ltb k 1) _ _ (unless (ltb lastKind k) _ _
-      (unless (ltb m 1) _ _ (unless full _ _ (an-action e f))))))
+  action-stands known full n k m e f o g = unless (leb 64 n) _ _ (where-known known _ _ (unless (ltb k 1) _ _ (unless (ltb lastKind k) _ _
+      (unless (ltb m 1) _ _ (unless full _ _ (an-action e f o g))))))
 
   touches-stand : (taken known : Bool) (q : ℕ) → byteAt s at ≡ 5 → Stands (touchRecord taken known q (countAt s at))
   unfolding touchRecord
@@ -66,8 +68,8 @@ module _ (s : List ℕ) (at : ℕ) where
   unfolding recordAt
   record-stands k =
       either (givesPlace (byteAt s at)) _ _ (λ e. unless (ltb (length s - at) (placeLength (byteAt s at))) _ _
-      (place-stands _ _ _ _ _ (gives-place e (told (eqb (byteAt s at) 1))) refl refl))
-      (λ _. either (eqb (byteAt s at) 2) _ _ (λ e. unless (ltb (length s - at) 3) _ _ (agent-stands _ _ _ _ (eqb-true _ 2 e)))
-      (λ _. either (eqb (byteAt s at) 3) _ _ (λ e. unless (ltb (length s - at) 5) _ _ (action-stands _ _ _ _ _ (eqb-true _ 3 e) refl))
+      (place-stands _ _ _ _ _ (gives-place e (told (eqb (byteAt s at) 1))) refl refl refl))
+      (λ _. either (eqb (byteAt s at) 2) _ _ (λ e. unless (ltb (length s - at) 3) _ _ (agent-stands _ _ _ _ (eqb-true _ 2 e) refl refl))
+      (λ _. either (eqb (byteAt s at) 3) _ _ (λ e. unless (ltb (length s - at) 5) _ _ (action-stands _ _ _ _ _ (eqb-true _ 3 e) refl refl refl))
       (λ _. either (eqb (byteAt s at) 4) _ _ (λ e. the-end (eqb-true _ 4 e))
       (λ _. either (eqb (byteAt s at) 5) _ _ (λ e. unless (ltb (length s - at) 6) _ _ (touches-stand _ _ _ (eqb-true _ 5 e))) (λ _. at-fault)))))

@@ -125,7 +125,7 @@ module _ (c : State) (i : Sound c) (x : ℕ) (g : c .given x ≡ true) (t : Plai
   way-follows (sleeps-stuck _ _ _) = silent (plain-quiet c i x g t m _ 7 _ 0 (λ z. absurd (omega arith)))
   way-follows {wish} (takes-second q s st ch _ _) = record {
     same = plain-took c i x g t m _ 3 _ _ wish
-        (λ _ k. plain-choice c i x g t m wish k (plain-held c i x g t m s st) ∙ ch ∙ sym (rw (ne-eqb (kindOf a) exitKind k)));
+        (λ _ k. plain-choice c i x g t m wish s k (plain-held c i x g t m s st) ∙ ch ∙ sym (rw (ne-eqb (kindOf a) exitKind k)));
     step = unmoved;
   }
   way-follows (gives-up _ _) = silent (plain-quiet c i x g t m _ 0 0 0 (λ z. absurd (omega arith)))

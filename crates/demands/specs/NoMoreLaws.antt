@@ -4,6 +4,7 @@ use mathlib.Core.Path.{_≡_, refl, sym, ap, _∙_, subst}
 use mathlib.Core.Bool.{true, cond}
 use mathlib.Core.List.{List, [], _∷_}
 use Prim.Native.Nat.{ℕ, _+_}
+use native.Mathlib.Nat.{add-zero}
 use lib.Dec.{eqb}
 use Rattle.table.specs.BaseLaws.{Told, yea, nay, told}
 use Rattle.table.specs.Bounds.{Sized}
@@ -11,7 +12,8 @@ use Rattle.table.specs.Cell.{State, cellOf, tableOf}
 use Rattle.table.specs.CellLaws.{bounded}
 use Rattle.table.specs.Sound.{sound}
 use Rattle.table.specs.declared.Cell.{Cell}
-use Rattle.meaning.specs.declared.Answer.the-variants.{Did}
+use Rattle.meaning.specs.declared.Answer.the-variants.{Did, Refused}
+use Rattle.meaning.specs.declared.Touching.the-variants.{Count}
 use Rattle.meaning.specs.Step.{Outcome, still, leave, dissolve, arrive, step}
 use Rattle.meaning.specs.Run.{Call, stepCall, touchCall, stepOf, made, turnedAway, callOf, run}
 use Rattle.meaning.specs.Touch.{counted, untouched, touchOf}
@@ -25,6 +27,7 @@ use Rattle.demands.specs.Unused.{untouched-none, untouched-more}
 use Rattle.demands.specs.OpeningLocks.{opener}
 use Rattle.demands.specs.OpeningTouches.{open-touches}
 use Rattle.demands.specs.Touching.{touch-only, touch-untouched, touched, touch-back}
+use Rattle.demands.specs.ChangesLaws.{way-changes}
 use Rattle.demands.specs.SoundTest.{sound-bounded}
 use Rattle.demands.specs.Always.{step-keeps, step-back, sized-called}
 
@@ -109,39 +112,46 @@ way-order (comes _) = refl
 
 -- a step of a given agent in a sound cell
 pub step-no-more : (c : State) → Sound c → (x : ℕ) → c .given x ≡ true → (wish : ℕ)
-    → NoMore c x (step c x wish .cell) (Did (step c x wish .word) (step c x wish .woken))
+    → NoMore c x wish (step c x wish .cell) (Did (step c x wish .word) (step c x wish .woken))
 step-no-more c i x g wish = record {
   untouched = step-keeps c i x g wish .untouched;
   used = way-used (step-way c i x g wish);
   touches = way-touches i g (step-way c i x g wish);
   order = way-order (step-way c i x g wish);
+  changes = way-changes c i x g wish (step-way c i x g wish);
 }
+
+-- a refused call
+refused-no-more : (c : State) (x wish number : ℕ) → NoMore c x wish c (Refused number)
+refused-no-more c x wish number = record { untouched = untouched-none c; used = λ q. refl; touches = λ q. refl; order = refl; changes = refl }
 
 -- ---- calls on a table
 
 -- the table after a step has the cell that the step makes
 made-no-more : (t : Cell) → Sized t → Sound (cellOf t) → (x : ℕ) → cellOf t .given x ≡ true → (wish : ℕ)
-    → NoMore (cellOf t) x (cellOf (tableOf (step (cellOf t) x wish .cell))) (Did (step (cellOf t) x wish .word) (step (cellOf t) x wish .woken))
-made-no-more t z i x g wish = subst (λ (d : State). NoMore (cellOf t) x d (Did (step (cellOf t) x wish .word) (step (cellOf t) x wish .woken)))
+    → NoMore (cellOf t) x wish (cellOf (tableOf (step (cellOf t) x wish .cell))) (Did (step (cellOf t) x wish .word) (step (cellOf t) x wish .woken))
+made-no-more t z i x g wish = subst (λ (d : State). NoMore (cellOf t) x wish d (Did (step (cellOf t) x wish .word) (step (cellOf t) x wish .woken)))
     (sym (step-back t z i x g wish)) (step-no-more (cellOf t) i x g wish)
 
 -- a step call changes nothing that is not in use, makes no number unused but that of the place that it opens, moves that one's touches to the
--- opener's place and no others, and of the row those that arrive and no others; the table has the sizes of the struct, as every value of it has
-pub no-more : (t : Cell) (x wish : ℕ) → Sized t → NoMore (cellOf t) x (cellOf (stepOf t x wish .cell)) (stepOf t x wish .answer)
+-- opener's place and no others, and of the row those that arrive and no others; of what is in use it changes what the sentence of its word lists;
+-- the table has the sizes of the struct, as every value of it has
+pub no-more : (t : Cell) (x wish : ℕ) → Sized t → NoMore (cellOf t) x wish (cellOf (stepOf t x wish .cell)) (stepOf t x wish .answer)
 unfolding stepOf made turnedAway
 no-more t x wish z = go (told (sound (cellOf t))) (told (cellOf t .given x))
   where
-    go : Told (sound (cellOf t)) → Told (cellOf t .given x) → NoMore (cellOf t) x (cellOf (stepOf t x wish .cell)) (stepOf t x wish .answer)
+    go : Told (sound (cellOf t)) → Told (cellOf t .given x) → NoMore (cellOf t) x wish (cellOf (stepOf t x wish .cell)) (stepOf t x wish .answer)
     go (yea e) (yea g) = rw (e, g) (made-no-more t z (sound-bounded (cellOf t) (bounded t z) e) x g wish)
-    go (yea e) (nay g) = rw (e, g) (record { untouched = untouched-none (cellOf t); used = λ q. refl; touches = λ q. refl; order = refl })
-    go (nay e) _ = rw e (record { untouched = untouched-none (cellOf t); used = λ q. refl; touches = λ q. refl; order = refl })
+    go (yea e) (nay g) = rw (e, g) (refused-no-more (cellOf t) x wish _)
+    go (nay e) _ = rw e (refused-no-more (cellOf t) x wish _)
 
--- a touch call changes nothing but the touches of the place that it names
-pub only-touches : (t : Cell) (q n : ℕ) → Sized t → OnlyTouches (cellOf t) q (cellOf (touchOf t q n .cell))
+-- a touch call changes nothing but the touches of the place that it names, which grow by its number, or not at all if it is refused
+pub only-touches : (t : Cell) (q n : ℕ) → Sized t → OnlyTouches (cellOf t) q n (cellOf (touchOf t q n .cell)) (touchOf t q n .answer)
 unfolding counted untouched
-only-touches t q n z = touched (λ s. OnlyTouches (cellOf t) q (cellOf (s .cell))) t q n
-    (λ _. record { land = refl; lock = refl; agent = refl; given = refl; touches = λ r d. refl })
-    (λ u _. subst (OnlyTouches (cellOf t) q) (sym (touch-back t q n z u)) (touch-only (cellOf t) q n))
+only-touches t q n z = touched (λ s. OnlyTouches (cellOf t) q n (cellOf (s .cell)) (s .answer)) t q n
+    (λ _. record { land = refl; lock = refl; agent = refl; given = refl; count = sym (add-zero (cellOf t .touches q)); touches = λ r d. refl })
+    (λ u _. subst (λ (d : State). OnlyTouches (cellOf t) q n d (Count (cellOf t .touches q + n))) (sym (touch-back t q n z u))
+    (touch-only (cellOf t) q n (cellOf t .touches q + n)))
 
 -- and nothing of a number that is not in use
 touched-untouched : (t : Cell) (q n : ℕ) → Sized t → Untouched (cellOf t) (cellOf (touchOf t q n .cell))

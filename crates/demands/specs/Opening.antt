@@ -24,7 +24,8 @@ use Rattle.demands.specs.Unused.{opened-untouched}
 use Rattle.demands.specs.Frame.{Recalls, finds, sleeps, holds, ok-frame, Calm, sleeper-frame}
 use Rattle.demands.specs.Change.{Keeps}
 use Rattle.demands.specs.Given.{agent-fresh}
-use Rattle.demands.specs.OpeningAgents.{Dissolved, moves, moves-done, forgets, wakes, goes-on, sleeps-on, dissolved, dissolved-reset}
+use Rattle.demands.specs.NoMore.{Dissolved, moves, moves-done, forgets, wakes, goes-on, sleeps-on}
+use Rattle.demands.specs.OpeningAgents.{dissolved, dissolved-reset}
 use Rattle.demands.specs.OpeningAgents.{home-after, fit-same}
 use Rattle.demands.specs.OpeningPlaces.{linked-not-floor, used-same, used-before, linked-same, linked-before, name-same, parent-same}
 use Rattle.demands.specs.OpeningPlaces.{parent-up, parent-kept, places-dissolved, away-same}

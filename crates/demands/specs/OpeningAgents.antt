@@ -7,26 +7,14 @@ use mathlib.Core.Bool.{_&&_, cond}
 use lib.Dec.{eqb}
 use borrow.Author.Tests.{eqb-true, eqb-false, eq-eqb}
 use Rattle.table.specs.BaseLaws.{Told, yea, nay, told, clash, and-left, and-right}
-use Rattle.table.specs.Cell.{unused, looking, found, asleep, done}
+use Rattle.table.specs.Cell.{unused}
 use Rattle.table.specs.declared.Agent.{Agent}
 use Rattle.meaning.specs.Update.{atStage, withHome}
 use Rattle.meaning.specs.Step.{asleepOn, dissolveAgent}
+use Rattle.demands.specs.NoMore.{Dissolved, moves, moves-done, forgets, wakes, goes-on, sleeps-on}
 use Rattle.demands.specs.Invariant.{Fit}
 use Rattle.demands.specs.Stages.{SameOrReset}
 use Rattle.demands.specs.Actions.{fit-stage}
-
--- agent a before, and the agent it becomes
-pub data Dissolved (p t : ℕ) (a : Agent) : Agent → Type 0 where
-  -- it lived in t: it goes to p, and looks unless it is done
-  moves : a .home ≡ t → a .stage ≢ done → Dissolved p t a (withHome (atStage a looking 0 0) p)
-  moves-done : a .home ≡ t → a .stage ≡ done → Dissolved p t a (withHome (atStage a done 0 0) p)
-  -- it had found t
-  forgets : a .home ≢ t → a .stage ≡ found → a .remembered ≡ t → Dissolved p t a (atStage a looking 0 0)
-  -- it slept on p or t
-  wakes : a .home ≢ t → a .stage ≡ asleep → (a .remembered ≡ p) ⊎ (a .remembered ≡ t) → Dissolved p t a (atStage a looking 0 0)
-  -- else it is as it was
-  goes-on : a .home ≢ t → a .stage ≢ asleep → (a .stage ≡ found → a .remembered ≢ t) → Dissolved p t a a
-  sleeps-on : a .home ≢ t → a .stage ≡ asleep → a .remembered ≢ p → a .remembered ≢ t → Dissolved p t a a
 
 -- every agent goes one of these ways
 pub dissolved : (p t : ℕ) (a : Agent) → Dissolved p t a (dissolveAgent p t a)

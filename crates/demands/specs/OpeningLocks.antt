@@ -84,6 +84,43 @@ module _ {c : State} (i : Sound c) {x p t : ℕ} (o : Opener c x p t) where
       stays true false z = refl
       stays false v z = refl
 
+  -- ---- each lock of a place
+
+  freed : (q : ℕ) → (q ≡ p) ⊎ (q ≡ t) → locks q ≡ none
+  freed q e = go (eq? q t) e
+    where
+      go : (q ≡ t) ⊎ (q ≢ t) → (q ≡ p) ⊎ (q ≡ t) → locks q ≡ none
+      go (inl f) _ = upd-at _ t q none f
+      go (inr n) (inl f) = upd-other _ t q none n ∙ upd-at (dissolveLock c t) p q none f
+      go (inr n) (inr f) = absurd (n f)
+
+  -- one that the opener had is free
+  pub own-freed : (q : ℕ) → c .land .used q ≡ true → c .lock q ≡ x → locks q ≡ none
+  own-freed q u e = go (i .locks q u)
+    where
+      go : Kept (c .land) (c .lock) (agentIn c) q → locks q ≡ none
+      go (free f) = absurd (omega (arith, o .first .small, sym e ∙ f))
+      go (kept y h k) = freed q (o .both q (subst (λ (z : ℕ). Holds (c .land) (agentIn c z) q) (sym (h .by) ∙ e) k))
+
+  -- so is one that an agent of the opened place had at stage 2
+  pub moved-freed : (q : ℕ) → c .land .used q ≡ true → letsGo c t (c .lock q) ≡ true → locks q ≡ none
+  unfolding dissolveLock
+  moved-freed q u e = go (eq? q p) (eq? q t)
+    where
+      go : (q ≡ p) ⊎ (q ≢ p) → (q ≡ t) ⊎ (q ≢ t) → locks q ≡ none
+      go (inl f) _ = freed q (inl f)
+      go (inr n) (inl f) = freed q (inr f)
+      go (inr n) (inr m) = locks-at q n m ∙ rw (u, e)
+
+  -- and every other is as it was
+  pub others-kept : (q : ℕ) → c .lock q ≢ x → letsGo c t (c .lock q) ≡ false → locks q ≡ c .lock q
+  unfolding dissolveLock
+  others-kept q n e = locks-at q (λ z. n (ap (c .lock) z ∙ o .first .by)) (λ z. n (ap (c .lock) z ∙ o .second .by)) ∙ stays (c .land .used q) e
+    where
+      stays : (u : Bool) {b : Bool} → b ≡ false → cond (u && b) none (c .lock q) ≡ c .lock q
+      stays true z = rw z
+      stays false z = refl
+
   -- ---- once the agents are as dissolving leaves them, and nothing was on its way to t
 
   module _ (w : awaited (c .land) t ≡ false) (agents : ℕ → Agent) (same : (y : ℕ) → y ≢ x → agents y ≡ dissolveAgent p t (agentIn c y)) where

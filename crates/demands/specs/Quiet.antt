@@ -23,9 +23,10 @@ use Rattle.demands.specs.Facts.{not-yes, link-used, stays-under, second-
 use Rattle.demands.specs.Choice.{choice-fits, choice-none}
 use Rattle.demands.specs.Facts.{enters-fits, opens-fits, fits-linked}
 use Rattle.demands.specs.Actions.{kind-of, fit-stage}
-use Rattle.demands.specs.Stages.{ok-at, holds-none, holds-two, holds-four, holds-five, ok-given, fit-given, home-given, Returned}
+use Rattle.demands.specs.Stages.{ok-at, holds-none, holds-two, holds-four, holds-five, ok-given, fit-given, home-given}
 use Rattle.demands.specs.Stages.{second-used, returned-two, returned-three}
 use Rattle.demands.specs.Unused.{turned-untouched, upd-outside, released-outside}
+use Rattle.demands.specs.NoMore.{Returned}
 use Rattle.demands.specs.Frame.{unchanged}
 use Rattle.demands.specs.Change.{Mine, is-free, is-mine, returned-has, returned-free, Change, Keeps, keeps}
 

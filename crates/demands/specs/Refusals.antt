@@ -18,7 +18,7 @@ use Rattle.meaning.specs.declared.Checked.the-variants.{Unsound}
 use Rattle.meaning.specs.declared.Idled.the-variants.{Unknown}
 use Rattle.meaning.specs.Refusals.{cutShort, afterEnd, placeTooLarge, notYetGiven, parentTooLarge, agentTooLarge, unsoundTable, noSuchAgent, tooLong, tooManyTouches}
 use Rattle.meaning.specs.Refusals.{outsideLanguage, tooMany}
-use Rattle.meaning.specs.File.{refused, load, loadOf}
+use Rattle.meaning.specs.File.{loadOf}
 use Rattle.meaning.specs.Run.{stepOf}
 use Rattle.meaning.specs.Touch.{touchOf, touchesOf}
 use Rattle.meaning.specs.Listing.{listing, listAnswer, listBuffer}
@@ -27,6 +27,7 @@ use Rattle.language.specs.Grammar.{Text, Contents, floorTyped, Belongs}
 use Rattle.language.specs.Layout.{fits}
 use Rattle.language.specs.Prefixes.{LongestViable}
 use Rattle.language.specs.Read.{readOf}
+use Rattle.demands.specs.FileFaults.{Fault}
 
 -- ---- the calls
 
@@ -78,11 +79,10 @@ mayAnswer (touches-call t place) number = ofPlace number
 mayAnswer (check-call t) number = eqb number unsoundTable
 mayAnswer (idle-call t) number = eqb number unsoundTable
 
--- "Each is given exactly under its condition": 10 unsound table, 11 no such agent, 12 listing longer than the buffer; the conditions of a
--- load's numbers are those of its records
+-- "Each is given exactly under its condition": 10 unsound table, 11 no such agent, 12 listing longer than the buffer; a load's numbers by the
+-- fault that the file's bytes have
 pub data Grounds : KeeperCall → ℕ → ℕ → Type 0 where
-  in-the-file : {t : Cell} {file : List ℕ} {number offset : ℕ} → load file ≡ refused number offset
-      → Grounds (load-call t file) number offset
+  in-the-file : {t : Cell} {file : List ℕ} {number offset : ℕ} → Fault file number offset → Grounds (load-call t file) number offset
   -- "16 for text outside the language at the first byte that no text of it could continue (the text's length if it stops early)": the text
   -- does not belong to the language, and just so many of its bytes begin some text of it
   read-16 : {t : Cell} {text : Text} {offset : ℕ} → (Belongs text → ⊥) → LongestViable text offset

@@ -11,20 +11,21 @@ use Rattle.order.specs.Row.{later, latest}
 use Rattle.table.specs.Base.{upd}
 use Rattle.table.specs.BaseLaws.{Told, yea, nay, told, upd-same, upd-other, upd-all}
 use Rattle.table.specs.Cell.{State, linked, travels, nextAction, kindOf, nameOf, enterKind, exitKind, openKind, looksHome}
-use Rattle.table.specs.Kinds.{home-kind, around-kind}
+use Rattle.table.specs.Kinds.{Kind, is-enter, is-exit, is-open, home-kind, around-kind}
 use Rattle.table.specs.declared.Action.{Action}
 use Rattle.table.specs.declared.Agent.{Agent}
 use Rattle.meaning.specs.declared.Word.the-variants.{Took, Left, Came, Opened}
 use Rattle.meaning.specs.Update.{atStage, useUp, withLocks}
 use Rattle.meaning.specs.Step.{choose, choice, stays, leave, childOf, dissolve, arrive, beyond, restStage, dissolveAgent}
 use Rattle.meaning.specs.Calculus.{nextOf, standsAt, putInto, openUp, move}
-use Rattle.meaning.specs.Plain.{Plain, withPicks, treeOf, landIn, heldIn, pickOf, plainWord}
+use Rattle.meaning.specs.Plain.{Plain, withPicks, treeOf, landIn, heldIn, chooses, pickOf, plainWord}
 use Rattle.demands.specs.Reading.{parentIn, agentIn}
 use Rattle.demands.specs.ReadingLaws.{travels-sent, travels-linked, travels-dissolved, agent-given, agent-turned, wakeAgent}
 use Rattle.demands.specs.ReadingLaws.{agent-woken, agent-dissolved}
 use Rattle.demands.specs.Invariant.{Under, Sound}
 use Rattle.demands.specs.Facts.{link-used, parent-read, stays-under}
-use Rattle.demands.specs.Stages.{ok-at, rest-stage, not-between, SameOrReset, same-between, ok-given, both-move}
+use Rattle.demands.specs.Stages.{ok-at, rest-stage, not-between, SameOrReset, same-between, ok-given, fit-given, both-move}
+use Rattle.demands.specs.Actions.{kind-of}
 use Rattle.demands.specs.Ways.{goesOn}
 use Rattle.demands.specs.StepWays.{kind-given}
 use Rattle.demands.specs.OpeningAgents.{dissolved, dissolved-reset}
@@ -84,10 +85,19 @@ module _ (c : State) (i : Sound c) (x : ℕ) (g : c .given x ≡ true) (t : Plai
   plain-took locks stage remembered chosen wish p = turned locks stage remembered chosen (upd (t .pick) x (pickOf t x wish))
       (λ s k. upd-same (t .pick) x (pickOf t x wish) ∙ p s k) (λ y n. upd-other (t .pick) x y (pickOf t x wish) n)
 
+  kind : nextOf (t .tree) x .kind ≡ kindOf a
+  kind = ap (λ v. v .kind) next
+
+  -- an action that is left and no exit chooses
+  still-chooses : Kind (kindOf a) → kindOf a ≢ exitKind → chooses (nextOf (t .tree) x .kind) ≡ true
+  still-chooses (is-enter e) n = ap chooses (kind ∙ e)
+  still-chooses (is-exit e) n = absurd (n e)
+  still-chooses (is-open e) n = ap chooses (kind ∙ e)
+
   -- where p is the place that the agent holds, the plain tree picks what the cell chooses for enter and open
-  pub plain-choice : (wish : ℕ) → kindOf a ≢ exitKind → heldIn (t .tree) x ≡ a .remembered → pickOf t x wish ≡ choice (c .land) a wish
+  pub plain-choice : (wish : ℕ) → a .stage ≡ 2 → kindOf a ≢ exitKind → heldIn (t .tree) x ≡ a .remembered → pickOf t x wish ≡ choice (c .land) a wish
   unfolding pickOf
-  plain-choice wish n e = rw (ne-eqb (nextOf (t .tree) x .kind) exitKind (λ k. n (sym (ap (λ v. v .kind) next) ∙ k)))
+  plain-choice wish s n e = rw (still-chooses (kind-of a (fit-given c i x g) (ok-at 2 s (ok-given c i x g) .0 .some)) n)
       (choose-alike (landIn t) (c .land) (same-places c t (i .places) m) (nextOf (t .tree) x .kind) (nextOf (t .tree) x .name)
       (t .tree .home x) (heldIn (t .tree) x) wish
       ∙ ap (λ (v : Action). choose (c .land) (v .kind) (v .name) (t .tree .home x) (heldIn (t .tree) x) wish) next
@@ -97,9 +107,6 @@ module _ (c : State) (i : Sound c) (x : ℕ) (g : c .given x ≡ true) (t : Plai
   -- where the agent's own place stands
   around : t .tree .parent (t .tree .home x) ≡ parentIn (c .land) (a .home)
   around = ap (λ v. v .parent (v .home x)) (m .tree) ∙ given-around c x g
-
-  kind : nextOf (t .tree) x .kind ≡ kindOf a
-  kind = ap (λ v. v .kind) next
 
   -- an agent at stage 2 that stays holds the place that the plain tree takes for p
   pub plain-held : a .stage ≡ 2 → stays (c .land) a ≡ true → heldIn (t .tree) x ≡ a .remembered

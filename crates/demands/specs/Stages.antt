@@ -17,6 +17,7 @@ use Rattle.demands.specs.ReadingLaws.{agent-given}
 use Rattle.demands.specs.Invariant.{Under, Has, Fit, Ready, Away, Travels, Sound}
 use Rattle.demands.specs.Invariant.{Ok, ok0, ok1, ok2, ok3-move, ok3-open, ok4, ok5, ok6, ok7, ok8}
 use Rattle.demands.specs.Invariant.{Holds, near, far, own, destination, Kept, free, kept}
+use Rattle.demands.specs.NoMore.{Returned}
 use Rattle.demands.specs.Given.{stage-given}
 use Rattle.demands.specs.Actions.{kind-some, unused-none}
 use Rattle.demands.specs.Facts.{link-used, second-move, second-open}
@@ -175,11 +176,6 @@ module _ {l : Land} {a : Agent} {q : ℕ} where
 pub holds-given : (c : State) (x : ℕ) {q : ℕ} → Holds (c .land) (agentIn c x) q → c .given x ≡ true
 holds-given c x h = stage-given c x (λ e. omega (arith, holds-between h .1))
 
--- the locks of x given back: those of others stay, and no place in use is x's any more
-pub record Returned (c : State) (x : ℕ) (lock′ : ℕ → ℕ) : Type 0 where
-  pub others : (r : ℕ) → c .lock r ≢ x → lock′ r ≡ c .lock r
-  pub ours : (r : ℕ) → c .land .used r ≡ true → c .lock r ≡ x → lock′ r ≡ none
-
 module _ (c : State) (i : Sound c) (x : ℕ) (g : c .given x ≡ true) where
   -- what is read of it is what it is
   pub ok-given : Ok (c .land) (c .lock) x (c .agent x)
@@ -231,6 +227,12 @@ module _ (c : State) (i : Sound c) (x : ℕ) (g : c .given x ≡ true) where
           → Has (c .lock) (secondPlace (kindOf (c .agent x)) (c .agent x .home) (c .agent x .chosen)) x
       second (inl m) = subst (λ (r : ℕ). Has (c .lock) r x) (sym (second-move _ _ _ (m .kind))) (m .own)
       second (inr m) = subst (λ (r : ℕ). Has (c .lock) r x) (sym (second-open _ _ _ (m .kind))) (m .own)
+
+  -- which for enter and exit is its own
+  pub returned-move : c .agent x .stage ≡ 3 → kindOf (c .agent x) ≤ exitKind
+      → Returned c x (released (c .lock) (c .agent x .remembered) (c .agent x .home))
+  returned-move n k = subst (λ (q : ℕ). Returned c x (released (c .lock) (c .agent x .remembered) q))
+      (second-move (kindOf (c .agent x)) (c .agent x .home) (c .agent x .chosen) k) (returned-three n)
 
   -- the second place is in use
   pub second-used : c .agent x .stage ≡ 3 → c .land .used (secondPlace (kindOf (c .agent x)) (c .agent x .home) (c .agent x .chosen)) ≡ true

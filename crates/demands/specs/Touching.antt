@@ -6,7 +6,7 @@ use mathlib.Core.Bool.{true}
 use Prim.Native.Nat.{ℕ, _+_, _≤_}
 use lib.Dec.{leb}
 use borrow.Author.Tests.{leb-true}
-use Rattle.table.specs.BaseLaws.{Told, yea, nay, told, upd-other}
+use Rattle.table.specs.BaseLaws.{Told, yea, nay, told, upd-same, upd-other}
 use Rattle.table.specs.Bounds.{Sized}
 use Rattle.table.specs.Cell.{State, cellOf, tableOf}
 use Rattle.table.specs.CellLaws.{bounded, forth, sized-table}
@@ -14,6 +14,7 @@ use Rattle.table.specs.Sound.{sound, touchSum, mostTouches}
 use Rattle.table.specs.SoundParts.{sound-touches}
 use Rattle.table.specs.declared.Cell.{Cell}
 use Rattle.meaning.specs.declared.Touched.{Touched}
+use Rattle.meaning.specs.declared.Touching.the-variants.{Count}
 use Rattle.meaning.specs.Refusals.{placeTooLarge, notYetGiven, unsoundTable, tooManyTouches}
 use Rattle.meaning.specs.Touch.{addTouches, counted, untouched, touchOf}
 use Rattle.demands.specs.Reading.{agentIn}
@@ -26,8 +27,15 @@ use Rattle.demands.specs.SoundTest.{sound-true, sound-bounded}
 -- ---- a cell with some touches more
 
 module _ (c : State) (q n : ℕ) where
-  pub touch-only : OnlyTouches c q (addTouches c q n)
-  touch-only = record { land = refl; lock = refl; agent = refl; given = refl; touches = λ r d. upd-other (c .touches) q r _ d }
+  pub touch-only : (new : ℕ) → OnlyTouches c q n (addTouches c q n) (Count new)
+  touch-only new = record {
+    land = refl;
+    lock = refl;
+    agent = refl;
+    given = refl;
+    count = upd-same (c .touches) q (c .touches q + n);
+    touches = λ r d. upd-other (c .touches) q r _ d;
+  }
 
   pub touch-untouched : c .land .used q ≡ true → Untouched c (addTouches c q n)
   touch-untouched u = record {

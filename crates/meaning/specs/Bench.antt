@@ -9,7 +9,7 @@ use lib.Dec.{eqb}
 use Rattle.sets.specs.Word.{has, wordOf, countOf}
 use Rattle.order.specs.Row.{keep, later, firstIn, occurs, counting, countingRow, hasAll, allSmall, rowFits}
 use Rattle.table.specs.Base.{upd, tab, foldUp, allBelow, anyBelow, countBelow, sumBelow, iter}
-use Rattle.table.specs.Cell.{cellOf, tableOf, bareTable, linked, linkedTo, travels, nextAction}
+use Rattle.table.specs.Cell.{cellOf, tableOf, bareTable, linked, linkedTo, travels, nextAction, rowEnd, unused}
 use Rattle.table.specs.Idle.{idle}
 use Rattle.table.specs.Sound.{actionsFit, ready, holdsBoth, stageFits, firstHeld, secondHeld, lockIs, claims, agentFits, goingFrom, goes, placeFits}
 use Rattle.table.specs.Sound.{coreSound, touchSum, booksSound, sound}
@@ -19,7 +19,9 @@ use Rattle.meaning.specs.Step.{onWayTo, awaited, entersAt, exitsFrom, op
 use Rattle.meaning.specs.Step.{asleepOn, wake, look, lockFirst, lockSecond, hold, leave, dissolveAgent, wokenBy, dissolveLock, dissolve, act}
 use Rattle.meaning.specs.Step.{arrive, travel, stepAt, step}
 use Rattle.meaning.specs.Touch.{counted, untouched, touchOf, touchesOf}
-use Rattle.meaning.specs.Run.{made, turnedAway, stepOf, callOf, run, settled, rests}
+use Rattle.meaning.specs.Run.{made, turnedAway, stepOf, callOf, run, answers, settled, rests}
+use Rattle.meaning.specs.Calculus.{standsAt, mayEnter, mayExit, mayOpen, permits, putInto, openUp, move}
+use Rattle.meaning.specs.Plain.{treeOf, plainOf, landIn, pickOf, plainWord, plainStep, plainRun}
 use Rattle.meaning.specs.Text.{ascii, digits, gap, joinedAll, overlay}
 use Rattle.meaning.specs.Sorted.{leq, insert, sorted}
 use Rattle.meaning.specs.Listing.{kindText, actionText, agentText, listsIn, textsOf, agentTexts, standsUnder, isPlain, slashed, nameText, bracketed, placeTexts}
@@ -39,6 +41,7 @@ use Rattle.meaning.specs.BenchAfter.{afterRows}
 use Rattle.meaning.specs.BenchTouch.{crib, touchRows}
 use Rattle.meaning.specs.BenchOrder.{firstRows, orderRows}
 use Rattle.meaning.specs.BenchKeys.{keyRows, keyNumbers}
+use Rattle.meaning.specs.BenchPlain.{plainRows}
 
 pub rows : List Row
 rows = keyRows ++ (firstRows ++ (fileRows ++ (listingRows ++ (paperRows ++ (slipRows ++ stepRows)))))
@@ -78,10 +81,11 @@ unfolding same
 allMeant [] = true
 allMeant (r ∷ rest) = same (r .value) (r .meant) && allMeant rest
 
--- what walk cannot show: keys and the row of places in a table, the calls and answers of a host, touches, the table after each kind of step,
--- and soundness clause by clause
-pub numbers : allMeant (keyNumbers ++ (orderRows ++ (callRows ++ (touchRows ++ (afterRows ++ soundRows))))) ≡ true
-unfolding allMeant soundRows callRows afterRows touchRows orderRows keyNumbers crib counted untouched touchOf touchesOf callOf run sample topmost checkOf idleOf idle loadOf loaded listAnswer listBuffer overlay settled rests file manyOpens
+-- what walk cannot show: the plain tree and the calculus, keys and the row of places in a table, the calls and answers of a host, touches, the
+-- table after each kind of step, and soundness clause by clause
+pub numbers : allMeant (plainRows ++ (keyNumbers ++ (orderRows ++ (callRows ++ (touchRows ++ (afterRows ++ soundRows)))))) ≡ true
+unfolding allMeant soundRows callRows afterRows touchRows orderRows keyNumbers plainRows treeOf plainOf landIn pickOf plainWord plainStep plainRun
+    standsAt mayEnter mayExit mayOpen permits putInto openUp move answers rowEnd unused crib counted untouched touchOf touchesOf callOf run sample topmost checkOf idleOf idle loadOf loaded listAnswer listBuffer overlay settled rests file manyOpens
     calls same has wordOf countOf keep later firstIn occurs counting countingRow hasAll allSmall rowFits chosenOf upd tab foldUp allBelow anyBelow countBelow iter cellOf tableOf bareTable linked
     linkedTo travels nextAction actionsFit ready holdsBoth stageFits firstHeld secondHeld lockIs claims agentFits goingFrom goes placeFits
     coreSound sumBelow touchSum booksSound sound placeRecord agentRecord actionRecord touchRecord recordAt addPlace addAgent withAction addAction giveTouches loadRecord loadFrom load onWayTo awaited

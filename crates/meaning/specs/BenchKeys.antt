@@ -2,9 +2,8 @@
 use mathlib.Core.List.{List, [], _∷_}
 use Prim.Native.Nat.{ℕ}
 use Rattle.table.specs.Cell.{State, cellOf, noName}
-use Rattle.table.specs.declared.Name.{Name}
 use Rattle.meaning.specs.BenchRow.{Row, row, hex, agents, file, place, agent, enters, exits, opens, keyed}
-use Rattle.meaning.specs.BenchTables.{Computed, number, bytes, loadedFrom, placedAs, checked, sample}
+use Rattle.meaning.specs.BenchTables.{Computed, number, bytes, named, loadedFrom, placedAs, checked, sample}
 
 unfoldable pub keyRows : List Row
 keyRows =
@@ -56,9 +55,6 @@ keyRows =
 -- a place's name and keys
 abbrev keysIn : State → ℕ → List ℕ
 keysIn c q = c .land .place q .name .name ∷ c .land .place q .name .entering ∷ c .land .place q .name .exiting ∷ c .land .place q .name .opening ∷ []
-
-abbrev named : ℕ → ℕ → ℕ → ℕ → Name
-named name enter exit opened = record { name = name; entering = enter; exiting = exit; opening = opened }
 
 unfoldable pub keyNumbers : List Computed
 unfolding file

@@ -1,7 +1,7 @@
 -- Rows on soundness (document 01, refusal 10): each clause of "A table is sound when", broken once, and what soundness does not ask.
 use mathlib.Core.List.{List, [], _∷_}
 use Rattle.table.specs.Cell.{bareTable, cellOf}
-use Rattle.meaning.specs.BenchTables.{Computed, number, placed, notUsed, locked, staged, lives, counted, acting, sample, found, holding}
+use Rattle.meaning.specs.BenchTables.{Computed, number, named, placedAs, placed, notUsed, locked, staged, lives, counted, acting, sample, found, holding}
 use Rattle.meaning.specs.BenchTables.{entering, exiting, opening, going, going5, going6, topmost, checked}
 
 unfoldable pub soundRows : List Computed
@@ -20,6 +20,7 @@ soundRows =
     ∷ number 10 (checked (notUsed 0 sample))
     ∷ number 10 (checked (notUsed 0 (cellOf bareTable)))
     ∷ number 10 (checked (placed 0 1 0 1 sample))
+    ∷ number 10 (checked (placedAs 0 (named 1 0 0 0) 0 1 sample))
     ∷ number 10 (checked (placed 0 0 1 1 sample))
     ∷ number 10 (checked (placed 0 0 0 0 sample))
     ∷ number 0 (checked (placed 0 0 0 2 sample))

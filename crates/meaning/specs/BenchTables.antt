@@ -32,6 +32,10 @@ holds b = number 1 (bit b)
 abbrev pub fails : Bool → Computed
 fails b = number 0 (bit b)
 
+-- a name and the keys for entering, leaving and opening
+abbrev pub named : ℕ → ℕ → ℕ → ℕ → Name
+named name enter exit opened = record { name = name; entering = enter; exiting = exit; opening = opened }
+
 -- ---- a cell with one thing written anew
 
 -- place q has this name with its keys, parent and way

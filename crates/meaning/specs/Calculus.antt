@@ -19,7 +19,7 @@ pub record Tree : Type 0 where
   pub home : ℕ → ℕ
   pub unused : ℕ → List Action
 
--- ---- one part of a tree written anew: besides treeFrom the only definitions that write one out
+-- ---- one part of a tree written anew: besides treeFrom, and bareTree of demands, the only definitions that write one out
 
 abbrev pub withTreeUsed : Tree → (ℕ → Bool) → Tree
 withTreeUsed t f = record { used = f; name = t .name; parent = t .parent; home = t .home; unused = t .unused }

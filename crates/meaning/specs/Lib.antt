@@ -24,6 +24,7 @@ pub mod BenchAfter
 pub mod BenchTouch
 pub mod BenchOrder
 pub mod BenchKeys
+pub mod BenchPlain
 pub mod Bench
 pub mod FileLaws
 pub mod OrderLaws

@@ -7,7 +7,7 @@ use mathlib.Core.List.{List, [], _∷_}
 use lib.Dec.{eqb}
 use Rattle.order.specs.Row.{later, latest}
 use Rattle.table.specs.Base.{upd}
-use Rattle.table.specs.Cell.{Land, State, none, noName, unused, exitKind, looksHome}
+use Rattle.table.specs.Cell.{Land, State, none, noName, unused, enterKind, openKind, looksHome}
 use Rattle.table.specs.declared.Action.{Action}
 use Rattle.meaning.specs.declared.Word.{Word}
 use Rattle.meaning.specs.declared.Word.the-variants.{Looked, Took, Held, Back, Slept, Left, Came, Opened, Asleep, Done}
@@ -24,7 +24,7 @@ pub record Plain : Type 0 where
   pub pick : ℕ → ℕ
   pub order : List ℕ
 
--- ---- one part of a plain tree written anew: besides plainOf the only definitions that write one out
+-- ---- one part of a plain tree written anew: besides plainOf, and plainIn of demands, the only definitions that write one out
 
 abbrev pub withTree : Plain → Tree → Plain
 withTree t u = record { tree = u; travels = t .travels; pick = t .pick; order = t .order }
@@ -56,7 +56,8 @@ treeFrom l home unused = record {
 unfoldable pub treeOf : State → Tree
 treeOf c = treeFrom (c .land) (λ x. cond (c .given x) (c .agent x .home) 0) (λ x. cond (c .given x) (unused (c .agent x)) [])
 
--- "It starts as the file says, with nothing travelling and no picks": c is the cell that the file gives
+-- "It starts as the file says, with nothing travelling and no picks": c is the cell that the file gives. What the file's bytes say is plainIn of
+-- demands, and starts-as-file there shows the two equal
 unfoldable pub plainOf : State → Plain
 unfolding treeOf
 plainOf c = record { tree = treeOf c; travels = λ q. false; pick = λ x. none; order = c .land .order }
@@ -75,12 +76,18 @@ landIn t = record {
 abbrev pub heldIn : Tree → ℕ → ℕ
 heldIn t a = cond (looksHome (nextOf t a .kind)) (t .home a) (t .parent (t .home a))
 
--- "the place that stage 2 would choose here with this wish, if any"; an exit chooses none
+-- "Enter and open choose the wished place": the kinds of action that choose a place; an exit chooses none, and neither does an agent with no
+-- action left, whose next action has kind 0
+abbrev pub chooses : ℕ → Bool
+chooses kind = eqb kind enterKind || eqb kind openKind
+
+-- "the place that stage 2 would choose here with this wish, if any"
 unfoldable pub pickOf : Plain → ℕ → ℕ → ℕ
 unfolding landIn
 pickOf t a wish =
-    cond (eqb (nextOf (t .tree) a .kind) exitKind) none
+    cond (chooses (nextOf (t .tree) a .kind))
     (choose (landIn t) (nextOf (t .tree) a .kind) (nextOf (t .tree) a .name) (t .tree .home a) (heldIn (t .tree) a) wish)
+    none
 
 -- ---- one call
 

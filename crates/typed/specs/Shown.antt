@@ -1,25 +1,23 @@
 -- The cell of a tree that fits shows the tree.
 -- Idea: what is laid later keeps what was laid before (`Holds`, backwards over `lay`), so each number reads in the last cell as it did when it
 -- was laid.
-use mathlib.Core.Path.{_≡_, refl, sym, ap, ap₂, _∙_}
+use mathlib.Core.Path.{_≡_, refl, sym, ap, _∙_}
 use mathlib.Core.Bool.{true}
 use mathlib.Core.List.{List, [], _∷_, _++_, append-assoc, append-nil}
-use Prim.Native.Nat.{ℕ, zero, suc, _+_, _-_, _≤_, _<_}
+use Prim.Native.Nat.{ℕ, _+_, _≤_, _<_}
 use native.Mathlib.Omega.{arith}
-use lib.Dec.{ltb}
-use lib.ListN.{length, getD, set, length-set}
-use lib.Seq.{getD-set-same, getD-set-other}
-use borrow.Author.Tests.{eq-eqb, ne-eqb, ltb-false}
+use lib.ListN.{length, length-set}
+use borrow.Author.Tests.{eq-eqb, ne-eqb}
 use Rattle.table.specs.Base.{tab}
-use Rattle.table.specs.BaseLaws.{Told, yea, nay, told, upd-same, upd-other}
-use Rattle.table.specs.Cell.{State, noAction, freshAgent, rowEnd, unused}
+use Rattle.table.specs.BaseLaws.{upd-same, upd-other}
+use Rattle.table.specs.Cell.{State, freshAgent, rowEnd, unused}
 use Rattle.table.specs.declared.Name.{Name}
-use Rattle.table.specs.declared.Action.{Action}
 use Rattle.table.specs.declared.Agent.{Agent}
 use Rattle.meaning.specs.Update.{linkedPlace, withHome}
 use Rattle.meaning.specs.File.{addPlace, addAgent, withAction, addAction}
 use Rattle.meaning.specs.Plain.{treeOf}
 use Rattle.calculus.specs.MoveCases.{Stands}
+use Rattle.demands.specs.Actions.{unused-more}
 use Rattle.language.specs.Grammar.{TypedAction, TypedAgent, Contents, nothing, agent, place, actionOf, nameOf}
 use Rattle.language.specs.Layout.{Laid, layActions, layAgent, layPlace, lay}
 use Rattle.language.specs.Sites.{actions-other, actions-land}
@@ -40,51 +38,6 @@ unfolding layActions acted
 actions-acted [] c x = refl
 actions-acted (a ∷ ds) c x = actions-acted ds (addAction c x (a .kind) (a .number .value)) x
     ∙ ap (acted ds) (unfold addAction in upd-same (c .agent) x _)
-
--- a table with one more at its end
-tab-more : (f g : ℕ → Action) (n k : ℕ) (x : Action) → ((j : ℕ) → j < k + n → g j ≡ f j) → g (k + n) ≡ x → tab g (suc n) k ≡ tab f n k ++ (x ∷ [])
-unfolding tab
-tab-more f g zero k x h e = ap (λ z. z ∷ []) (ap g (let z : k ≡ k + 0 = omega arith in z) ∙ e)
-tab-more f g (suc n) k x h e =
-    ap₂ _∷_ (h k (omega arith)) (tab-more f g n (suc k) x (λ j l. h j (omega arith)) (ap g (let z : suc k + n ≡ k + suc n = omega arith in z) ∙ e))
-
--- a row of sixteen actions at most ends at its count
-row-end : (n : ℕ) → n ≤ 16 → rowEnd n ≡ n
-unfolding rowEnd
-row-end n l = go (told (ltb n 16))
-  where
-    go : Told (ltb n 16) → rowEnd n ≡ n
-    go (yea e) = rw e
-    go (nay e) = rw e (omega (arith, ltb-false n 16 e))
-
--- an action more is the last of the unused ones
-unused-more : (a : Agent) (k v : ℕ) → a .next ≤ a .count → a .count < 16 → length (a .actions) ≡ 16
-    → unused (withAction a k v) ≡ unused a ++ (record { kind = k; name = v } ∷ [])
-unfolding unused withAction
-unused-more a k v l h w =
-    ap (λ n. tab g n (a .next)) longer
-    ∙ tab-more f g (a .count - a .next) (a .next) x
-    (λ j m. getD-set-other (a .actions) (a .count) j x noAction (λ e. omega arith))
-    (ap g there ∙ getD-set-same (a .actions) (a .count) x noAction (omega arith))
-    ∙ ap (λ n. tab f n (a .next) ++ (x ∷ [])) before
-  where
-    x : Action
-    x = record { kind = k; name = v }
-
-    f : ℕ → Action
-    f j = getD (a .actions) j noAction
-
-    g : ℕ → Action
-    g j = getD (set (a .actions) (a .count) x) j noAction
-
-    longer : rowEnd (a .count + 1) - a .next ≡ suc (a .count - a .next)
-    longer = omega (arith, row-end (a .count + 1) (omega arith))
-
-    there : a .next + (a .count - a .next) ≡ a .count
-    there = omega arith
-
-    before : a .count - a .next ≡ rowEnd (a .count) - a .next
-    before = omega (arith, row-end (a .count) (omega arith))
 
 -- these actions more are the last ones
 acted-unused : (ds : List TypedAction) (a : Agent) → a .next ≤ a .count → a .count + length ds ≤ 16 → length (a .actions) ≡ 16

@@ -40,6 +40,9 @@ pub fn same_tree(plain: &Plain, cell: &Cell) -> Result<(), String> {
     if !plain.equals(cell) {
         return Err("demand 3: the cell does not equal the plain tree".to_string());
     }
+    if !plain.same_picks(cell) {
+        return Err("demand 3: the plain tree has another pick than the place that an agent chose".to_string());
+    }
     if !plain.same_order(cell) {
         return Err("first in, first served: the plain tree has another order of the places under a parent".to_string());
     }

@@ -9,6 +9,7 @@ use crate::layouts;
 use crate::orders::{touch, Order};
 use crate::pair::{Pair, LONGEST};
 use crate::random::Random;
+use crate::texts;
 use crate::touches;
 use model::Table;
 
@@ -248,7 +249,7 @@ impl Session {
         Ok(())
     }
 
-    /// Calls on a cell that may be unsound.
+    /// Calls on a cell that may be unsound. A load or a reading that is refused leaves every byte of it, and an accepted one replaces it.
     fn after_damage(&mut self, random: &mut Random) -> Outcome {
         let mut order = Order::new(random);
         for _ in 0..1 + random.below(8) {
@@ -267,6 +268,8 @@ impl Session {
                 if random.percent(10) {
                     let file = if random.percent(20) { Vec::new() } else { files::nearly_good(random) };
                     self.call(Call::Load(file))?;
+                } else if random.percent(10) {
+                    self.call(Call::Read(texts::nearly_good(random)))?;
                 }
                 break;
             }

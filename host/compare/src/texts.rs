@@ -38,6 +38,16 @@ pub fn good(random: &mut Random) -> Vec<u8> {
     written(random, size)
 }
 
+/// A text of the language, or a damaged one.
+pub fn nearly_good(random: &mut Random) -> Vec<u8> {
+    let text = good(random);
+    if random.percent(50) {
+        text
+    } else {
+        damaged(random, &text)
+    }
+}
+
 /// A text of the language with about as many places, agents or actions as fit, or more of any of them.
 pub fn nearly_full(random: &mut Random) -> Vec<u8> {
     let about = |random: &mut Random, most: usize| if random.percent(50) { random.below(4) } else { most - 1 + random.below(4) };

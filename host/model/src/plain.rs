@@ -145,6 +145,20 @@ impl Plain {
                 .all(|((mine, (home, unused)), (theirs, agent))| mine == theirs && *home == agent.home && *unused == agent.unused)
     }
 
+    /// An agent that holds both places picked what it chose there: a place for enter and open, none for exit. One on its way that has locked
+    /// since with an exit next, or with no action left, has no pick.
+    pub fn same_picks(&self, cell: &Cell) -> bool {
+        cell.agents.iter().all(|(number, agent)| {
+            let pick = self.picks.get(number).copied();
+            let chooses = matches!(agent.unused.first(), Some(Action { kind: Kind::Enter | Kind::Open, .. }));
+            match agent.stage {
+                3 => pick == agent.chosen,
+                5 | 6 => chooses || pick.is_none(),
+                _ => true,
+            }
+        })
+    }
+
     /// Document 02, W5: the cell has the places linked to each parent in the order that the plain tree knows.
     pub fn same_order(&self, cell: &Cell) -> bool {
         self.places.keys().all(|&parent| {

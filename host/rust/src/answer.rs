@@ -32,44 +32,51 @@ pub enum Word {
     Unknown(u8),
 }
 
-/// Why a call was refused. A later library may refuse for reasons that are not named here.
+/// Why a call was refused, and what to do about it (more on it: `docs/MEANING.md`, section 7). A later library may refuse for reasons that are
+/// not named here.
 #[derive(Clone, Copy, PartialEq, Eq, Hash, Debug)]
 #[non_exhaustive]
 pub enum Refusal {
-    /// 1: the file is cut short: a body incomplete, or no end record. A file of length 0 is not: it is a bare floor.
+    /// 1: the file is cut short: a body incomplete, or no end record. A file of length 0 is not: it is a bare floor. Copy the file anew; put the
+    /// byte 4 at its end.
     CutShort,
-    /// 2: a record of unknown kind, not 1 to 6.
+    /// 2: a record of unknown kind, not 1 to 6. Look at the record before it too: a byte too many or too few there shifts all that follows.
     UnknownKind,
-    /// 3: a place record's own number is above 63, or 0; or the place of a touch record or of a touch call is above 63.
+    /// 3: a place record's own number is above 63, or 0; or the place of a touch record or of a touch call is above 63. Number places 1 to 63 and do
+    /// not give the floor.
     TooLarge,
-    /// 4: a number, or a place's touches, given twice.
+    /// 4: a number, or a place's touches, given twice. Give each once, touches also where they are 0.
     GivenTwice,
-    /// 5: a parent, home, agent or touched place not yet given; of a touch call, a place that is not in use.
+    /// 5: a parent, home, agent or touched place not yet given: put parents before what stands in them, agents before their actions, places before
+    /// their touches. Of a touch call, a place that is not in use: if it was opened, its touches are now those of the opener's place.
     NotYetGiven,
-    /// 6: name 0 in a place or action; a key may be 0.
+    /// 6: name 0 in a place or action; a key may be 0. Use 1 to 65,535, and mind the low byte first.
     NameZero,
-    /// 7: an action kind that is not 1 to 3.
+    /// 7: an action kind that is not 1 (enter), 2 (exit) or 3 (open).
     ActionKind,
-    /// 8: an agent's seventeenth action.
+    /// 8: an agent's seventeenth action. A second agent of the same place can take the rest.
     SeventeenthAction,
-    /// 9: bytes after the end record.
+    /// 9: bytes after the end record. Cut the file there, or move the end record to the end.
     AfterTheEnd,
-    /// 10: an unsound table.
+    /// 10: an unsound table. Somebody else wrote the cell, or it was restored from a damaged copy: load again.
     Unsound,
-    /// 11: no such agent in the cell.
+    /// 11: no such agent in the cell. Correct the order.
     NoSuchAgent,
-    /// 12: the listing is longer than the text lent for it.
+    /// 12: the listing is longer than the text lent for it. [`LISTING_LONGEST`](crate::LISTING_LONGEST) bytes are enough for every cell.
     ListingTooLong,
-    /// 13: a place's parent or an agent's home is above 63.
+    /// 13: a place's parent or an agent's home is above 63. Look at the record's third byte.
     ParentTooLarge,
-    /// 14: the number of an agent, in an agent or an action record, is above 63. A step for such an agent is [`Refusal::NoSuchAgent`].
+    /// 14: the number of an agent, in an agent or an action record, is above 63. Look at the record's second byte. A step for such an agent is
+    /// [`Refusal::NoSuchAgent`].
     AgentTooLarge,
-    /// 15: the touch call would bring the places in use past [`TOUCHES_MOST`](crate::TOUCHES_MOST) touches.
+    /// 15: the touch call would bring the places in use past [`TOUCHES_MOST`](crate::TOUCHES_MOST) touches. No line comes near that many: find out
+    /// who adds them.
     TooManyTouches,
     /// 16: the text is not one of the listing's language. The offset is the first byte that cannot stand there, whatever follows it, or the text's
-    /// length where it stops too early: [`Cell::read`](crate::Cell::read) says what the language is.
+    /// length where it stops too early: [`Cell::read`](crate::Cell::read) says what the language is. Show the text with a caret under that byte.
     OutsideLanguage,
     /// 17: the text has more than 63 places, more than 64 agents, or an agent with more than sixteen actions. The offset is the text's length.
+    /// Leave something out.
     TooMany,
     /// 255, which no library answers: the linked library is not one that this crate was made for, and was not called.
     OtherLibrary,

@@ -26,7 +26,19 @@ impl Cell {
     }
 
     /// The cell that the cell file says. A file of length 0 is a bare floor with no agents, as `[4]` is; one that begins and lacks its end is
-    /// cut short. A place record of kind 6 gives the place's keys for entering, exiting and opening; one of kind 1 sets them to the name.
+    /// cut short. Any other file is a row of records, each a byte of kind and a body; numbers of two and of four bytes have the low byte first:
+    ///
+    /// | kind | bytes | what | the body, one byte for each number unless it says otherwise |
+    /// |---|---|---|---|
+    /// | 1 | 5 | a place, whose three keys are its name | number (1 to 63), parent (0 to 63), name (2 bytes, from 1 on) |
+    /// | 2 | 3 | an agent | number (0 to 63), the place that it lives in (0 to 63) |
+    /// | 3 | 5 | an action, after the agent's earlier ones | agent, kind (1 enter, 2 exit, 3 open), its number (2 bytes, from 1 on) |
+    /// | 4 | 1 | the end, last | nothing |
+    /// | 5 | 6 | the touches of a place, once for each | place (0 to 63), count (4 bytes) |
+    /// | 6 | 11 | a place with its keys | number, parent, name (2 bytes), keys for entering, exiting and opening (2 bytes each) |
+    ///
+    /// What a record names has been given before it; the floor, place 0, always is. `docs/MEANING.md` has a file byte by byte (section 4) and
+    /// every refusal with what to do about it (section 7).
     ///
     /// # Errors
     ///
@@ -153,7 +165,7 @@ impl Cell {
         accepted(self.lent.check())
     }
 
-    /// Whether all agents are asleep or done, so that no step changes the cell any more.
+    /// Whether all agents are asleep or done, so that no step changes the cell any more. Where there are no agents, they are.
     ///
     /// # Errors
     ///

@@ -56,7 +56,7 @@ pub struct Place {
 pub struct Action {
     /// 1 enter, 2 exit, 3 open.
     pub kind: u8,
-    /// Means nothing.
+    /// Means nothing: no answer depends on it, and what it holds after a call, a refused one too, is not promised.
     pub padding: u8,
     /// The number that the key of that kind must be on the place that it acts on, from 1 on; where the place has no keys of its own, that is
     /// its name.

@@ -4,7 +4,7 @@
 //! from a line that a person typed, and stepped once per lock step. Every call ends, every input is accepted or refused with a number, and a refused call changes nothing.
 //!
 //! The crate is a thin safe layer over the C exports of libkeeper.a, which it links from the folder that the environment variable
-//! KEEPER_LIB_DIR names (or from the repository's target/staticlib). It needs no `std`. It allocates only in `Cell::listing`, which the
+//! KEEPER_LIB_DIR names by its absolute path (or from the repository's target/staticlib). It needs no `std`. It allocates only in `Cell::listing`, which the
 //! feature `alloc`, on by default, adds. No function of it panics.
 //!
 //! ```
@@ -67,7 +67,8 @@
 //!
 //! # What a host owes
 //!
-//! The thread that calls has [`STACK`] bytes of stack left. Rust's own threads have 2 MiB unless they are given less.
+//! The thread that calls has [`STACK`] bytes of stack left. Rust's own threads have 2 MiB unless they are given less. Calls on different cells
+//! may run at the same time, and on one cell those that only read it, which take `&self`; the compiler sees to it that no others do.
 //!
 //! # The library
 //!
@@ -97,7 +98,8 @@ pub const FILE_LONGEST: usize = 6_390;
 /// How many bytes of a file, at its start, always decide the answer to it: of a longer file a host may read and load those.
 pub const FILE_DECIDING: usize = 6_400;
 
-/// The longest listing: with a text of this size, [`Cell::list`] is never refused with 12. No text that [`Cell::read`] accepts is longer.
+/// The longest listing: with a text of this size, [`Cell::list`] is never refused with 12 (proved). No text that [`Cell::read`] accepts is
+/// longer (counted and not proved).
 pub const LISTING_LONGEST: usize = 14_177;
 
 /// The touches that the places in use may have together, at most.

@@ -1,0 +1,97 @@
+-- Rows on the plain tree and the calculus (document 01, "The plain tree"): what a run of calls makes of it, what the calculus permits in a small
+-- tree, and what its moves make.
+use mathlib.Core.List.{List, [], _∷_}
+use Prim.Native.Nat.{ℕ}
+use lib.ListN.{length}
+use Rattle.sets.specs.Word.{bit}
+use Rattle.table.specs.Cell.{cellOf}
+use Rattle.meaning.specs.Run.{Call, stepCall, answers}
+use Rattle.meaning.specs.Calculus.{Tree, nextOf, permits, move}
+use Rattle.meaning.specs.Plain.{Plain, treeOf, plainOf, plainRun}
+use Rattle.meaning.specs.BenchRow.{file, place, agent, enters, keyed}
+use Rattle.meaning.specs.BenchTables.{Computed, bytes, holds, fails, loadedFrom, sample}
+
+-- ---- what is read of a tree
+
+-- for places 1, 2 and 3: in use or not, the name, and where it stands
+abbrev placesIn : Tree → List ℕ
+placesIn t =
+    bit (t .used 1) ∷ t .name 1 .name ∷ t .parent 1 ∷
+    bit (t .used 2) ∷ t .name 2 .name ∷ t .parent 2 ∷
+    bit (t .used 3) ∷ t .name 3 .name ∷ t .parent 3 ∷ []
+
+-- an agent's home, how many actions it has left, and the kind and name of the next
+abbrev agentIn : Tree → ℕ → List ℕ
+agentIn t x = t .home x ∷ length (t .unused x) ∷ nextOf t x .kind ∷ nextOf t x .name ∷ []
+
+-- the pick of agent 0, and whether place 1 travels
+abbrev pickIn : Plain → List ℕ
+pickIn t = t .pick 0 ∷ bit (t .travels 1) ∷ []
+
+-- ---- a run
+
+-- `7[enter 9] | 9[5/5/5/0[]]`: places 1 and 2 stand on the floor, 3 in 2; agent 0 lives in 1. Nobody may open place 3
+abbrev magazine : List ℕ
+magazine = file (place 1 0 7 ∷ place 2 0 9 ∷ keyed 3 2 5 5 5 0 ∷ agent 0 1 ∷ enters 0 9 ∷ [])
+
+-- the plain tree after calls on the cell of that file
+abbrev ran : List Call → Plain
+ran calls = plainRun (plainOf (cellOf (loadedFrom magazine))) calls (answers (loadedFrom magazine) calls)
+
+-- a step call of agent 0 with wish 255
+abbrev steps : List Call → List Call
+steps more = stepCall 0 255 ∷ more
+
+-- after looked, took and took; then left; then took; then took and came
+abbrev held : Plain
+held = ran (steps (steps (steps [])))
+
+abbrev gone : Plain
+gone = ran (steps (steps (steps (steps []))))
+
+abbrev onItsWay : Plain
+onItsWay = ran (steps (steps (steps (steps (steps [])))))
+
+abbrev arrived : Plain
+arrived = ran (steps (steps (steps (steps (steps (steps (steps [])))))))
+
+unfoldable pub plainRows : List Computed
+unfolding file
+plainRows =
+    -- "It starts as the file says, with nothing travelling and no picks"
+    bytes (1 ∷ 7 ∷ 0 ∷ 1 ∷ 9 ∷ 0 ∷ 1 ∷ 5 ∷ 2 ∷ []) (placesIn (ran [] .tree))
+    ∷ bytes (1 ∷ 1 ∷ 1 ∷ 9 ∷ []) (agentIn (ran [] .tree) 0)
+    ∷ bytes (64 ∷ 0 ∷ []) (pickIn (ran []))
+    -- "took: the agent's pick becomes the place that stage 2 would choose here"
+    ∷ bytes (2 ∷ 0 ∷ []) (pickIn held)
+    -- "left: its own place now stands in the pick (enter) .. and travels; the action is used up"
+    ∷ bytes (1 ∷ 7 ∷ 2 ∷ 1 ∷ 9 ∷ 0 ∷ 1 ∷ 5 ∷ 2 ∷ []) (placesIn (gone .tree))
+    ∷ bytes (1 ∷ 0 ∷ 0 ∷ 0 ∷ []) (agentIn (gone .tree) 0)
+    ∷ bytes (2 ∷ 1 ∷ []) (pickIn gone)
+    -- "if any": a took with no action left makes the pick none, though place 3, now beside its own, has the opening key 0
+    ∷ bytes (64 ∷ 1 ∷ []) (pickIn onItsWay)
+    ∷ bytes (1 ∷ 7 ∷ 2 ∷ 1 ∷ 9 ∷ 0 ∷ 1 ∷ 5 ∷ 2 ∷ []) (placesIn (onItsWay .tree))
+    -- "came: its own place travels no more"
+    ∷ bytes (64 ∷ 0 ∷ []) (pickIn arrived)
+    -- "enter n if another place named n stands beside the agent's own": 9, not its own place and not the 8 inside it
+    ∷ holds (permits (treeOf sample) 0 3)
+    ∷ fails (permits (treeOf sample) 0 1)
+    ∷ fails (permits (treeOf sample) 0 2)
+    -- "exit n if its own stands in a place named n": 7, not the floor
+    ∷ holds (permits (treeOf sample) 2 1)
+    ∷ fails (permits (treeOf sample) 2 0)
+    -- "open n if a place named n stands in its own": 8, not the 9 beside it
+    ∷ holds (permits (treeOf sample) 1 2)
+    ∷ fails (permits (treeOf sample) 1 3)
+    -- with no action left, nothing
+    ∷ fails (permits (gone .tree) 0 3)
+    -- `7[enter 9 | open 8 | 8[exit 7.exit 7]] | 9[]` after agent 0 entered 9
+    ∷ bytes (1 ∷ 7 ∷ 3 ∷ 1 ∷ 8 ∷ 1 ∷ 1 ∷ 9 ∷ 0 ∷ []) (placesIn (move (treeOf sample) 0 3))
+    ∷ bytes (1 ∷ 0 ∷ 0 ∷ 0 ∷ []) (agentIn (move (treeOf sample) 0 3) 0)
+    -- after agent 2 left 7: it has one action more
+    ∷ bytes (1 ∷ 7 ∷ 0 ∷ 1 ∷ 8 ∷ 0 ∷ 1 ∷ 9 ∷ 0 ∷ []) (placesIn (move (treeOf sample) 2 1))
+    ∷ bytes (2 ∷ 1 ∷ 2 ∷ 7 ∷ []) (agentIn (move (treeOf sample) 2 1) 2)
+    -- after agent 1 opened 8: the number 2 is not in use, and agent 2 lives in 7
+    ∷ bytes (1 ∷ 7 ∷ 0 ∷ 0 ∷ 0 ∷ 0 ∷ 1 ∷ 9 ∷ 0 ∷ []) (placesIn (move (treeOf sample) 1 2))
+    ∷ bytes (1 ∷ 2 ∷ 2 ∷ 7 ∷ []) (agentIn (move (treeOf sample) 1 2) 2)
+    ∷ []
