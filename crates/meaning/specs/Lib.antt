@@ -12,6 +12,7 @@ pub mod Listing
 pub mod TreeListing
 pub mod Report
 pub mod Codes
+pub mod Ask
 pub mod BenchRow
 pub mod BenchPaper
 pub mod BenchFiles

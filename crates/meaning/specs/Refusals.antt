@@ -75,3 +75,9 @@ outsideLanguage = 16
 -- "17 .. for too many of anything"
 abbrev pub tooMany : ℕ
 tooMany = 17
+
+-- ---- of a commit (document 02, W9)
+
+-- "18 if the answer would differ, after 10 and 11"
+abbrev pub answerDiffers : ℕ
+answerDiffers = 18

@@ -48,6 +48,12 @@ pub enum Answer {
     Refused(u8),
 }
 
+// What an ask tells of the step: the word, how many agents it would wake and the chosen place, or a refusal's number.
+pub enum Asked {
+    Would(Word, u8, u8),
+    Unasked(u8),
+}
+
 // A step call's answer, and the cell after it.
 pub struct Stepped {
     pub cell: Cell,

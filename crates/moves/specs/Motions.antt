@@ -1,12 +1,15 @@
 -- What a motion makes of a cell: the step in which a place moves.
+use mathlib.Core.Path.{_≡_, refl}
+use mathlib.Core.Bool.{_&&_}
 use Prim.Native.Nat.{ℕ}
+use Rattle.sets.specs.Word.{countOf}
 use Rattle.table.specs.Base.{upd}
 use Rattle.table.specs.Cell.{State}
 use Rattle.table.specs.declared.Place.{Place}
 use Rattle.table.specs.declared.Agent.{Agent}
 use Rattle.meaning.specs.declared.Word.{Word}
 use Rattle.meaning.specs.Update.{withPlaces, withLand, withLocks, withAgents, released}
-use Rattle.meaning.specs.Step.{Outcome, leave, arrive, dissolve, wake, wokenOn}
+use Rattle.meaning.specs.Step.{Outcome, leave, arrive, dissolve, wake, wokenOn, wokenBy, beyond}
 use Rattle.moves.specs.declared.Motion.{Motion}
 use Rattle.moves.specs.declared.Motion.the-variants.{Leave, Arrive, Dissolve}
 
@@ -24,3 +27,16 @@ abbrev pub shifted : State → ℕ → Agent → Motion → Outcome
 shifted c x a (Leave d) = leave c x a d
 shifted c x a (Arrive d) = arrive c x a d
 shifted c x a Dissolve = dissolve c x a (a .remembered) (a .chosen)
+
+-- how many agents it wakes
+abbrev pub wokenIn : State → Agent → Motion → ℕ
+wokenIn c a (Leave d) = wokenOn c (a .remembered) (a .home) (a .home)
+wokenIn c a (Arrive d) = wokenOn c (a .home) d (beyond (c .land) d)
+wokenIn c a Dissolve = countOf 64 (λ y. c .given y && wokenBy (a .remembered) (a .chosen) (c .agent y))
+
+-- that is the number that the motion answers
+pub shifted-woken : (c : State) (x : ℕ) (a : Agent) (m : Motion) → shifted c x a m .woken ≡ wokenIn c a m
+unfolding leave arrive dissolve
+shifted-woken c x a (Leave d) = refl
+shifted-woken c x a (Arrive d) = refl
+shifted-woken c x a Dissolve = refl

@@ -1,6 +1,7 @@
 // A place moves: it goes on its way, it is linked, or it is dissolved.
 mod open;
 mod places;
+mod waking;
 
 use meaning::Stepped;
 use table::Agent;
@@ -8,7 +9,7 @@ use table::Cell;
 ghost use mathlib.Core.Path.{_≡_};
 ghost use Rattle.table.specs.Cell.{cellOf};
 ghost use Rattle.meaning.specs.Run.{made};
-ghost use Rattle.moves.specs.Motions.{shifted};
+ghost use Rattle.moves.specs.Motions.{shifted, wokenIn};
 
 // How a place moves.
 pub enum Motion {
@@ -28,5 +29,23 @@ pub fn shift(c: Cell, x: u8, a: Agent, motion: Motion) -> Stepped
         Motion::Leave(to) => places::leave(c, x, a, to),
         Motion::Arrive(to) => places::arrive(c, x, a, to),
         Motion::Dissolve => open::dissolve(c, x, a, a.remembered, a.chosen),
+    }
+}
+
+// How many agents a motion would wake; nothing changes.
+pub fn woken(c: Cell, a: Agent, motion: Motion) -> u8
+    ensures { λ r. ⌜ r ≡ wokenIn (cellOf c) a motion ⌝ }
+{
+    let crew = c.agents;
+    let given = c.given;
+    match motion {
+        Motion::Leave(_) => waking::sleeping(crew, given, a.remembered, a.home, a.home),
+        Motion::Arrive(to) => {
+            let ps = c.places;
+            let used = c.used;
+            let r = places::beyond_of(ps, used, to);
+            waking::sleeping(crew, given, a.home, to, r)
+        }
+        Motion::Dissolve => waking::freed(crew, given, a.remembered, a.chosen),
     }
 }

@@ -174,7 +174,7 @@ fn dissolve_agent(a: Agent, p: u8, t: u8) -> Agent
 }
 
 // Whether an agent that is given is woken when t is dissolved into p.
-fn woken_by(a: Agent, p: u8, t: u8) -> bool
+pub(super) fn woken_by(a: Agent, p: u8, t: u8) -> bool
     ensures { λ r. ⌜ r ≡ wokenBy p t a ⌝ }
 {
     if a.stage == 7 {

@@ -12,7 +12,8 @@ use updates::released;
 ghost use mathlib.Core.Path.{_≡_};
 ghost use mathlib.Core.Bool.{_&&_, cond};
 ghost use lib.Dec.{eqb, ltb};
-ghost use Rattle.table.specs.Cell.{cellOf};
+ghost use mathlib.Core.List.{[]};
+ghost use Rattle.table.specs.Cell.{cellOf, landOf};
 ghost use Rattle.meaning.specs.Update.{useUp, withParent, withWay};
 ghost use Rattle.meaning.specs.Step.{asleepOn};
 ghost use Rattle.meaning.specs.Run.{made};
@@ -123,6 +124,15 @@ fn beyond(known: bool, x: Place, d: u8) -> u8
     ensures { λ r. ⌜ r ≡ cond (known && eqb (x .way) 0) (x .parent) d ⌝ }
 {
     if linked(known, x) { x.parent } else { d }
+}
+
+// The place that the destination d is linked to, or d.
+pub(super) fn beyond_of(ps: [Place; 64], used: Set, d: u8) -> u8
+    ensures { λ r. ⌜ r ≡ Rattle.meaning.specs.Step.beyond (landOf ps used []) d ⌝ }
+{
+    let t = table::place_at(ps, d);
+    let u = used.has(d);
+    beyond(u, t, d)
 }
 
 // Stage 6: its place is linked to d, and is the latest.

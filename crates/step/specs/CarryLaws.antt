@@ -25,13 +25,14 @@ use Rattle.meaning.specs.Refusals.{unsoundTable, noSuchAgent}
 use Rattle.meaning.specs.Update.{atStage, withLocks, withAgent, released}
 use Rattle.meaning.specs.Step.{still, turn, take, release, stepAt, step}
 use Rattle.meaning.specs.Run.{made, turnedAway, stepOf}
+use Rattle.meaning.specs.Ask.{noneTold}
 use Rattle.soundness.specs.Seen.{seenOf}
 use Rattle.updates.specs.UpdateLaws.{did}
 use Rattle.stages.specs.Changes.{carried, changeAt}
 use Rattle.stages.specs.ChangeLaws.{step-carried}
 use Rattle.stages.specs.declared.Change.{Change}
 use Rattle.stages.specs.declared.Change.the-variants.{Still, Turn, Take, Release, Move}
-use Rattle.step.specs.Decided.{staying, settling, decided, settled, carriedOut}
+use Rattle.step.specs.Decided.{staying, lockedChoice, settling, decided, settled, carriedOut}
 
 -- ---- the agent's row
 
@@ -48,14 +49,14 @@ unsettled t x a ls f e = ap₂ (λ (b : Agent) (ms : List ℕ). settled t x b ms
 
 module _ (t : Cell) (z : Sized t) (x : ℕ) (l : x < 64) (ls : List ℕ) (e : ls ≡ t .locks) where
   -- nothing changes
-  pub carry-still : (a : Agent) (w : Word) → a ≡ getD (t .agents) x noAgent → carriedOut t x (staying a ls (Did w 0)) ≡ made (still (cellOf t) w)
+  pub carry-still : (a : Agent) (w : Word) (k : ℕ) → a ≡ getD (t .agents) x noAgent → carriedOut t x (staying a ls (Did w 0) k) ≡ made (still (cellOf t) w)
   unfolding still carriedOut
-  carry-still a w f = did _ w 0 (still (cellOf t) w) (unsettled t x a ls (f ∙ ap (λ (i : ℕ). getD (t .agents) i noAgent) (sym (index x l))) e ∙ sym (back t z)) refl refl
+  carry-still a w k f = did _ w 0 (still (cellOf t) w) (unsettled t x a ls (f ∙ ap (λ (i : ℕ). getD (t .agents) i noAgent) (sym (index x l))) e ∙ sym (back t z)) refl refl
 
   -- the place is held
-  pub carry-held : (a : Agent) (q : ℕ) (b : Agent) → a ≡ getD (t .agents) x noAgent → (getD ls q 0 ≡ 64 → ⊥) → carriedOut t x (staying a ls (Did Held 0)) ≡ made (take (cellOf t) x q b)
+  pub carry-held : (a : Agent) (q : ℕ) (b : Agent) (k : ℕ) → a ≡ getD (t .agents) x noAgent → (getD ls q 0 ≡ 64 → ⊥) → carriedOut t x (staying a ls (Did Held 0) k) ≡ made (take (cellOf t) x q b)
   unfolding take cellOf
-  carry-held a q b f h = rw (ne-eqb (getD (t .locks) q 0) 64 (λ g. h (ap (λ (ms : List ℕ). getD ms q 0) e ∙ g))) (carry-still a Held f)
+  carry-held a q b k f h = rw (ne-eqb (getD (t .locks) q 0) 64 (λ g. h (ap (λ (ms : List ℕ). getD ms q 0) e ∙ g))) (carry-still a Held k f)
 
   -- agent x becomes b
   module _ (b : Agent) where
@@ -67,20 +68,20 @@ module _ (t : Cell) (z : Sized t) (x : ℕ) (l : x < 64) (ls : List ℕ) (e : ls
     unfolding tableOf
     changed ms f g = λ i. putLocks (putAgents (sym (back t z) i) (stored i)) (g i)
 
-    pub carry-turn : (w : Word) → carriedOut t x (staying b ls (Did w 0)) ≡ made (turn (cellOf t) x b w)
+    pub carry-turn : (w : Word) (k : ℕ) → carriedOut t x (staying b ls (Did w 0) k) ≡ made (turn (cellOf t) x b w)
     unfolding turn still carriedOut
-    carry-turn w = did _ w 0 (turn (cellOf t) x b w) (changed _ _ (e ∙ locks-are t z)) refl refl
+    carry-turn w k = did _ w 0 (turn (cellOf t) x b w) (changed _ _ (e ∙ locks-are t z)) refl refl
 
     -- and takes the lock of q
-    pub carry-took : (q : ℕ) (ms : List ℕ) → getD ls q 0 ≡ 64 → ms ≡ tab (upd (λ j. getD ls j 0) q x) 64 0 → carriedOut t x (staying b ms (Did Took 0)) ≡ made (take (cellOf t) x q b)
+    pub carry-took : (q : ℕ) (ms : List ℕ) (k : ℕ) → getD ls q 0 ≡ 64 → ms ≡ tab (upd (λ j. getD ls j 0) q x) 64 0 → carriedOut t x (staying b ms (Did Took 0) k) ≡ made (take (cellOf t) x q b)
     unfolding take still cellOf carriedOut
-    carry-took q ms h f = rw (eq-eqb (getD (t .locks) q 0) 64 (ap (λ (ns : List ℕ). getD ns q 0) (sym e) ∙ h))
+    carry-took q ms k h f = rw (eq-eqb (getD (t .locks) q 0) 64 (ap (λ (ns : List ℕ). getD ns q 0) (sym e) ∙ h))
         (did _ Took 0 _ (changed _ _ (f ∙ ap (λ (ns : List ℕ). tab (upd (λ j. getD ns j 0) q x) 64 0) e)) refl refl)
 
     -- and the locks of p and q are released
-    pub carry-release : (p q : ℕ) (w : Word) (ms : List ℕ) → ms ≡ tab (released (λ j. getD ls j 0) p q) 64 0 → carriedOut t x (staying b ms (Did w 0)) ≡ made (release (cellOf t) x p q b w)
+    pub carry-release : (p q : ℕ) (w : Word) (ms : List ℕ) (k : ℕ) → ms ≡ tab (released (λ j. getD ls j 0) p q) 64 0 → carriedOut t x (staying b ms (Did w 0) k) ≡ made (release (cellOf t) x p q b w)
     unfolding release still cellOf carriedOut
-    carry-release p q w ms f = did _ w 0 (release (cellOf t) x p q b w)
+    carry-release p q w ms k f = did _ w 0 (release (cellOf t) x p q b w)
         (changed _ _ (f ∙ ap (λ (ns : List ℕ). tab (released (λ j. getD ns j 0) p q) 64 0) e)) refl refl
 
 -- ---- the call
@@ -89,14 +90,14 @@ module _ (t : Cell) (z : Sized t) (x : ℕ) (l : x < 64) (ls : List ℕ) (e : ls
 pub settles : (k : Change) (t : Cell) → Sized t → (x : ℕ) → x < 64 → (a : Agent) → a ≡ getD (t .agents) x noAgent
     → carriedOut t x (settling k x a (t .locks)) ≡ made (carried (cellOf t) x a k)
 unfolding carriedOut
-settles (Still w) t z x l a f = carry-still t z x l (t .locks) refl a w f
-settles (Turn stage remembered w) t z x l a f = carry-turn t z x l (t .locks) refl (atStage a stage remembered 0) w
+settles (Still w) t z x l a f = carry-still t z x l (t .locks) refl a w noneTold f
+settles (Turn stage remembered w) t z x l a f = carry-turn t z x l (t .locks) refl (atStage a stage remembered 0) w noneTold
 settles (Take q stage remembered chosen) t z x l a f = go (told (eqb (getD (t .locks) q 0) none))
   where
     go : Told (eqb (getD (t .locks) q 0) none) → carriedOut t x (settling (Take q stage remembered chosen) x a (t .locks)) ≡ made (carried (cellOf t) x a (Take q stage remembered chosen))
-    go (yea e) = rw e (carry-took t z x l (t .locks) refl (atStage a stage remembered chosen) q _ (eqb-true (getD (t .locks) q 0) none e) refl)
-    go (nay e) = rw e (carry-held t z x l (t .locks) refl a q (atStage a stage remembered chosen) f (eqb-false (getD (t .locks) q 0) none e))
-settles (Release p q stage remembered w) t z x l a f = carry-release t z x l (t .locks) refl (atStage a stage remembered 0) p q w _ refl
+    go (yea e) = rw e (carry-took t z x l (t .locks) refl (atStage a stage remembered chosen) q _ (lockedChoice stage chosen) (eqb-true (getD (t .locks) q 0) none e) refl)
+    go (nay e) = rw e (carry-held t z x l (t .locks) refl a q (atStage a stage remembered chosen) (lockedChoice stage chosen) f (eqb-false (getD (t .locks) q 0) none e))
+settles (Release p q stage remembered w) t z x l a f = carry-release t z x l (t .locks) refl (atStage a stage remembered 0) p q w _ noneTold refl
 settles (Move m) t z x l a f = refl
 
 module _ (t : Cell) (z : Sized t) (x wish : ℕ) where
@@ -108,9 +109,9 @@ module _ (t : Cell) (z : Sized t) (x wish : ℕ) where
   change = changeAt (a .stage) (landOf (t .places) (t .used) (t .order)) a wish
 
   -- a refused call leaves the table
-  turned : (number : ℕ) → carriedOut t x (staying a (t .locks) (Refused number)) ≡ turnedAway t number
+  turned : (number k : ℕ) → carriedOut t x (staying a (t .locks) (Refused number) k) ≡ turnedAway t number
   unfolding carriedOut turnedAway
-  turned number = ap (λ (u : Cell). record { cell = u; answer = Refused number }) (unsettled t x a (t .locks) refl refl)
+  turned number k = ap (λ (u : Cell). record { cell = u; answer = Refused number }) (unsettled t x a (t .locks) refl refl)
 
   -- a call of an agent that is given, on a sound table, makes the step
   stepped : sound (cellOf t) ≡ true → member (t .given) x ≡ true → carriedOut t x (settling change x a (t .locks)) ≡ made (step (cellOf t) x wish)
@@ -127,6 +128,6 @@ module _ (t : Cell) (z : Sized t) (x wish : ℕ) where
   decided-step = go (told (sound (cellOf t))) (told (member (t .given) x))
     where
       go : Told (sound (cellOf t)) → Told (member (t .given) x) → carriedOut t x (decided (seenOf t x) t x wish) ≡ stepOf t x wish
-      go (nay s) _ = rw s (turned unsoundTable)
-      go (yea s) (nay g) = rw (s, g) (turned noSuchAgent)
+      go (nay s) _ = rw s (turned unsoundTable noneTold)
+      go (yea s) (nay g) = rw (s, g) (turned noSuchAgent noneTold)
       go (yea s) (yea g) = rw (s, g) (stepped s g)

@@ -1,7 +1,7 @@
--- The decision with the word that was read of the motion.
+-- The decision with the word and the chosen place that were read of the motion.
 use borrow.Author.Needs.{needs}
 use Rattle.step.proofs.settle.goes.Statement.{statement}
 use Rattle.step.proofs.settle.goes.Tie as tie
 
 pub goes-spec : {M : Type 1} → statement M
-goes-spec = tie.close (tie.spec (λ c κs. search needs) (λ c. rw (c .motion-word .ensures)))
+goes-spec = tie.close (tie.spec (λ c κs. search needs) (λ c κs. search needs) (λ c. rw (c .before .motion-word .ensures, c .motion-choice .ensures)))

@@ -1,0 +1,23 @@
+-- What is told of what was decided is the ask.
+use mathlib.Core.Path.{ap, ap₂, _∙_}
+use borrow.Author.Needs.{needs}
+use Rattle.table.proofs.Facts.{sized}
+use Rattle.table.specs.declared.Agent.{Agent}
+use Rattle.soundness.specs.declared.sound.Seen.{Seen}
+use Rattle.step.specs.Decided.{decided}
+use Rattle.step.specs.declared.Decision.{Decision}
+use Rattle.asking.specs.Asked.{askedOf}
+use Rattle.asking.specs.AskedLaws.{decided-ask}
+use Rattle.asking.proofs.ask.Statement.{statement}
+use Rattle.asking.proofs.ask.Tie as tie
+
+returns : tie.Need-returns
+returns c =
+    let v = c .before .before .before in
+    let s = v .before .args in
+    c .asked .ensures ∙ ap (askedOf (s .c) (v .see .result .agent)) (c .before .decide .ensures)
+    ∙ ap (λ (w : Seen). askedOf (s .c) (w .agent) (decided w (s .c) (s .agent) (s .wish))) (v .see .ensures)
+    ∙ decided-ask (s .c) (sized (s .c) (v .before .good .0)) (s .agent) (s .wish)
+
+pub ask-spec : {M : Type 1} → statement M
+ask-spec = tie.close (tie.spec (λ c κs. search needs) (λ c κs. search needs) (λ c κs. search needs) returns)

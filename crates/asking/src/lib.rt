@@ -1,0 +1,91 @@
+// Ask, then commit: what a step would give, and the step made only if it is still that.
+use meaning::Answer;
+use meaning::Asked;
+use meaning::Stepped;
+use step::Decision;
+use table::Agent;
+use table::Cell;
+ghost use mathlib.Core.Path.{_≡_};
+ghost use mathlib.Core.Bool.{cond};
+ghost use lib.Dec.{eqb};
+ghost use Rattle.table.specs.Cell.{kindOf, cellOf};
+ghost use Rattle.meaning.specs.Ask.{askOf, agrees as agreesWith, commitOf};
+ghost use Rattle.asking.specs.Asked.{wokenBy, askedOf};
+
+// The place that an ask of agent a tells: none for exit.
+fn told(a: Agent, chosen: u8) -> u8
+    ensures { λ r. ⌜ r ≡ cond (eqb (kindOf a) 2) 255 chosen ⌝ }
+{
+    let x = table::next_action(a);
+    if x.kind == 2 { 255 } else { chosen }
+}
+
+// How many agents the step that was decided would wake.
+fn waking(c: Cell, d: Decision) -> u8
+    ensures { λ r. ⌜ r ≡ wokenBy (cellOf c) d ⌝ }
+{
+    if d.moves {
+        let a = d.agent;
+        let m = d.motion;
+        return moves::woken(c, a, m);
+    }
+    0
+}
+
+// What an ask tells of the step that was decided for agent a.
+pub fn asked(c: Cell, a: Agent, d: Decision) -> Asked
+    ensures { λ r. ⌜ r ≡ askedOf c a d ⌝ }
+{
+    let q = told(a, d.chosen);
+    let answer = d.answer;
+    match answer {
+        Answer::Did(word, _) => {
+            let n = waking(c, d);
+            Asked::Would(word, n, q)
+        }
+        Answer::Refused(number) => Asked::Unasked(number),
+    }
+}
+
+// Whether word, number woken and place are what is told; a refused ask is refused again by the step itself.
+pub fn agrees(a: Asked, word: u8, woken: u8, place: u8) -> bool
+    ensures { λ r. ⌜ r ≡ agreesWith a word woken place ⌝ }
+{
+    match a {
+        Asked::Would(w, n, q) => {
+            if numbers::word_number(w) == word {
+                if n == woken { q == place } else { false }
+            } else {
+                false
+            }
+        }
+        Asked::Unasked(_) => true,
+    }
+}
+
+// What a step of this agent with this wish would give.
+pub fn ask(c: Cell, agent: u8, wish: u8) -> Asked
+    ensures { λ r. ⌜ r ≡ askOf c agent wish ⌝ }
+{
+    let s = soundness::see(c, agent);
+    let a = s.agent;
+    let d = step::decide(s, c, agent, wish);
+    asked(c, a, d)
+}
+
+// The step, if it would still give what was told: 18 otherwise.
+pub fn commit(c: Cell, agent: u8, wish: u8, word: u8, woken: u8, place: u8) -> Stepped
+    ensures { λ r. ⌜ r ≡ commitOf c agent wish word woken place ⌝ }
+{
+    let s = soundness::see(c, agent);
+    let a = s.agent;
+    let d = step::decide(s, c, agent, wish);
+    let t = asked(c, a, d);
+    if agrees(t, word, woken, place) {
+        return step::carry_out(c, agent, d);
+    }
+    Stepped {
+        cell: c,
+        answer: Answer::Refused(18),
+    }
+}
