@@ -22,7 +22,7 @@ use Rattle.meaning.specs.declared.Asked.{Asked}
 use Rattle.meaning.specs.declared.Asked.the-variants.{Would}
 use Rattle.meaning.specs.Refusals.{answerDiffers}
 use Rattle.meaning.specs.Step.{Outcome, choice, fires, stays, still, turn, take, release, leave, arrive, dissolve, stepAt, step}
-use Rattle.meaning.specs.Run.{turnedAway, stepOf}
+use Rattle.meaning.specs.Run.{turnedAway}
 use Rattle.meaning.specs.Ask.{noneTold, choiceTold, toldAt, toldPlace, would, askOf, agrees, commitOf}
 use Rattle.moves.specs.Motions.{shifted, wokenIn}
 use Rattle.moves.specs.declared.Motion.{Motion}

@@ -5,7 +5,7 @@ use Prim.Native.Nat.{ℕ, zero, suc, _≤_, _<_}
 use native.Mathlib.Nat.{not-suc-le-zero, le-of-suc-le-suc}
 use native.Mathlib.Omega.{arith}
 use lib.Dec.{ltb, lit<}
-use lib.ListN.{length, length-append, getD, take, drop}
+use lib.ListN.{length, length-append, take, drop}
 use lib.Seq.{take-all, take-append-seam}
 use borrow.Author.Tests.{ltb-true, ltb-false}
 use Rattle.table.specs.BaseLaws.{Told, yea, nay, told}

@@ -1,8 +1,8 @@
 -- A typed report is not longer than the longest report, and the order's first 32,768 bytes decide it. Assumes nothing.
 use mathlib.Core.Path.{_≡_, ap, _∙_}
-use mathlib.Core.Bool.{Bool, true, false, cond}
+use mathlib.Core.Bool.{true, cond}
 use mathlib.Core.List.{List, _++_, map}
-use Prim.Native.Nat.{ℕ, _+_, _-_, _≤_, min}
+use Prim.Native.Nat.{ℕ, _+_, _-_, _≤_}
 use native.Mathlib.Nat.{le-refl}
 use native.Mathlib.Omega.{arith}
 use lib.Dec.{leb}
@@ -12,10 +12,10 @@ use Rattle.table.specs.Base.{tab}
 use Rattle.table.specs.BaseLaws.{Told, yea, nay, told}
 use Rattle.meaning.specs.Text.{ascii}
 use Rattle.meaning.specs.File.{Load, accepted, refused}
-use Rattle.meaning.specs.Report.{Pair, refusedLine, callsIn, reportOf}
+use Rattle.meaning.specs.Report.{refusedLine, callsIn}
 use Rattle.language.specs.Grammar.{Text}
 use Rattle.language.specs.Read.{readText}
-use Rattle.language.specs.Answers.{Answers, read, too-many, outside, answers}
+use Rattle.language.specs.Answers.{Answers, too-many, outside, answers}
 use Rattle.language.specs.TypedReport.{lineOf, mostShown, shownBefore, shown, shownFrom, window, caretLine, pointed, typedOf, typedReport}
 use Rattle.text.specs.Wrote.{Wrote}
 use Rattle.lengths.specs.Longest.{longestReport}

@@ -1,7 +1,7 @@
 -- "0 means nobody may" (document 02, W6): the calculus permits no action on a place whose key of the action's kind is 0.
 -- Idea: a permitted action has the number of that key, and an action in range has a number that is not 0.
-use mathlib.Core.Path.{_≡_, ap, _∙_}
-use mathlib.Core.Bool.{true, false, not, _&&_}
+use mathlib.Core.Path.{_≡_, ap}
+use mathlib.Core.Bool.{true, false, not}
 use Prim.Native.Nat.{ℕ}
 use native.Mathlib.Omega.{arith}
 use lib.Dec.{eqb}

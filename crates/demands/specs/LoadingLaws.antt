@@ -8,7 +8,6 @@ use Prim.Native.Nat.{ℕ, _^_, _≤_}
 use native.Mathlib.Omega.{arith}
 use Rattle.table.specs.BaseLaws.{Told, yea, nay, told, clash}
 use Rattle.table.specs.SumLaws.{sum-most}
-use Rattle.table.specs.Bounds.{Bounded}
 use Rattle.table.specs.Cell.{State, freshAgent, cellOf, tableOf}
 use Rattle.table.specs.CellLaws.{forth}
 use Rattle.table.specs.Sound.{leads, touchesAt, touchSum, mostTouches, sound}
@@ -103,11 +102,3 @@ module _ (s : List ℕ) (c : State) (e : load s ≡ accepted c) where
   -- it is one tree
   pub accepted-tree : (q : ℕ) → leads c q ≡ true
   accepted-tree = leads-all c (accepted-inv .sound)
-
-  -- at and past 64 it reads as a table does
-  pub accepted-bounded : Bounded c
-  accepted-bounded = accepted-fresh s c e .bounds
-
-  -- it is the cell of its table
-  pub accepted-forth : cellOf (tableOf c) ≡ c
-  accepted-forth = fresh-forth c (accepted-fresh s c e)

@@ -1,7 +1,7 @@
 -- Two texts in a buffer, compared byte by byte. Assumes nothing.
 -- Idea: bytes that are the same are passed, one or eight at a time, and the rest is compared.
 use mathlib.Core.Path.{_≡_, refl, sym, ap, ap₂, _∙_}
-use mathlib.Core.Bool.{Bool, true, false, cond, _&&_}
+use mathlib.Core.Bool.{Bool, true, false}
 use mathlib.Core.List.{List, [], _∷_}
 use Prim.Native.Nat.{ℕ, zero, suc, _+_, _-_, _≤_, _<_}
 use native.Mathlib.Omega.{arith}
@@ -9,7 +9,7 @@ use native.Mathlib.Numerals.{add-one}
 use lib.Dec.{eqb, ltb, leb}
 use lib.ListN.{length, getD, take, drop}
 use lib.Seq.{drop-cons}
-use borrow.Author.Tests.{eqb-true, eq-eqb, ne-eqb, leb-true, leb-false, ltb-true, ltb-false, le-ltb}
+use borrow.Author.Tests.{eqb-true, eq-eqb, leb-true, leb-false, ltb-true, ltb-false, le-ltb}
 use Rattle.table.specs.Base.{allBelow}
 use Rattle.table.specs.BaseLaws.{Told, yea, nay, told, all-at, all-yes}
 use Rattle.meaning.specs.Sorted.{leq}
@@ -31,24 +31,6 @@ cut-more b s e l h =
     ∙ ap (λ (k : ℕ). getD b s 0 ∷ take (e - (s + 1)) (drop k b)) (sym (add-one s))
 
 -- ---- eight bytes at a time
-
--- flags of which none is set
-pub flags-first : (P : ℕ → Bool) {d : ℕ} → d ≡ cond (P 0) 0 1 → eqb d 0 ≡ allBelow P 1
-unfolding allBelow
-flags-first P {d} e = go (told (P 0))
-  where
-    go : Told (P 0) → eqb d 0 ≡ (P 0 && true)
-    go (yea t) = rw t (eq-eqb d 0 (e ∙ rw t))
-    go (nay t) = let z : d ≡ 1 = e ∙ rw t in rw t (ne-eqb d 0 (λ w. omega arith))
-
--- one flag more
-pub flags-more : (P : ℕ → Bool) (n s : ℕ) {d : ℕ} → eqb s 0 ≡ allBelow P n → d ≡ cond (P n) 0 1 → eqb (s + d) 0 ≡ allBelow P (suc n)
-unfolding allBelow
-flags-more P n s {d} f e = go (told (P n)) ∙ ap (λ (b : Bool). P n && b) f
-  where
-    go : Told (P n) → eqb (s + d) 0 ≡ (P n && eqb s 0)
-    go (yea t) = let z : d ≡ 0 = e ∙ rw t in let w : s + d ≡ s = omega arith in rw t (ap (λ (k : ℕ). eqb k 0) w)
-    go (nay t) = let z : d ≡ 1 = e ∙ rw t in rw t (ne-eqb (s + d) 0 (λ w. omega arith))
 
 module _ (b : List ℕ) (s t : ℕ) where
   -- bytes that are alike are the same

@@ -1,7 +1,7 @@
 -- Eight bytes as one number: two such numbers are equal exactly if the bytes are. Assumes nothing.
 -- Idea: what is below a power of 256 and what is above it are told apart by the number.
-use mathlib.Core.Path.{_≡_, refl, sym, ap, _∙_}
-use mathlib.Core.Bool.{Bool, true, false, _&&_}
+use mathlib.Core.Path.{_≡_, sym, ap, _∙_}
+use mathlib.Core.Bool.{true}
 use mathlib.Core.List.{List}
 use Prim.Native.Nat.{ℕ, _+_, _*_, _<_}
 use native.Mathlib.Omega.{arith}

@@ -5,7 +5,7 @@ use mathlib.Core.Logic.{_≢_, _⊎_, inl, inr}
 use mathlib.Core.List.{List, [], _∷_, _++_, map, append-assoc}
 use Prim.Native.Nat.{ℕ, zero, suc, _+_, _-_, _≤_, _<_}
 use native.Mathlib.Omega.{arith}
-use lib.ListN.{length, getD, take, drop, replicate, length-append, length-replicate}
+use lib.ListN.{length, getD, take, drop, length-append}
 use lib.Seq.{length-take-le, take-take, take-add, take-at, drop-at}
 use Rattle.table.specs.BaseLaws.{eq?}
 use Rattle.meaning.specs.Text.{gap, joined, joinedAll, overlay}
@@ -17,7 +17,7 @@ use Rattle.text.specs.Wrote.{Wrote}
 use Rattle.text.specs.TextLaws.{over-start, over-length}
 use Rattle.lister.specs.Sheet.{bar}
 use Rattle.lister.specs.Marked.{barred, grouped, Filled, none, more, Ends, Marked}
-use Rattle.lister.specs.Cuts.{cut, startOf, partAt, laid, counted, inRow, Inside, Row, Rewritable}
+use Rattle.lister.specs.Cuts.{startOf, partAt, laid, counted, inRow, Inside, Row, Rewritable}
 use Rattle.lister.specs.MarkedLaws.{gap-bar, bar-length, filled-some, grouped-length}
 
 -- texts lie at the start of a buffer, joined by bars

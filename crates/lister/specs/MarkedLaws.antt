@@ -1,27 +1,22 @@
 -- Texts in byte order have as many bytes as they had before. Assumes nothing.
 -- Idea: every text adds its bytes and a bar, but for the first.
-use mathlib.Core.Path.{_≡_, refl, sym, ap, ap₂, _∙_}
-use mathlib.Core.Logic.{_≢_, _⊎_, inl, inr}
-use mathlib.Core.Bool.{Bool, true, false, cond}
-use mathlib.Core.List.{List, [], _∷_, _++_, append-assoc}
-use Prim.Native.Nat.{ℕ, zero, suc, _+_, _-_, _≤_, _<_}
+use mathlib.Core.Path.{_≡_, refl, sym, ap, _∙_}
+use mathlib.Core.Bool.{Bool, cond}
+use mathlib.Core.List.{List, [], _∷_, _++_}
+use Prim.Native.Nat.{ℕ, _+_, _-_, _<_}
 use native.Mathlib.Omega.{arith}
-use lib.ListN.{length, getD, take, drop, length-append}
-use lib.Seq.{length-take-le, take-take, take-add, take-at, drop-at}
+use lib.ListN.{length, length-append}
 use lib.Dec.{eqb}
 use borrow.Author.Tests.{ne-eqb}
 use Rattle.table.specs.Base.{tab}
-use Rattle.table.specs.BaseLaws.{Told, yea, nay, told, eq?}
-use Rattle.meaning.specs.Text.{gap, joined, joinedAll, overlay}
+use Rattle.table.specs.BaseLaws.{Told, yea, nay, told}
+use Rattle.meaning.specs.Text.{gap, joined, joinedAll}
 use Rattle.meaning.specs.Sorted.{leq, insert, sorted}
 use Rattle.meaning.specs.SortedLaws.{Text}
 use Rattle.meaning.specs.InsertLaws.{every-sorted}
-use Rattle.meaning.specs.TextsLaws.{joined-last}
 use Rattle.meaning.specs.Every.{Every, every-none, every-more}
-use Rattle.text.specs.TextLaws.{over-start}
 use Rattle.lister.specs.Sheet.{bar}
-use Rattle.lister.specs.Marked.{barred, grouped, Filled, none, more, Ends, Marked}
-use Rattle.lister.specs.Cuts.{cut, startOf, partAt, laid, counted, Inside}
+use Rattle.lister.specs.Marked.{barred, grouped, Filled, none, more}
 
 -- ---- how many bytes they have
 

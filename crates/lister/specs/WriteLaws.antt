@@ -12,7 +12,7 @@ use Rattle.table.specs.Base.{tab}
 use Rattle.meaning.specs.Text.{overlay}
 use Rattle.text.specs.Wrote.{capped, Wrote, Fits}
 use Rattle.text.specs.TextLaws.{over-start, over-length, wrote-as}
-use Rattle.text.specs.RoomLaws.{fits-less, fits-as, fits-exactly, stores}
+use Rattle.text.specs.RoomLaws.{fits-as, fits-exactly, stores}
 use Rattle.lengths.specs.Longest.{longestListing}
 use Rattle.lister.specs.Sheet.{Sheet, OnPage, contentsOn, floorOn, WroteIf}
 

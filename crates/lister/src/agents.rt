@@ -1,5 +1,4 @@
 // An agent's text, from the rows of its unused actions, where there is room for it.
-ghost use mathlib.Core.Path.{_≡_};
 ghost use mathlib.Core.Bool.{cond};
 ghost use mathlib.Core.List.{[], _++_};
 ghost use Prim.Native.Nat.{_≤_, _<_, _+_};

@@ -1,7 +1,7 @@
 -- The listing call's answers: refused or listed. Assumes nothing.
 -- Idea: the answered length passes the buffer's just if the listing's does, so what was written and the answer fit together.
-use mathlib.Core.Path.{_≡_, refl, ap, _∙_}
-use mathlib.Core.Bool.{Bool, true, false, cond}
+use mathlib.Core.Path.{_≡_, ap, _∙_}
+use mathlib.Core.Bool.{Bool, true, false}
 use mathlib.Core.List.{List}
 use Prim.Native.Nat.{ℕ, _+_, _<_, _≤_}
 use native.Mathlib.Omega.{arith}

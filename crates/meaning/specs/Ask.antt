@@ -1,6 +1,6 @@
 -- Ask, then commit (document 02, W9): what a step would give, and the step made only if it is still that.
 use Prim.Native.Nat.{ℕ}
-use mathlib.Core.Bool.{Bool, true, false, _&&_, cond}
+use mathlib.Core.Bool.{Bool, true, _&&_, cond}
 use lib.Dec.{eqb, ltb}
 use Rattle.table.specs.Cell.{Land, State, cellOf, kindOf, exitKind, holding, holdingBoth}
 use Rattle.table.specs.Sound.{sound}

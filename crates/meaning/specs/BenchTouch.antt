@@ -2,7 +2,7 @@
 use mathlib.Core.List.{List, [], _∷_}
 use Prim.Native.Nat.{ℕ}
 use Rattle.table.specs.Base.{tab}
-use Rattle.table.specs.Cell.{State, bareTable, cellOf, tableOf}
+use Rattle.table.specs.Cell.{bareTable, cellOf, tableOf}
 use Rattle.table.specs.declared.Cell.{Cell}
 use Rattle.meaning.specs.declared.Touching.the-variants.{Count, Untouched}
 use Rattle.meaning.specs.Run.{Call, stepCall, touchCall, run}

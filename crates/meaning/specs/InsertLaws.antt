@@ -1,14 +1,14 @@
 -- Where a text goes when it is inserted, and lists of texts in order: what a writer of texts in byte order uses. Assumes nothing.
 -- Idea: a text goes past every text that is it or comes before it; in a list in order these are the first ones.
-use mathlib.Core.Path.{_≡_, refl, sym, ap, _∙_}
+use mathlib.Core.Path.{_≡_, refl, ap, _∙_}
 use mathlib.Core.Bool.{true, false}
-use mathlib.Core.List.{List, [], _∷_, _++_, append-nil}
+use mathlib.Core.List.{List, [], _∷_, _++_}
 use Prim.Native.Nat.{ℕ, zero, suc, _+_, _≤_, _<_}
 use native.Mathlib.Omega.{arith}
 use lib.ListN.{length, getD, take, drop}
 use Rattle.table.specs.BaseLaws.{Told, yea, nay, told, clash}
 use Rattle.meaning.specs.Sorted.{leq, insert, sorted}
-use Rattle.meaning.specs.SortedLaws.{Text, leq-total, leq-antisym, leq-trans, leq-self, insert-past, insert-here, sorted-comm}
+use Rattle.meaning.specs.SortedLaws.{Text, leq-total, leq-antisym, leq-trans, leq-self, insert-past, insert-here}
 use Rattle.meaning.specs.Every.{Every, every-none, every-more, every-at, every-so}
 
 -- every text of a list is x or comes before it
@@ -63,21 +63,6 @@ sorted-length (x ∷ l) = insert-length x (sorted l) ∙ let e = sorted-length l
 pub insert-beyond : (x : Text) {l : List Text} (m : List Text) → Upto x l → insert x (l ++ m) ≡ l ++ insert x m
 insert-beyond x m every-none = refl
 insert-beyond x m (every-more {x = y} {rest = l} t e) = insert-past x y (l ++ m) t ∙ ap (λ k. y ∷ k) (insert-beyond x m e)
-
--- before all that it comes before
-pub insert-before : (x : Text) {l : List Text} → Before x l → insert x l ≡ x ∷ l
-unfolding insert
-insert-before x every-none = refl
-insert-before x (every-more {x = y} {rest = l} t e) = insert-here x y l t
-
--- between the two
-pub insert-between : (x : Text) {l m : List Text} → Upto x l → Before x m → insert x (l ++ m) ≡ l ++ (x ∷ m)
-insert-between x {l} {m} a b = insert-beyond x m a ∙ ap (λ k. l ++ k) (insert-before x b)
-
--- at the end, if all are it or come before it
-pub insert-last : (x : Text) {l : List Text} → Upto x l → insert x l ≡ l ++ (x ∷ [])
-unfolding insert
-insert-last x {l} a = ap (insert x) (sym (append-nil l)) ∙ insert-beyond x [] a
 
 -- at the front, if it is all of them or comes before them
 pub insert-first : (x : Text) {l : List Text} → From x l → insert x l ≡ x ∷ l
@@ -174,15 +159,3 @@ parted x (ordered-more {x = y} {l = l} e o) = go (told (leq y x)) (parted x o)
       put = insert-past x y l t ∙ ap (λ k. y ∷ k) (r .put);
     }
     go (nay t) _ = record { first = []; rest = y ∷ l; whole = refl; upto = every-none; before = every-more t (before-all x y t e); put = insert-here x y l t }
-
--- ---- the first and the last of a list
-
--- one that is all the others or comes before them is first in order
-pub sorted-first : (l : List Text) (x : Text) (m : List Text) → From x (l ++ m) → sorted (l ++ (x ∷ m)) ≡ x ∷ sorted (l ++ m)
-unfolding sorted
-sorted-first l x m e = sorted-comm l (x ∷ m) ∙ ap (insert x) (sorted-comm m l) ∙ insert-first x (every-sorted e)
-
--- one that all the others are or come before is last
-pub sorted-greatest : (l : List Text) (x : Text) (m : List Text) → Upto x (l ++ m) → sorted (l ++ (x ∷ m)) ≡ sorted (l ++ m) ++ (x ∷ [])
-unfolding sorted
-sorted-greatest l x m e = sorted-comm l (x ∷ m) ∙ ap (insert x) (sorted-comm m l) ∙ insert-last x (every-sorted e)

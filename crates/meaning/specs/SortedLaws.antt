@@ -175,8 +175,3 @@ sorted-comm l m = sorted-append l m ∙ all-sorted l m ∙ sym (sorted-append m 
 -- of lists only their texts in order matter
 pub sorted-cong : (l k m : List Text) → sorted l ≡ sorted k → sorted (l ++ m) ≡ sorted (k ++ m)
 sorted-cong l k m e = sorted-comm l m ∙ sorted-append m l ∙ ap (insertAll m) e ∙ sym (sorted-append m k) ∙ sorted-comm m k
-
--- a text at the end is inserted as one at the front is
-pub sorted-last : (l : List Text) (x : Text) → sorted (l ++ (x ∷ [])) ≡ insert x (sorted l)
-unfolding sorted
-sorted-last l x = sorted-comm l (x ∷ [])

@@ -15,11 +15,6 @@ use Rattle.meaning.specs.Every.{Every, every-none, every-more}
 -- ---- the texts of those that are meant
 
 module _ (meant : ℕ → Bool) (text : ℕ → Text) where
-  -- one that is meant adds its text at the front
-  pub texts-hit : (n : ℕ) → meant n ≡ true → textsOf meant text (suc n) ≡ text n ∷ textsOf meant text n
-  unfolding textsOf
-  texts-hit n e = rw e
-
   -- any other adds nothing
   pub texts-miss : (n : ℕ) → meant n ≡ false → textsOf meant text (suc n) ≡ textsOf meant text n
   unfolding textsOf

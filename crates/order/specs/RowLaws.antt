@@ -27,12 +27,6 @@ occurs-append q (r ∷ a) b = ap (_||_ (eqb q r)) (occurs-append q a b) ∙ go (
     go true y z = refl
     go false y z = refl
 
-occurs-left : (q : ℕ) (a b : List ℕ) → occurs q a ≡ true → occurs q (a ++ b) ≡ true
-occurs-left q a b e = occurs-append q a b ∙ rw e
-
-occurs-right : (q : ℕ) (a b : List ℕ) → occurs q b ≡ true → occurs q (a ++ b) ≡ true
-occurs-right q a b e = occurs-append q a b ∙ or-true (occurs q a) (occurs q b) e
-
 -- ---- what a test keeps
 
 pub keep-append : (f : ℕ → Bool) (a b : List ℕ) → keep f (a ++ b) ≡ keep f a ++ keep f b

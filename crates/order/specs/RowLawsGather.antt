@@ -1,6 +1,6 @@
 -- The loop that tests a row: its numbers as bits of one word, and the bits that they have between them. Assumes nothing.
 -- Idea: while these are below 64, every number is, and the word has just the numbers of the row so far.
-use mathlib.Core.Path.{_≡_, refl, sym, ap, ap₂, _∙_, subst}
+use mathlib.Core.Path.{_≡_, refl, sym, ap, ap₂, _∙_}
 use mathlib.Core.Bool.{Bool, true, false, _&&_, _||_}
 use mathlib.Core.List.{List, [], _∷_, _++_}
 use Prim.Native.Nat.{ℕ, suc, _+_, _*_, _%_, _^_, _≤_, _<_}
@@ -10,10 +10,10 @@ use lib.Dec.{eqb, ltb, lit<}
 use lib.ListN.{length, getD, take}
 use lib.Seq.{take-all, take-suc}
 use lib.Bits.{bitOr, or-lt, or-add-and, and-le-l, and-le-r}
-use borrow.Author.Tests.{eqb-true, eq-eqb, ltb-true, ltb-false, lt-ltb, le-ltb}
+use borrow.Author.Tests.{eqb-true, eq-eqb, ltb-true, lt-ltb, le-ltb}
 use Rattle.sets.specs.Word.{has, wordOf}
 use Rattle.sets.specs.WordLaws.{has-word, has-none, has-or, has-pow, one-shifted, same-word}
-use Rattle.sets.specs.ToldLaws.{Told, yea, nay, told, clash, same-test, and-left, and-right}
+use Rattle.sets.specs.ToldLaws.{same-test, and-left, and-right}
 use Rattle.order.specs.Row.{occurs, hasAll, allSmall, rowFits}
 use Rattle.order.specs.RowLaws.{occurs-append, small-append, has-all, has-all-at}
 

@@ -13,7 +13,7 @@ use Rattle.sets.specs.Set.{member, setOf, inserted, insertedIf, removed}
 use Rattle.sets.specs.SetLaws.{set-eq, member-set, set-ext}
 use Rattle.sets.specs.declared.Set.{Set}
 use Rattle.order.specs.Row.{filledRow}
-use Rattle.order.specs.RowLawsLoaded.{Came, came-room, came-more, came-end}
+use Rattle.order.specs.RowLawsLoaded.{came-room, came-more, came-end}
 use Rattle.table.specs.Base.{upd, tab}
 use Rattle.table.specs.BaseLaws.{Told, yea, nay, told, eq?, upd-at, upd-other, getD-tab, set-tab}
 use Rattle.table.specs.Cell.{State, noPlace, noAgent, tableOf, putPlaces, putAgents, putUsed, putGiven, putTouches, putOrder}
@@ -25,7 +25,7 @@ use Rattle.meaning.specs.Refusals.{cutShort, afterEnd}
 use Rattle.meaning.specs.declared.Record.{Record}
 use Rattle.meaning.specs.declared.Record.the-variants.{PlaceRecord, AgentRecord, ActionRecord, EndRecord, TouchRecord, Faulty}
 use Rattle.meaning.specs.Update.{linkedPlace, withHome}
-use Rattle.meaning.specs.File.{byteAt, placeLength, recordAt, addPlace, withAction, addAgent, addAction, giveTouches, isFull, Known, Progress, withCell, withCounted, knownIn, accepted, refused, loadRecord, loadFrom, load}
+use Rattle.meaning.specs.File.{byteAt, placeLength, recordAt, addPlace, withAction, addAgent, addAction, giveTouches, isFull, Known, withCell, withCounted, knownIn, accepted, refused, loadRecord, loadFrom, load}
 use Rattle.reader.specs.KnownSets.{knownBy}
 use Rattle.reader.specs.LoadRest.{Rest, loadedAt, five-bytes}
 use Rattle.meaning.specs.FileLaws.{Fits, place, agent, action, touch, record-fits, record-same}

@@ -1,6 +1,6 @@
 -- Laws of the set struct: members of what insertion, removal and union make, and loops that collect a set. Assumes nothing.
 -- Idea: two sets with the same members below 64 are the same set, so each law is one about a single member.
-use mathlib.Core.Path.{_≡_, refl, sym, ap, ap₂, _∙_, subst}
+use mathlib.Core.Path.{_≡_, refl, sym, ap, _∙_, subst}
 use mathlib.Core.Logic.{_⊎_, inl, inr, ⊎-elim}
 use mathlib.Core.Bool.{Bool, true, false, not, xor, _&&_, _||_}
 use Prim.Native.Nat.{ℕ, zero, suc, _+_, _*_, _%_, _^_, _≤_, _<_, suc-le-suc, zero-le}
@@ -100,27 +100,8 @@ removed-none s i h m = sym (set-member s h) ∙ set-ext _ _ (λ j k. at j (order
 pub member-inserted : (s : Set) (i j : ℕ) → j < 64 → member (inserted s i) j ≡ (eqb j i || member s j)
 member-inserted s i j l = member-set (λ k. eqb k i || member s k) j l
 
-pub member-inserted-if : (s : Set) (i j : ℕ) (b : Bool) → j < 64 → member (insertedIf s i b) j ≡ (eqb j i && b || member s j)
-member-inserted-if s i j true l = member-inserted s i j l ∙ go (eqb j i)
-  where
-    go : (e : Bool) → (e || member s j) ≡ (e && true || member s j)
-    go true = refl
-    go false = refl
-member-inserted-if s i j false l = go (eqb j i)
-  where
-    go : (e : Bool) → member s j ≡ (e && false || member s j)
-    go true = refl
-    go false = refl
-
 pub member-removed : (s : Set) (i j : ℕ) → j < 64 → member (removed s i) j ≡ (not (eqb j i) && member s j)
 member-removed s i j l = member-set (λ k. not (eqb k i) && member s k) j l
-
-pub member-united : (s t : Set) (j : ℕ) → j < 64 → member (united s t) j ≡ (member s j || member t j)
-member-united s t j l = member-set (λ k. member s k || member t k) j l
-
--- the union of two sets of tests is the set of either test
-pub united-sets : (f g : ℕ → Bool) → united (setOf f) (setOf g) ≡ setOf (λ j. f j || g j)
-united-sets f g = set-ext _ _ (λ j l. ap₂ _||_ (member-set f j l) (member-set g j l))
 
 -- ---- a loop over the numbers from 0 on that inserts those of which f is true
 
@@ -147,6 +128,3 @@ kept f i j e = go (order j i)
 pub collect-more : (f : ℕ → Bool) (s : Set) (i : ℕ) (b : Bool) → b ≡ f i → s ≡ setOf (upto i f) → insertedIf s i b ≡ setOf (upto (i + 1) f)
 collect-more f s i true e q = set-ext _ _ (λ j l. ap (_||_ (eqb j i)) (ap (λ (t : Set). member t j) q ∙ member-set (upto i f) j l) ∙ grown f i j (sym e))
 collect-more f s i false e q = q ∙ set-ext _ _ (λ j l. kept f i j (sym e))
-
-pub collect-all : (f : ℕ → Bool) (s : Set) (i : ℕ) → 64 ≤ i → s ≡ setOf (upto i f) → s ≡ setOf f
-collect-all f s i h q = q ∙ set-ext _ _ (λ j l. ap (λ (b : Bool). b && f j) (lt-ltb j i (lt-of-lt-of-le l h)))

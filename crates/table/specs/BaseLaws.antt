@@ -3,7 +3,7 @@
 use mathlib.Core.Path.{_≡_, refl, sym, ap, ap₂, _∙_, subst}
 use mathlib.Core.Logic.{_≢_, _⊎_, inl, inr}
 use mathlib.Core.List.{List}
-use mathlib.Core.Bool.{Bool, true, false, _&&_, _||_, cond, false≢true}
+use mathlib.Core.Bool.{Bool, true, false, _&&_, _||_, cond}
 use Prim.Native.Nat.{ℕ, zero, suc, _+_, _≤_, _<_, zero-le}
 use native.Mathlib.Nat.{add-zero, zero-add, le-refl}
 use native.Mathlib.Omega.{arith}
@@ -11,7 +11,7 @@ use native.Mathlib.Numerals.{add-one}
 use lib.Dec.{eqb, ltb, leb}
 use lib.ListN.{getD, length, set, length-set}
 use lib.Seq.{ext-getD, getD-set-same, getD-set-other}
-use borrow.Author.Tests.{eqb-true, eqb-false, eq-eqb, ne-eqb, ltb-true, ltb-false, leb-true}
+use borrow.Author.Tests.{eq-eqb, ne-eqb, ltb-true, ltb-false, leb-true}
 use Rattle.sets.specs.Word.{bit}
 pub use Rattle.sets.specs.ToldLaws.{Told, yea, nay, told, clash, eq?, same-test, and-left, and-right, and-cong, or-cong, cond-cong}
 use Rattle.table.specs.Base.{upd, tab, foldUp, allBelow, anyBelow, countBelow, iter}
@@ -40,10 +40,6 @@ module _ {A : Type 0} where
       go (inr n) = rw (upd-other f i j v n) (pf j n)
 
 -- ---- loops as folds
-
-pub fold-none : {S : Type 0} (f : ℕ → S → S) (s : S) → s ≡ foldUp f 0 s
-unfolding foldUp
-fold-none f s = refl
 
 pub fold-more : {S : Type 0} (f : ℕ → S → S) (s t : S) (i : ℕ) → t ≡ foldUp f i s → f i t ≡ foldUp f (i + 1) s
 fold-more {S} f s t i e = ap (f i) e ∙ sym (ap (λ (n : ℕ). foldUp f n s) (add-one i) ∙ unfold foldUp in refl)

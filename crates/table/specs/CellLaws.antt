@@ -1,6 +1,6 @@
 -- A table and its cell determine each other: back and forth. Assumes nothing.
 -- Idea: an array of 64 is the table of its elements, a word that of its members; past 63 a bounded cell has nothing to lose.
-use mathlib.Core.Path.{_≡_, refl, sym, ap, _∙_, subst, fun-ext}
+use mathlib.Core.Path.{_≡_, refl, sym, _∙_, subst, fun-ext}
 use mathlib.Core.List.{List}
 use mathlib.Core.Bool.{Bool, true, false}
 use Prim.Native.Nat.{ℕ, _≤_, _<_}
@@ -10,10 +10,9 @@ use borrow.Author.Tests.{ltb-true, ltb-false}
 use Rattle.sets.specs.Word.{has, wordOf}
 use Rattle.sets.specs.WordLaws.{word-has, has-word, has-past, has-lt, word-lt}
 use Rattle.table.specs.Base.{tab, upd}
-use Rattle.table.specs.BaseLaws.{Told, yea, nay, told, tab-getD, getD-tab, length-tab, set-list, set-tab}
+use Rattle.table.specs.BaseLaws.{Told, yea, nay, told, tab-getD, getD-tab, length-tab, set-list}
 use Rattle.table.specs.Cell.{noPlace, noAgent, State, cellOf, tableOf, bareTable}
 use Rattle.table.specs.Bounds.{Sized, Bounded}
-use Rattle.table.specs.declared.Place.{Place}
 use Rattle.table.specs.declared.Agent.{Agent}
 use Rattle.table.specs.declared.Cell.{Cell}
 
@@ -88,21 +87,9 @@ module _ (t : Cell) (z : Sized t) where
   pub is-given : (x : ℕ) → has (t .given .bits) x ≡ true → x < 64
   is-given x e = has-lt 64 (t .given .bits) x (z .given) e
 
-  -- ---- one element stored
-  pub lock-set : (q v : ℕ) → q < 64 → set (t .locks) q v ≡ tab (upd (cellOf t .lock) q v) 64 0
-  unfolding cellOf
-  lock-set q v l = set-list 0 (t .locks) 64 q v (z .locks) l
-
-  pub lock-sets : (q v r u : ℕ) → q < 64 → r < 64 → set (set (t .locks) q v) r u ≡ tab (upd (upd (cellOf t .lock) q v) r u) 64 0
-  lock-sets q v r u l m = ap (λ (y : List ℕ). set y r u) (lock-set q v l) ∙ set-tab 0 (upd (cellOf t .lock) q v) 64 r u m
-
   pub agent-set : (x : ℕ) (a : Agent) → x < 64 → set (t .agents) x a ≡ tab (upd (cellOf t .agent) x a) 64 0
   unfolding cellOf
   agent-set x a l = set-list noAgent (t .agents) 64 x a (z .agents) l
-
-  pub place-set : (q : ℕ) (x : Place) → q < 64 → set (t .places) q x ≡ tab (upd (cellOf t .land .place) q x) 64 0
-  unfolding cellOf
-  place-set q x l = set-list noPlace (t .places) 64 q x (z .places) l
 
 -- ---- forth: from a bounded cell to its table and to the cell again
 

@@ -7,14 +7,14 @@ use Prim.Native.Nat.{ℕ, zero, suc, _+_, _-_, _/_, _%_, _<_, _≤_}
 use native.Mathlib.Nat.{le-of-suc-le-suc, not-suc-le-zero}
 use native.Mathlib.Omega.{arith}
 use native.Mathlib.Numerals.{add-one, sub-one}
-use lib.ListN.{length, take, drop, set, getD, length-append, length-drop, drop-of-length-le, take-append-drop}
+use lib.ListN.{length, take, drop, set, getD, length-append, length-drop, drop-of-length-le}
 use lib.Seq.{take-all, take-suc}
 use lib.Dec.{leb, ltb, eqb}
 use borrow.Author.Tests.{le-leb, lt-leb, leb-true, leb-false, ltb-true, ltb-false, eqb-true, eqb-false, eq-eqb, ne-eqb, lt-ltb, le-ltb}
 use Rattle.table.specs.Base.{foldUp}
 use Rattle.table.specs.BaseLaws.{Told, yea, nay, told, fold-more}
 use Rattle.meaning.specs.Text.{overlay, digits, gap, joined}
-use Rattle.text.specs.Wrote.{capped, least, Wrote, Placed, Fits}
+use Rattle.text.specs.Wrote.{capped, least, Wrote, Placed}
 
 pub over-length : (t b : List ℕ) → length (overlay t b) ≡ length b
 unfolding overlay

@@ -1,11 +1,9 @@
 -- What is told of what was decided is the ask.
-use mathlib.Core.Path.{ap, ap₂, _∙_}
+use mathlib.Core.Path.{ap, _∙_}
 use borrow.Author.Needs.{needs}
 use Rattle.table.proofs.Facts.{sized}
-use Rattle.table.specs.declared.Agent.{Agent}
 use Rattle.soundness.specs.declared.sound.Seen.{Seen}
 use Rattle.step.specs.Decided.{decided}
-use Rattle.step.specs.declared.Decision.{Decision}
 use Rattle.asking.specs.Asked.{askedOf}
 use Rattle.asking.specs.AskedLaws.{decided-ask}
 use Rattle.asking.proofs.ask.Statement.{statement}

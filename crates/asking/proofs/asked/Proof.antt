@@ -1,5 +1,4 @@
 -- The answer of the decision, with the number woken and the place.
-use mathlib.Core.Path.{_∙_}
 use borrow.Author.Needs.{needs}
 use Rattle.asking.specs.Asked.{askedOf}
 use Rattle.asking.proofs.asked.Statement.{statement}

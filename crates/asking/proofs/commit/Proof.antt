@@ -1,6 +1,5 @@
 -- What was told agrees, and what was decided is carried out; or it does not.
 use mathlib.Core.Path.{_≡_, sym, ap, _∙_}
-use mathlib.Core.Bool.{Bool}
 use borrow.Author.Needs.{needs}
 use Rattle.table.proofs.Facts.{sized}
 use Rattle.meaning.specs.declared.Asked.{Asked}

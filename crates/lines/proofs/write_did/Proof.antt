@@ -1,10 +1,9 @@
 -- The line is its three pieces one after another.
-use mathlib.Core.List.{[], _∷_, _++_}
+use mathlib.Core.List.{[], _∷_}
 use native.Mathlib.Omega.{arith}
 use Rattle.table.specs.Base.{tab}
-use Rattle.meaning.specs.Text.{ascii, decimal}
+use Rattle.meaning.specs.Text.{decimal}
 use Rattle.meaning.specs.Report.{wordText, stepLine}
-use Rattle.text.specs.Wrote.{Wrote}
 use Rattle.text.specs.TextLaws.{least-le, next, placed-on, wrote-length, wrote-as}
 use Rattle.lines.specs.LineLaws.{did-grouped}
 use borrow.Author.Needs.{needs}

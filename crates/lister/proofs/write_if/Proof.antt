@@ -1,14 +1,12 @@
 -- What is laid out is the cell, so what the floor writes is the listing, and no listing is longer than a page.
-use mathlib.Core.Path.{_≡_, refl, sym, ap}
-use mathlib.Core.List.{List}
-use Prim.Native.Nat.{ℕ, _≤_}
+use mathlib.Core.Path.{refl, ap}
+use Prim.Native.Nat.{ℕ}
 use native.Mathlib.Omega.{arith}
 use lib.ListN.{length, length-replicate}
 use borrow.Author.Needs.{needs}
 use Rattle.table.proofs.Facts.{names16}
 use Rattle.lengths.specs.ListingLength.{listing-longest}
 use Rattle.text.specs.TextLaws.{moved, wrote-as, wrote-length}
-use Rattle.text.specs.RoomLaws.{fits-as}
 use Rattle.lister.specs.SheetLaws.{floor-is, drawn-texts}
 use Rattle.lister.specs.DrawnLaws.{drawn}
 use Rattle.lister.specs.WriteLaws.{long-fits, wrote-if-as, wrote-if-length, wholly}

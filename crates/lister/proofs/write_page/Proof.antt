@@ -1,5 +1,5 @@
 -- The page has room for the text, so its first bytes are the text; they are written, or refused where they had to be whole.
-use mathlib.Core.Path.{_≡_, sym, ap, _∙_}
+use mathlib.Core.Path.{sym, ap, _∙_}
 use Prim.Native.Nat.{ℕ, _+_}
 use native.Mathlib.Omega.{arith}
 use lib.ListN.{length, length-replicate}

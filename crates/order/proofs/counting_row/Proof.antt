@@ -1,6 +1,5 @@
 -- Each turn writes the next number.
-use mathlib.Core.Path.{_≡_}
-use Prim.Native.Nat.{ℕ, _-_, _≤_, _<_}
+use Prim.Native.Nat.{_-_}
 use native.Mathlib.Omega.{arith}
 use borrow.Author.Needs.{needs}
 use Rattle.order.specs.RowLawsLoops.{Counted, counted-start, counted-turn, counted-end}

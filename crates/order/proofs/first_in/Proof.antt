@@ -1,8 +1,8 @@
 -- Each turn leaves one number less of the row; the first member decides.
-use mathlib.Core.Path.{_≡_, refl, sym, _∙_, subst}
-use Prim.Native.Nat.{ℕ, _-_, _≤_, _<_}
+use mathlib.Core.Path.{_≡_, refl, sym, _∙_}
+use Prim.Native.Nat.{_-_}
 use native.Mathlib.Omega.{arith}
-use lib.ListN.{drop, length}
+use lib.ListN.{drop}
 use Rattle.sets.specs.Set.{member}
 use Rattle.order.specs.Row.{firstIn}
 use Rattle.order.specs.RowLawsFirst.{first-more, first-found, first-end}

@@ -1,6 +1,5 @@
 -- What is gathered of the row so far; in the end it is every number and no other, or not.
-use mathlib.Core.Path.{_≡_, subst}
-use Prim.Native.Nat.{ℕ, _-_, _≤_, _<_}
+use Prim.Native.Nat.{_-_}
 use native.Mathlib.Omega.{arith}
 use borrow.Author.Needs.{needs}
 use Rattle.order.specs.RowLawsGather.{Gathered, gathered-start, gathered-turn, gathered-all, gathered-large}

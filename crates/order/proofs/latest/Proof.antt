@@ -1,9 +1,7 @@
 -- The others are written to the front; behind them is room for q, as often as it stood in the row.
-use mathlib.Core.Path.{_≡_, refl, sym, ap, _∙_, subst}
-use Prim.Native.Nat.{ℕ, _-_, _≤_, _<_}
+use Prim.Native.Nat.{_-_, _<_}
 use native.Mathlib.Omega.{arith}
 use borrow.Author.Needs.{needs}
-use lib.Dec.{eqb}
 use Rattle.order.specs.RowLawsLoops.{Without, without-start, without-turn, Filled, filled-start, filled-turn, filled-end}
 use Rattle.order.proofs.latest.Statement.{statement}
 use Rattle.order.proofs.latest.Tie as tie

@@ -1,15 +1,15 @@
 -- The others are written to the front, as in a row in which some become the latest; those that came are put behind them.
-use mathlib.Core.Path.{_≡_, refl, sym, ap, _∙_, subst}
+use mathlib.Core.Path.{_≡_, refl, ap, _∙_}
 use mathlib.Core.List.{List, _++_}
 use mathlib.Core.Bool.{not}
-use Prim.Native.Nat.{ℕ, _-_, _≤_, _<_}
+use Prim.Native.Nat.{ℕ, _-_, _<_}
 use native.Mathlib.Omega.{arith}
 use lib.ListN.{length, take}
 use borrow.Author.Needs.{needs}
 use Rattle.sets.specs.Word.{bit}
 use Rattle.sets.specs.Set.{member}
-use Rattle.order.specs.Row.{keep, counting, countingRow}
-use Rattle.order.specs.RowLawsLoops.{Rest, rest-turn, others-turn}
+use Rattle.order.specs.Row.{keep, counting}
+use Rattle.order.specs.RowLawsLoops.{Rest, rest-turn}
 use Rattle.order.specs.RowLawsLoaded.{Others, others-start, others-more, others-rest, others-end, counting-long}
 use Rattle.order.proofs.loaded_row.Statement.{statement}
 use Rattle.order.proofs.loaded_row.Tie as tie

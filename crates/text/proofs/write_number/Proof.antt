@@ -1,5 +1,4 @@
 -- Twenty digits hold every number; the position that was handed over is added.
-use native.Mathlib.Omega.{arith}
 use borrow.Author.Needs.{needs}
 use Rattle.text.specs.TextLaws.{moved}
 use Rattle.text.proofs.write_number.Statement.{statement}

@@ -1,5 +1,5 @@
 -- Parts that came in order are left as they are; others are put in the order of the row.
-use mathlib.Core.Path.{_≡_, refl}
+use mathlib.Core.Path.{refl}
 use native.Mathlib.Omega.{arith}
 use borrow.Author.Needs.{needs}
 use Rattle.lister.specs.HeldLaws.{marked-held, marked-inside, marked-last, kept-arranged, few-arranged}

@@ -3,7 +3,6 @@ use mathlib.Core.Path.{_≡_, sym, subst}
 use mathlib.Core.List.{List}
 use Prim.Native.Nat.{ℕ, _+_, _-_, _≤_, _<_}
 use native.Mathlib.Omega.{arith}
-use borrow.Author.Needs.{needs}
 use Rattle.lister.specs.Cuts.{Ordering}
 use Rattle.lister.specs.RankLaws.{order-start, order-more}
 use Rattle.lister.specs.RewriteLaws.{inside-less}

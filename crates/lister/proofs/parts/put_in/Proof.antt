@@ -1,10 +1,7 @@
 -- Before each turn the rest of the row is still to be moved on.
 use mathlib.Core.Path.{_≡_, refl, sym, ap, _∙_}
-use mathlib.Core.List.{List}
-use Prim.Native.Nat.{ℕ, _+_, _-_, _≤_, _<_}
+use Prim.Native.Nat.{ℕ, _-_, _≤_}
 use native.Mathlib.Omega.{arith}
-use borrow.Author.Needs.{needs}
-use lib.ListN.{length}
 use Rattle.lister.specs.Cuts.{putIn}
 use Rattle.lister.specs.PutLaws.{put-step, put-end}
 use Rattle.lister.proofs.parts.put_in.Statement.{statement}

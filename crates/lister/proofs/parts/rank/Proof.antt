@@ -1,10 +1,8 @@
 -- Before each turn the parts below `low` are part i or come before it, and the one at `high` does not.
-use mathlib.Core.Path.{_≡_}
-use Prim.Native.Nat.{ℕ, _+_, _-_, _/_, _≤_, _<_}
+use Prim.Native.Nat.{_+_, _-_, _/_, _<_}
 use native.Mathlib.Omega.{arith}
 use borrow.Author.Needs.{needs}
 use borrow.Author.Tests.{not-true}
-use lib.ListN.{getD}
 use Rattle.lister.specs.Cuts.{partAt}
 use Rattle.lister.specs.RankLaws.{Between, asked, row-low, rank-none, rank-last, rank-first, search-all, search-up, search-down, search-end}
 use Rattle.lister.proofs.parts.rank.Statement.{statement}

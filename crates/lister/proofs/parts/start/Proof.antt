@@ -1,5 +1,4 @@
 -- The first part starts at 0, and any other after a bar.
-use mathlib.Core.Path.{_≡_}
 use borrow.Author.Needs.{needs}
 use Rattle.lister.specs.PutLaws.{start-none, start-more}
 use Rattle.lister.proofs.parts.start.Statement.{statement}

@@ -1,5 +1,4 @@
 -- The two bytes and their number.
-use mathlib.Core.Path.{_≡_}
 use native.Mathlib.Omega.{arith}
 use borrow.Author.Needs.{needs}
 use Rattle.lister.proofs.parts.two.Statement.{statement}

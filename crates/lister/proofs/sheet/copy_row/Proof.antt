@@ -4,7 +4,6 @@ use mathlib.Core.Logic.{_⊎_, inl, inr}
 use Prim.Native.Nat.{_≤_, _-_}
 use native.Mathlib.Omega.{arith}
 use borrow.Author.Needs.{needs}
-use lib.ListN.{length}
 use Rattle.text.specs.TextLaws.{least-le}
 use Rattle.lister.specs.Sheet.{kindOf, numberOf, Copied}
 use Rattle.lister.specs.RowLaws.{copied-none, copied-more, copied-all}

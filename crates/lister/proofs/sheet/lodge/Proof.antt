@@ -1,13 +1,13 @@
 -- Before each turn the agents that were taken stand in the words of their homes and have their rows.
-use mathlib.Core.Path.{_≡_, refl, sym, ap, ap₂, _∙_}
+use mathlib.Core.Path.{_≡_, sym, ap, _∙_}
 use mathlib.Core.Bool.{Bool, true, false, _&&_, cond}
 use mathlib.Core.List.{List}
-use Prim.Native.Nat.{ℕ, _+_, _<_, _≤_}
+use Prim.Native.Nat.{ℕ, _+_, _<_}
 use native.Mathlib.Omega.{arith}
 use lib.ListN.{length, length-set, getD}
 use borrow.Author.Needs.{needs}
 use Rattle.sets.specs.Set.{member}
-use Rattle.sets.specs.WalkLaws.{lowestIn, Rest, rest-start, rest-member, rest-from, rest-skip, rest-end}
+use Rattle.sets.specs.WalkLaws.{lowestIn, Rest, rest-start, rest-member, rest-skip, rest-end}
 use Rattle.sets.specs.declared.Set.{Set}
 use Rattle.table.specs.BaseLaws.{getD-tab}
 use Rattle.table.specs.Cell.{noAgent, hasUnused}

@@ -7,7 +7,7 @@ use native.Mathlib.Omega.{arith}
 use lib.ListN.{getD}
 use borrow.Author.Needs.{needs}
 use Rattle.sets.specs.Set.{member}
-use Rattle.sets.specs.WalkLaws.{lowestIn, Rest, rest-start, rest-member, rest-from, rest-skip, rest-end}
+use Rattle.sets.specs.WalkLaws.{Rest, rest-start, rest-member, rest-from, rest-skip, rest-end}
 use Rattle.sets.specs.declared.Set.{Set}
 use Rattle.table.specs.Base.{tab}
 use Rattle.table.specs.BaseLaws.{getD-tab}

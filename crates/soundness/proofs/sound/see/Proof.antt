@@ -2,7 +2,7 @@
 -- that moves a place, makes the table unsound; once nobody is left, the places decide, and then the touches and the row. The agent
 -- that is handed out was read before the walk.
 use Prim.Native.Nat.{ℕ}
-use mathlib.Core.Path.{_≡_, sym, ap, ap₂, _∙_, subst}
+use mathlib.Core.Path.{sym, ap, ap₂, _∙_, subst}
 use mathlib.Core.Bool.{true, false, _&&_}
 use native.Mathlib.Omega.{arith}
 use borrow.Author.Tests.{not-true}

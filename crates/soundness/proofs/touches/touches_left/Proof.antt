@@ -1,6 +1,6 @@
 -- Each turn takes the lowest place that is left, and its touches from what is left of the bound; what holds before it is `Taken`.
 use native.Mathlib.Nat.{pos-of-ne-zero}
-use mathlib.Core.Path.{_≡_, sym, ap, ap₂, _∙_, subst}
+use mathlib.Core.Path.{sym, ap₂, subst}
 use mathlib.Core.Bool.{Bool}
 use Prim.Native.Nat.{ℕ, _-_, _≤_, _<_}
 use native.Mathlib.Omega.{arith}
@@ -8,7 +8,7 @@ use lib.ListN.{getD}
 use borrow.Author.Needs.{needs}
 use borrow.Author.Tests.{le-leb, lt-leb}
 use Rattle.sets.specs.Set.{member}
-use Rattle.sets.specs.WalkLaws.{rest-start, rest-lt, removed-less, lowestIn}
+use Rattle.sets.specs.WalkLaws.{rest-start, rest-lt, removed-less}
 use Rattle.sets.specs.declared.Set.{Set}
 use Rattle.table.specs.Sound.{mostTouches}
 use Rattle.soundness.specs.Left.{leftOf, totalOf}

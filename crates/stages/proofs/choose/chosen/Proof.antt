@@ -1,5 +1,5 @@
 -- By the wish's membership: the wished number, or what first_in answers.
-use mathlib.Core.Path.{_≡_, sym, ap, _∙_}
+use mathlib.Core.Path.{sym, ap, _∙_}
 use mathlib.Core.Bool.{Bool, cond}
 use borrow.Author.Needs.{needs}
 use Rattle.sets.specs.Set.{member}
