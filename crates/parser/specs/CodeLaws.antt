@@ -1,20 +1,18 @@
 -- What each branch of the code gives is the case of the definition that its tests pick.
 use mathlib.Core.Path.{_≡_, refl, sym, ap, _∙_}
-use mathlib.Core.Bool.{Bool, true, false, _&&_, cond}
+use mathlib.Core.Bool.{Bool, true, false, cond}
 use mathlib.Core.List.{List, [], _∷_}
 use Prim.Native.Nat.{ℕ, zero, suc, _+_, _*_, _-_, _≤_, _<_}
 use native.Mathlib.Omega.{arith}
-use native.Mathlib.Numerals.{add-one}
 use lib.Dec.{ltb, leb, eqb}
 use lib.ListN.{length, getD}
 use borrow.Author.Tests.{eq-eqb, ne-eqb, lt-ltb, le-ltb, le-leb, lt-leb, leb-true}
-use Rattle.table.specs.BaseLaws.{Told, yea, nay, told, clash, and-left, and-right}
+use Rattle.table.specs.BaseLaws.{Told, yea, nay, told, and-left}
 use Rattle.language.specs.declared.Field.{Field}
-use Rattle.language.specs.declared.Field.the-variants.{PlaceName, EnterKey, ExitKey, OpenKey, ActionNumber}
-use Rattle.language.specs.declared.Control.{Control}
-use Rattle.language.specs.declared.Control.the-variants.{After, Within, Before, Spell, Digits}
+use Rattle.language.specs.declared.Field.the-variants.{PlaceName, ActionNumber}
+use Rattle.language.specs.declared.Control.the-variants.{After, Before, Spell, Digits}
 use Rattle.language.specs.declared.Event.{Event}
-use Rattle.language.specs.declared.Event.the-variants.{Nothing, NewPlace, NewAgent}
+use Rattle.language.specs.declared.Event.the-variants.{Nothing, NewAgent}
 use Rattle.language.specs.declared.Moved.{Moved}
 use Rattle.language.specs.declared.Moved.the-variants.{To, Off}
 use Rattle.sets.specs.declared.Set.{Set}
@@ -25,7 +23,7 @@ use Rattle.table.specs.declared.Cell.{Cell}
 use Rattle.meaning.specs.Refusals.{tooMany}
 use Rattle.meaning.specs.declared.Verdict.the-variants.{Accepted, Rejected}
 use Rattle.meaning.specs.Listing.{kindText}
-use Rattle.language.specs.Machine.{isDigit, beginWord, beginPart, closed, ended, leastOf, follow, continues, spelled, next}
+use Rattle.language.specs.Machine.{isDigit, beginWord, beginPart, closed, leastOf, follow, continues, spelled, next}
 use Rattle.language.specs.Coming.{least-one}
 use Rattle.parser.specs.Site.{longer, answeredWith}
 
@@ -70,10 +68,6 @@ module _ (k i d b t : ℕ) (e : t ≡ getD (kindText k) i 0) where
 -- a digit is not below the least
 pub digit-low : (least b : ℕ) (t : Bool) → t ≡ isDigit least b → t ≡ true → 48 + least ≤ b
 digit-low least b t e q = leb-true (48 + least) b (and-left _ _ (sym e ∙ q))
-
--- and not above 9
-pub digit-high : (least b : ℕ) (t : Bool) → t ≡ isDigit least b → t ≡ true → b ≤ 57
-digit-high least b t e q = leb-true b 57 (and-right (leb (48 + least) b) _ (sym e ∙ q))
 
 module _ (d b : ℕ) (t : Bool) (e : t ≡ isDigit 1 b) where
   -- a name begins

@@ -6,3 +6,5 @@ pub mod RowSoFar
 pub mod Events
 pub mod EventLaws
 pub mod ReadLaws
+pub mod Stretches
+pub mod StretchLaws

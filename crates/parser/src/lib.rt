@@ -2,6 +2,7 @@
 mod build;
 mod finish;
 mod machine;
+mod stretch;
 mod words;
 
 use build::agent_after;
@@ -18,6 +19,7 @@ use language::Moved;
 use machine::next_by;
 use meaning::Loaded;
 use meaning::Verdict;
+use stretch::stretch;
 use table::Cell;
 ghost use mathlib.Core.Path.{_≡_};
 ghost use Prim.Native.Nat.{_<_};
@@ -62,30 +64,33 @@ pub fn read(c: Cell, s: &[u8]) -> Loaded
     let mut d: usize = 0;
     let mut i: usize = 0;
     while i <= s.len() {
-        let m = moved(s, i, at, d);
+        let r = stretch(s, i, at);
+        let j = r.i;
+        let now = r.at;
+        let m = moved(s, j, now, d);
         let Moved::To(k, n, e) = m else {
             return Loaded {
                 cell: c,
-                verdict: Verdict::Rejected(16, i),
+                verdict: Verdict::Rejected(16, j),
             };
         };
         at = k;
         d = n;
-        i = i + 1;
+        i = j + 1;
         let Event::Nothing = e else {
             let h = table::at(x.here);
             let around = b.places[h].parent;
             let which = agent_written(x, e);
-            let j = table::at(which);
-            let g = b.agents[j];
+            let y = table::at(which);
+            let g = b.agents[y];
             let a = agent_after(g, x, e);
-            b.agents[j] = a;
+            b.agents[y] = a;
             let given = b.given;
             b.given = given.insert_if(which, gives_agent(x, e));
             let q = table::at(x.places + 1);
             let p = b.places[q];
-            let r = place_after(p, x, e);
-            b.places[q] = r;
+            let o = place_after(p, x, e);
+            b.places[q] = o;
             let used = b.used;
             b.used = used.insert_if(x.places + 1, gives_place(x, e));
             x = marks_after(x, e, g.count, around);

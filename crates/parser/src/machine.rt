@@ -11,7 +11,7 @@ ghost use Rattle.parser.specs.Site.{longer};
 ghost use Rattle.language.specs.Machine.{isDigit, beginWord, beginPart, closed, ended, leastOf, follow, next};
 
 // Whether a byte stands for a digit from `least` to 9.
-fn is_digit(least: u8, b: u8) -> bool
+pub(super) fn is_digit(least: u8, b: u8) -> bool
     requires { ⌜ least < 2 ⌝ }
     ensures { λ r. ⌜ r ≡ isDigit least b ⌝ }
 {
@@ -69,7 +69,7 @@ fn least_of(f: Field) -> u8
 }
 
 // A byte as a number of 16 bits.
-fn wide(b: u8) -> u16
+pub(super) fn wide(b: u8) -> u16
     ensures { λ r. ⌜ r ≡ b ⌝ }
 {
     b as u16
@@ -146,7 +146,7 @@ fn long(v: u16) -> u32
 }
 
 // The number v with one digit more, or 0 where the byte does not continue it.
-fn more_digits(v: u16, b: u8) -> u16
+pub(super) fn more_digits(v: u16, b: u8) -> u16
     ensures { λ r. ⌜ r ≡ longer v b ⌝ }
 {
     if v < 1 {

@@ -9,47 +9,12 @@ ghost use lib.ListN.{length, getD};
 ghost use Rattle.meaning.specs.Listing.{kindText};
 ghost use Rattle.language.specs.Machine.{spelled};
 
-// A byte of `enter `, or 0 past its end.
-fn enter_byte(i: u8) -> u8
-    ensures { λ r. ⌜ r ≡ getD (kindText 1) i 0 ⌝ }
+// A byte of a word, or 0 past its end.
+fn byte_of(w: &[u8], i: u8) -> u8
+    ensures { λ r. ⌜ r ≡ getD (now (w .entry)) i 0 ⌝ }
 {
-    match i {
-        0 => 101,
-        1 => 110,
-        2 => 116,
-        3 => 101,
-        4 => 114,
-        5 => 32,
-        _ => 0,
-    }
-}
-
-// A byte of `exit `, or 0 past its end.
-fn exit_byte(i: u8) -> u8
-    ensures { λ r. ⌜ r ≡ getD (kindText 2) i 0 ⌝ }
-{
-    match i {
-        0 => 101,
-        1 => 120,
-        2 => 105,
-        3 => 116,
-        4 => 32,
-        _ => 0,
-    }
-}
-
-// A byte of `open `, or 0 past its end.
-fn open_byte(i: u8) -> u8
-    ensures { λ r. ⌜ r ≡ getD (kindText 3) i 0 ⌝ }
-{
-    match i {
-        0 => 111,
-        1 => 112,
-        2 => 101,
-        3 => 110,
-        4 => 32,
-        _ => 0,
-    }
+    let k = i as usize;
+    if k < w.len() { w[k] } else { 0 }
 }
 
 // A byte of the word of a kind, or 0 past its end.
@@ -57,9 +22,9 @@ fn word_byte(k: u8, i: u8) -> u8
     ensures { λ r. ⌜ r ≡ getD (kindText k) i 0 ⌝ }
 {
     match k {
-        1 => enter_byte(i),
-        2 => exit_byte(i),
-        _ => open_byte(i),
+        1 => byte_of(b"enter ", i),
+        2 => byte_of(b"exit ", i),
+        _ => byte_of(b"open ", i),
     }
 }
 

@@ -2,9 +2,10 @@
 use native.Mathlib.Omega.{arith}
 use borrow.Author.Needs.{needs}
 use mathlib.Core.Path.{refl, _∙_}
-use Prim.Native.Nat.{suc, _-_}
+use Prim.Native.Nat.{suc, _-_, _≤_}
 use lib.ListN.{length}
 use Rattle.parser.specs.ReadLaws.{Rest, rest-start, rest-off, rest-nothing, rest-written, rest-places, rest-end}
+use Rattle.parser.specs.StretchLaws.{stretch-up, stretch-within, rest-stretch}
 use Rattle.parser.proofs.read.Statement.{statement}
 use Rattle.parser.proofs.read.Tie as tie
 
@@ -17,10 +18,16 @@ abbrev μ-loop : tie.MeasureT-loop
 loop-holds : tie.Need-loop-holds Inv-loop μ-loop
 loop-holds c = rest-start _ _ _ (c .bare .ensures) refl
 
+-- what the bytes of a stretch leave: the machine is further on, and within the text
+held : (c : tie.After-stretch Inv-loop μ-loop) → let l = c .before .before .loop in let r = c .stretch .result in
+    Rest (c .before .before .before .before .before .args .s .now) (r .i) (r .at) (l .d) (l .b) (l .x)
+held c = let l = c .before .before .loop in rest-stretch _ (l .i) (l .at) (l .d) (l .b) (l .x) (l .inv) (c .stretch .ensures)
+
+within : (c : tie.After-stretch Inv-loop μ-loop) → c .stretch .result .i ≤ length (c .before .before .before .before .before .args .s .now)
+within c = stretch-within (c .before .loop-test .taken) (c .stretch .ensures)
+
 moved-requires : tie.Need-moved-requires Inv-loop μ-loop
-moved-requires c κs =
-    let l = c .before .loop in
-    omega (arith, l .inv .deep, c .loop-test .taken, c .before .before .before .before .good)
+moved-requires c κs = omega (arith, held c .deep, within c, c .before .before .before .before .before .good)
 
 enum-known-m : tie.Need-enum-known-m Inv-loop μ-loop
 enum-known-m c = c .match .keys1
@@ -31,8 +38,17 @@ enum-told c = c .match .keys2
 returns : tie.Need-returns Inv-loop μ-loop
 returns c =
     let m = c .before .before in
-    let l = m .before .before .loop in
-    rest-off _ (l .i) (l .at) (l .d) (l .b) (l .x) (l .inv) (m .before .loop-test .taken) _ (m .moved .ensures) _ (c .enum-told .given .1)
+    let l = m .before .before .before .loop in
+    let r = m .before .stretch .result in
+    rest-off _ (r .i) (r .at) (l .d) (l .b) (l .x) (held (m .before)) (within (m .before)) _ (m .moved .ensures) _ (c .enum-told .given .1)
+
+add-i : tie.Need-add-i Inv-loop μ-loop
+add-i c = let m = c .before .before .before in omega (arith, within (m .before), m .before .before .before .before .before .before .good)
+
+loop-less : tie.Need-loop-less Inv-loop μ-loop
+loop-less c =
+    let m = c .before .before .before .before .before in
+    omega (arith, within (m .before), stretch-up (m .before .stretch .ensures), m .before .before .loop-test .taken)
 
 enum-told-2 : tie.Need-enum-told-2 Inv-loop μ-loop
 enum-told-2 c = c .match2 .keys1
@@ -41,28 +57,29 @@ loop-again : tie.Need-loop-again Inv-loop μ-loop
 loop-again c =
     let k = c .before .before .before in
     let m = k .before .before in
-    let l = m .before .before .loop in
-    rest-nothing _ (l .i) (l .at) (l .d) (l .b) (l .x) (l .inv) (m .before .loop-test .taken) _ (m .moved .ensures) _ _ _ (k .m .given .1)
+    let l = m .before .before .before .loop in
+    let r = m .before .stretch .result in
+    rest-nothing _ (r .i) (r .at) (l .d) (l .b) (l .x) (held (m .before)) (within (m .before)) _ (m .moved .ensures) _ _ _ (k .m .given .1)
     (c .enum-told2 .given .1)
 
 add-at : tie.Need-add-at Inv-loop μ-loop
 add-at c =
     let m = c .before .before .before .before .before .before .before .before .before .before .before .before .before in
-    let l = m .before .before .loop in
+    let l = m .before .before .before .loop in
     omega (arith, rest-places _ (l .i) (l .at) (l .d) (l .b) (l .x) (l .inv))
 
 add-insert-if : tie.Need-add-insert-if Inv-loop μ-loop
 add-insert-if c =
     let q = c .before .before .before .before .before in
     let m = q .before .before .before .before .before .before .before .before .before .before .before .before .before in
-    let l = m .before .before .loop in
+    let l = m .before .before .before .loop in
     omega (arith, rest-places _ (l .i) (l .at) (l .d) (l .b) (l .x) (l .inv))
 
 loop-less-2 : tie.Need-loop-less-2 Inv-loop μ-loop
 loop-less-2 c =
     let q = c .before .before .before .before .before .before .before .before in
     let m = q .before .before .before .before .before .before .before .before .before .before .before .before .before in
-    omega (arith, m .before .loop-test .taken)
+    omega (arith, within (m .before), stretch-up (m .before .stretch .ensures), m .before .before .loop-test .taken)
 
 loop-again-2 : tie.Need-loop-again-2 Inv-loop μ-loop
 loop-again-2 c =
@@ -71,8 +88,9 @@ loop-again-2 c =
     let j = g .before .before .before .before in
     let k = j .before .before .before .before .before in
     let m = k .before .before in
-    let l = m .before .before .loop in
-    rest-written _ (l .i) (l .at) (l .d) (l .b) (l .x) (l .inv) (m .before .loop-test .taken) _ (m .moved .ensures) _ _ _ (k .m .given .1)
+    let l = m .before .before .before .loop in
+    let r = m .before .stretch .result in
+    rest-written _ (r .i) (r .at) (l .d) (l .b) (l .x) (held (m .before)) (within (m .before)) _ (m .moved .ensures) _ _ _ (k .m .given .1)
     _ _ _ _ _ _ _ _ _ _ _
     (j .before .before .at .ensures) (j .before .agent-written .ensures) (j .at2 .ensures) (g .before .before .agent-after .ensures)
     (g .gives-agent .ensures) (p .before .before .before .before .insert-if .ensures)
@@ -88,7 +106,7 @@ pub read-spec : {M : Type 1} → statement M
 read-spec =
     tie.close
     (tie.spec
-    Inv-loop μ-loop (λ c κs. tt) loop-holds moved-requires enum-known-m enum-told returns (λ c. search needs) enum-told-2 (λ c. search needs)
+    Inv-loop μ-loop (λ c κs. tt) loop-holds (λ c κs. search needs) moved-requires enum-known-m enum-told returns add-i enum-told-2 loop-less
     loop-again (λ c κs. search needs) (λ c. search needs) (λ c. search needs) (λ c κs. search needs) (λ c κs. search needs) (λ c. search needs)
     (λ c. search needs) (λ c κs. search needs) (λ c. search needs) (λ c. search needs) (λ c κs. search needs) (λ c κs. search needs) add-at
     (λ c κs. search needs) (λ c. search needs) (λ c. search needs) (λ c κs. search needs) (λ c. search needs) (λ c. search needs) add-insert-if
