@@ -10,8 +10,8 @@ use denote.Builtin.{RefOf}
 use denote.Ref.{now}
 use denote.Triple.Clauses.{Ended, Clauses, closing}
 use Rattle.table.specs.declared.Cell.{Cell}
-use Rattle.lending.proofs.Walk.{_≡_, refl, ℕ, List, [], _∷_, URA, named, Val, vptr, SProp, ent, emp, GName, Lft, Share, flft, fres, fshr-bor, Heap, WpFn, Atoms, fact, givenOf, tables, Given, ‵, ⋆, _$_, _∵_, !, qed, move, join, fjoin, fjoin3, feqI, suffices, frame, done, FmC, partAt, u64, RefT, ptr-vals, shr-tells, plain, nothing, Triple, onEntry, tripleOf, says, Stays, stay-none-ref, walkOf, goes-none-ref, ends-at, yes, exported}
-use Rattle.lending.proofs.Lent.{R}
+use Rattle.lent.proofs.Walk.{_≡_, refl, ℕ, List, [], _∷_, URA, named, Val, vptr, SProp, ent, emp, GName, Lft, Share, flft, fres, fshr-bor, Heap, WpFn, Atoms, fact, givenOf, tables, Given, ‵, ⋆, _$_, _∵_, !, qed, move, join, fjoin, fjoin3, feqI, suffices, frame, done, FmC, partAt, u64, RefT, ptr-vals, shr-tells, plain, nothing, Triple, onEntry, tripleOf, says, Stays, stay-none-ref, walkOf, goes-none-ref, ends-at, yes, exported}
+use Rattle.lent.proofs.Lent.{R}
 
 -- a function of a lent cell
 abbrev pub of-lent : Ended

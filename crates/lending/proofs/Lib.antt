@@ -1,11 +1,5 @@
-pub mod Walk
-pub mod Lent
 pub mod Stored
 pub mod Asks
-pub mod Seeing
-pub mod Element
-pub mod Offsets
 pub mod Placed
 pub mod Settled
-pub mod Freed
 pub mod Tallied

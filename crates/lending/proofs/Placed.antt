@@ -27,10 +27,11 @@ use Rattle.table.proofs.Agent.Laws as agent-laws
 use Rattle.table.proofs.Facts.{sized}
 use Rattle.table.proofs.Cell as T
 use Rattle.table.proofs.Cell.Laws as T′
-use Rattle.lending.proofs.Walk.{refl, subst, _∙_, ℕ, List, [], _∷_, URA, fullShare, w64, Val, vint, fat, Heap, Atoms, Given, ‵, whole, sub, Is, uint-lawful, u64}
-use Rattle.lending.proofs.Lent.{R, mach}
-use Rattle.lending.proofs.Element.{one-val, all-vals, vals-length, Elements, Element, array-set, unraw, elem}
-use Rattle.lending.proofs.Offsets.{locksField, agentsField, touchesField, locksAt, agentsAt, touchesAt, agentSize, countSize}
+use Rattle.lent.proofs.Walk.{refl, subst, _∙_, ℕ, List, [], _∷_, URA, fullShare, w64, Val, vint, fat, Heap, Atoms, Given, ‵, whole, sub, Is, uint-lawful, u64}
+use Rattle.lent.proofs.Lent.{R, mach}
+use Rattle.lent.proofs.Element.{all-vals, vals-length, Elements, array-set, unraw, elem}
+pub use Rattle.lent.proofs.Reading.{agent-val, agent-vals, Agent-is}
+use Rattle.lent.proofs.Offsets.{locksField, agentsField, touchesField, locksAt, agentsAt, touchesAt, agentSize, countSize}
 
 -- the machine values of a cell's fields, and the cell's with another value of field i
 abbrev field-vals : Cell → Vals
@@ -45,21 +46,11 @@ with-field c i u = vstruct (setV (field-vals c) i u)
 abbrev pub placed : Cell → ℕ → Agent → List ℕ → Cell
 placed c k a ls = putLocks (putAgents c (set (c .agents) k a)) ls
 
--- the machine value of an agent, and those of agents
-abbrev pub agent-val : Agent → Val
-agent-val a = one-val Agent′.the-field agent-laws.the-field-laws a
-
-abbrev pub agent-vals : List Agent → List Val
-agent-vals l = all-vals Agent′.the-field agent-laws.the-field-laws l
-
 -- the machine value of a cell, with other values of agents
 abbrev pub with-agents : Cell → List Val → Val
 with-agents c us = with-field c agentsField (vstruct (ofList us))
 
--- an agent and locks are values of their types
-abbrev pub Agent-is : Agent → Type 0
-Agent-is a = Element Agent′.the-field agent-laws.the-field-laws a
-
+-- locks are a value of their type
 abbrev pub Locks-are : List ℕ → Type 0
 Locks-are ls = Elements u8-field LL.u8-laws 64 ls
 

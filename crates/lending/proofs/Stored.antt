@@ -18,8 +18,8 @@ use denote.Enum.Laws as EL
 use Rattle.table.specs.declared.Cell.{Cell}
 use Rattle.table.proofs.Cell as T
 use Rattle.table.proofs.Cell.Laws as T′
-use Rattle.lending.proofs.Walk.{_≡_, refl, sym, ap, subst, ℕ, List, [], _∷_, URA, fullShare, w64, Val, vptr, GName, Lft, Share, fat, flft, fobs, fbor, Heap, Calls, Loops, Atoms, Given, ‵, _$_, move, rewrite, look, init, store-raw, stop, hop, fld, from, load, of-opd, and-then, no-more, assigns, land, whole, sub, look-in, Body, FmC, RattleType, Is, mem, uint-lawful, u64, only, owned, Triple}
-use Rattle.lending.proofs.Lent.{R, is-typed, closed, Equates, applied}
+use Rattle.lent.proofs.Walk.{_≡_, refl, sym, ap, subst, ℕ, List, [], _∷_, URA, fullShare, w64, Val, vptr, GName, Lft, Share, fat, flft, fobs, fbor, Heap, Calls, Loops, Atoms, Given, ‵, _$_, move, rewrite, look, init, store-raw, stop, hop, fld, from, load, of-opd, and-then, no-more, assigns, land, whole, sub, look-in, Body, FmC, RattleType, Is, mem, uint-lawful, u64, only, owned, Triple}
+use Rattle.lent.proofs.Lent.{R, is-typed, closed, Equates, applied}
 
 -- a place in a local that the environment has somewhere
 pub find : {M : Type 1} {𝓤 : URA M} {H : Heap 𝓤} {A : Atoms 𝓤} {K : Type 0} {W : Given 𝓤 H A} {Γ : List (Item 𝓤)} {ls : Env 𝓤 H} {i : ℕ} {st : List PStep} {sp sp′ : Spot 𝓤 H}

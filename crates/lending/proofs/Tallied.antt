@@ -19,11 +19,11 @@ use Rattle.meaning.proofs.Touching.Laws as touching
 use Rattle.touch.specs.declared.TouchDecision.{TouchDecision}
 use Rattle.touch.proofs.TouchDecision as Decision′
 use Rattle.touch.proofs.TouchDecision.Laws as decision-laws
-use Rattle.lending.proofs.Walk.{_≡_, refl, ℕ, _<_, List, [], _∷_, URA, fullShare, w64, Val, vptr, GName, Lft, Share, fat, flft, fobs, fbor, Heap, Calls, Loops, Atoms, Given, ‵, _$_, move, rewrite, look, init, stop, hop, fld, from, load, of-opd, and-then, no-more, assigns, land, whole, sub, look-in, Body, FmC, Is, mem, uint-lawful, u64, owned, Triple}
-use Rattle.lending.proofs.Lent.{R, mach, closed, Equates, applied}
+use Rattle.lent.proofs.Walk.{_≡_, refl, ℕ, _<_, List, [], _∷_, URA, fullShare, w64, Val, vptr, GName, Lft, Share, fat, flft, fobs, fbor, Heap, Calls, Loops, Atoms, Given, ‵, _$_, move, rewrite, look, init, stop, hop, fld, from, load, of-opd, and-then, no-more, assigns, land, whole, sub, look-in, Body, FmC, Is, mem, uint-lawful, u64, owned, Triple}
+use Rattle.lent.proofs.Lent.{R, mach, closed, Equates, applied}
 use Rattle.lending.proofs.Stored.{find}
-use Rattle.lending.proofs.Element.{vals-set}
-use Rattle.lending.proofs.Offsets.{touchesAt, countSize}
+use Rattle.lent.proofs.Element.{vals-set}
+use Rattle.lent.proofs.Offsets.{touchesAt, countSize}
 use Rattle.lending.proofs.Placed.{touched, touched-is, with-touches, store-touches}
 
 -- the machine value of a decided touch call

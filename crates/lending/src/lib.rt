@@ -1,1 +1,1 @@
-// Rules for walks over a lent cell: the proofs of the exports are written in them. No code.
+// Rules for the exports: what is seen of a lent cell, asked of it and stored in it. No code.

@@ -8,3 +8,7 @@ pub mod SoundLaws
 pub mod Seen
 pub mod Left
 pub mod LeftLaws
+pub mod Turn
+pub mod TurnLaws
+pub mod Climb
+pub mod ClimbLaws

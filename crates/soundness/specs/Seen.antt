@@ -1,16 +1,10 @@
 -- What a call reads of a cell before it does anything.
 use Prim.Native.Nat.{ℕ, _%_}
-use mathlib.Core.Bool.{false}
 use lib.ListN.{getD}
 use Rattle.table.specs.Cell.{noAgent, cellOf}
 use Rattle.table.specs.Sound.{sound}
-use Rattle.table.specs.declared.Agent.{Agent}
 use Rattle.table.specs.declared.Cell.{Cell}
 use Rattle.soundness.specs.declared.sound.Seen.{Seen}
-
--- an unsound cell, and the agent that the call is for
-abbrev pub unsoundWith : Agent → Seen
-unsoundWith a = record { sound = false; agent = a }
 
 -- whether the cell is sound, and the agent with this number, where numbers past 63 start from 0 again
 abbrev pub seenOf : Cell → ℕ → Seen

@@ -1,4 +1,5 @@
 // What soundness asks of the places: each by itself, and that all lead to the floor.
+use super::turns::Walk;
 use sets::Set;
 use table::Name;
 use table::Place;
@@ -8,6 +9,7 @@ ghost use mathlib.Core.Bool.{_&&_};
 ghost use Prim.Native.Nat.{_<_};
 ghost use lib.Dec.{eqb};
 ghost use Rattle.table.specs.Sound.{nameless};
+ghost use Rattle.soundness.specs.Climb.{climbingAt, haltedHere, flooredOf, placedOf, Led};
 ghost use Rattle.soundness.specs.Pass.{Flat, floorStands, floorFits, floorSound, childStands, childFits, doubledOf, zerosOf, farUp};
 
 // Whether the floor is as it should be, with its lock.
@@ -165,4 +167,113 @@ pub(super) fn all_lead(up: [u8; 64], high: u8, top: u8) -> bool
         n += 1;
     }
     most == 0
+}
+
+// ---- one turn of the walk over the places
+
+// What the places before said, the floor first: which one is next, or 64; the places in use; those left, the next one among them; the places
+// whose locks agents hold, and those that they move; whether all so far stand on the floor itself; the last of them; and whether all of them fit.
+pub(super) struct Climb {
+    pub at: u8,
+    pub used: Set,
+    pub rest: Set,
+    pub claimed: Set,
+    pub going: Set,
+    pub flat: bool,
+    pub high: u8,
+    pub fit: bool,
+}
+
+// The next is the lowest of those left.
+fn climbing(used: Set, rest: Set, claimed: Set, going: Set, flat: bool, high: u8) -> Climb
+    ensures { λ r. ⌜ r ≡ climbingAt used rest claimed going flat high ⌝ }
+{
+    let i = rest.first();
+    Climb {
+        at: i,
+        used: used,
+        rest: rest,
+        claimed: claimed,
+        going: going,
+        flat: flat,
+        high: high,
+        fit: true,
+    }
+}
+
+// A place does not fit, or an agent: none is next.
+fn halted() -> Climb
+    ensures { λ r. ⌜ r ≡ haltedHere ⌝ }
+{
+    Climb {
+        at: 64,
+        used: Set::EMPTY,
+        rest: Set::EMPTY,
+        claimed: Set::EMPTY,
+        going: Set::EMPTY,
+        flat: true,
+        high: 0,
+        fit: false,
+    }
+}
+
+// After the agents the floor is passed, with its lock.
+pub(super) fn floored(w: Walk, used: Set, x: Place, lock: u8) -> Climb
+    ensures { λ r. ⌜ r ≡ flooredOf w used x lock ⌝ }
+{
+    let claimed = w.claimed;
+    let going = w.going;
+    if w.fit {
+        if floor_sound(x, lock, used, claimed, going) {
+            let rest = used.remove(0);
+            climbing(used, rest, claimed, going, true, 0)
+        } else {
+            halted()
+        }
+    } else {
+        halted()
+    }
+}
+
+// Whether a place more stands on the floor itself.
+fn stays_flat(flat: bool, parent: u8) -> bool
+    ensures { λ r. ⌜ r ≡ (eqb parent 0 && flat) ⌝ }
+{
+    if parent == 0 { flat } else { false }
+}
+
+// The next place is passed, with its lock.
+pub(super) fn placed(l: Climb, x: Place, lock: u8) -> Climb
+    ensures { λ r. ⌜ r ≡ placedOf l x lock ⌝ }
+{
+    let used = l.used;
+    let rest = l.rest;
+    let claimed = l.claimed;
+    let going = l.going;
+    let known = used.has(x.parent);
+    let held = claimed.has(l.at);
+    let moved = going.has(l.at);
+    if child_fits(x, lock, known, held, moved) {
+        let left = rest.rest();
+        let flat = stays_flat(l.flat, x.parent);
+        climbing(used, left, claimed, going, flat, l.at)
+    } else {
+        halted()
+    }
+}
+
+// Whether all fit and lead to the floor; up is where each stands.
+pub(super) fn led(l: Climb, up: [u8; 64]) -> bool
+    requires { ⌜ Led l up ⌝ }
+    ensures { λ r. ⌜ r ≡ (l .fit && zerosOf (farUp 6 up)) ⌝ }
+{
+    if l.fit {
+        if l.flat {
+            true
+        } else {
+            all_lead(up, l.high, 1)
+        }
+    } else {
+        false
+    }
 }

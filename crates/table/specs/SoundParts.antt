@@ -1,11 +1,11 @@
 -- The test of soundness and its parts, on places, locks and agents, on touches and on the row: the only laws that open the whole test. Assumes nothing.
-use mathlib.Core.Path.{_≡_, sym, ap, ap₂}
-use mathlib.Core.Bool.{Bool, true, false, _&&_}
+use mathlib.Core.Path.{_≡_, ap₂}
+use mathlib.Core.Bool.{true, _&&_}
 use Prim.Native.Nat.{_≤_}
 use lib.Dec.{leb}
 use borrow.Author.Tests.{leb-true, le-leb}
 use Rattle.order.specs.Row.{rowFits}
-use Rattle.table.specs.BaseLaws.{Told, yea, nay, told, clash, and-left, and-right}
+use Rattle.table.specs.BaseLaws.{and-left, and-right}
 use Rattle.table.specs.Cell.{State}
 use Rattle.table.specs.Sound.{coreSound, touchSum, mostTouches, booksSound, sound}
 
@@ -29,16 +29,3 @@ module _ (c : State) where
   pub parts-sound : coreSound c ≡ true → touchSum c ≤ mostTouches → rowFits (c .land .order) ≡ true → sound c ≡ true
   unfolding sound booksSound
   parts-sound e l o = ap₂ _&&_ e (ap₂ _&&_ (le-leb (touchSum c) mostTouches l) o)
-
-  -- where the first part fails the whole does
-  pub core-fails : false ≡ coreSound c → false ≡ sound c
-  core-fails e = go (told (sound c))
-    where
-      go : Told (sound c) → false ≡ sound c
-      go (yea s) = clash (sound-core s) (sym e)
-      go (nay s) = sym s
-
-  -- where it holds the second decides
-  pub core-holds : coreSound c ≡ true → booksSound c ≡ sound c
-  unfolding sound
-  core-holds e = sym (ap (λ (b : Bool). b && booksSound c) e)

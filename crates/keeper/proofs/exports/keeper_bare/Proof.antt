@@ -9,9 +9,9 @@ use Rattle.table.proofs.Cell.Laws as T′
 use Rattle.table.proofs.bare as bares
 use Rattle.table.proofs.bare.Symbol as bare-def
 use Rattle.table.proofs.bare.Met as bare-thm
-use Rattle.lending.proofs.Walk.{_≡_, refl, ap, subst, ℕ, List, [], _∷_, URA, fullShare, named, w64, Val, vint, vptr, SProp, ent, emp, id⊢, GName, Lft, Share, ftrue, fat, flft, fobs, fbor, Memory, Routine, Heap, Calls, Loops, WpFn, Atoms, Fun, givenOf, tables, Given, ‵, raw, _⊛_, ⋆, _$_, _∵_, !, qed, by, move, keep, drop, use1, split, join, rewrite, fsplit, fsplit3, fjoin, fjoin3, feqI, suffices, frame, done, look, init, store-raw, forget, stop, hop, from, load, lit, of-opd, no-more, assigns, land, returns, enter, alloc1, alloc0, params1, pass1, pass0, Body, FmC, owns, Is, mem, uint-makes, u64, RefT, MutRef, ptr-vals, mut-tells, plain, only, owned, nothing, Contract, Triple, onEntry, tripleOf, cited, says, Stays, stay-ref, walkOf, goes-ref, ends-at, exported}
-use Rattle.lending.proofs.Lent.{R, is-typed, opened, closed, called}
-use Rattle.lending.proofs.Freed.{freed}
+use Rattle.lent.proofs.Walk.{_≡_, refl, ap, subst, ℕ, List, [], _∷_, URA, fullShare, named, w64, Val, vint, vptr, SProp, ent, emp, id⊢, GName, Lft, Share, ftrue, fat, flft, fobs, fbor, Memory, Routine, Heap, Calls, Loops, WpFn, Atoms, Fun, givenOf, tables, Given, ‵, raw, _⊛_, ⋆, _$_, _∵_, !, qed, by, move, keep, drop, use1, split, join, rewrite, fsplit, fsplit3, fjoin, fjoin3, feqI, suffices, frame, done, look, init, store-raw, forget, stop, hop, from, load, lit, of-opd, no-more, assigns, land, returns, enter, alloc1, alloc0, params1, pass1, pass0, Body, FmC, owns, Is, mem, uint-makes, u64, RefT, MutRef, ptr-vals, mut-tells, plain, only, owned, nothing, Contract, Triple, onEntry, tripleOf, cited, says, Stays, stay-ref, walkOf, goes-ref, ends-at, exported}
+use Rattle.lent.proofs.Lent.{R, is-typed, opened, closed, called}
+use Rattle.lent.proofs.Freed.{freed}
 use Rattle.keeper.proofs.exports.keeper_bare.Key.{name}
 use Rattle.keeper.proofs.exports.keeper_bare as f
 use Rattle.keeper.proofs.exports.keeper_bare.Statement.{statement}

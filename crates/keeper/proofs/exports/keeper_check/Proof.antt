@@ -1,4 +1,4 @@
--- `keeper_check` meets its contract: the reference is passed on to `seen`, and what was seen is answered and made a number.
+-- `keeper_check` meets its contract: the reference is passed on to `see_lent`, and what was seen is answered and made a number.
 -- Assumes nothing.
 use mathlib.Core.Bool.{Bool, cond}
 use lib.Dec.{lit<}
@@ -19,15 +19,15 @@ use Rattle.meaning.proofs.Checked.Laws as checked-laws
 use Rattle.meaning.specs.Codes.{checkOf, checkNumber}
 use Rattle.numbers.proofs.check_number.Symbol as number
 use Rattle.numbers.proofs.check_number.Met as number-thm
-use Rattle.lending.proofs.Walk.{_≡_, refl, ap, _∙_, ℕ, [], _∷_, URA, fullShare, named, w64, Val, vptr, ent, GName, Lft, Share, ftrue, fat, flft, Heap, Calls, Loops, WpFn, Atoms, givenOf, tables, Given, ‵, _⊛_, _$_, _∵_, !, qed, by, move, drop, split, rewrite, fsplit, fsplit3, look, init, forget, stop, fld, from, load, lit, and-then, no-more, land, returns, enter, alloc1, alloc0, params1, pass1, pass0, whole, sub, look-in, FmC, owns, Is, uint-lawful, u64, ShrRef, only, owned, Triple, onEntry, cited}
-use Rattle.lending.proofs.Lent.{R, Equates, applied}
-use Rattle.lending.proofs.Freed.{freed}
-use Rattle.lending.proofs.Seeing.{Sees, seeing-lent}
+use Rattle.lent.proofs.Walk.{_≡_, refl, ap, _∙_, ℕ, [], _∷_, URA, fullShare, named, w64, Val, vptr, ent, GName, Lft, Share, ftrue, fat, flft, Heap, Calls, Loops, WpFn, Atoms, givenOf, tables, Given, ‵, _⊛_, _$_, _∵_, !, qed, by, move, drop, split, rewrite, fsplit, fsplit3, look, init, forget, stop, fld, from, load, lit, and-then, no-more, land, returns, enter, alloc1, alloc0, params1, pass1, pass0, whole, sub, look-in, FmC, owns, Is, uint-lawful, u64, ShrRef, only, owned, Triple, onEntry, cited}
+use Rattle.lent.proofs.Lent.{R, Equates, applied}
+use Rattle.lent.proofs.Freed.{freed}
+use Rattle.soundness.proofs.Seeing.{Sees, seeing-lent}
 use Rattle.lending.proofs.Asks.{of-lent, handed, handed-at, Post, exits, asks-met}
 use Rattle.keeper.proofs.checked.Symbol as checked-def
 use Rattle.keeper.proofs.checked.Met as checked-thm
-use Rattle.keeper.proofs.exports.seen.Symbol as seen-def
-use Rattle.keeper.proofs.exports.seen.Met as seen-thm
+use Rattle.soundness.proofs.see_lent.Symbol as seen-def
+use Rattle.soundness.proofs.see_lent.Met as seen-thm
 use Rattle.keeper.proofs.exports.keeper_check.Key.{name}
 use Rattle.keeper.proofs.exports.keeper_check.Statement.{statement}
 use Rattle.keeper.proofs.exports.keeper_check.Code as code
@@ -66,6 +66,6 @@ unfolding code.routine
 keeper-check-spec 𝓤 H 𝓜 𝓖 𝓡 =
     asks-met 𝓤 H 𝓜 𝓖 𝓡 code.env name code.function ask (code.unfolded 𝓤 H 𝓜 𝓡)
     (λ fm κ q b o γ h. walk 𝓤 H (𝓖 .A) (givenOf 𝓤 H 𝓜 𝓖) κ q b o γ h (tables 𝓤 H 𝓜 𝓡 code.env .C) (tables 𝓤 H 𝓜 𝓡 code.env .Λ) fm
-    (cited 𝓤 H _ 𝓜 𝓡 code.env seen-def.name seen-def.routine code.calls-keeper·exports·seen (seen-thm.met 𝓤 H 𝓜 𝓖 𝓡))
+    (cited 𝓤 H _ 𝓜 𝓡 code.env seen-def.name seen-def.routine code.calls-soundness·see-lent (seen-thm.met 𝓤 H 𝓜 𝓖 𝓡))
     (cited 𝓤 H _ 𝓜 𝓡 code.env checked-def.name checked-def.routine code.calls-keeper·checked (checked-thm.met 𝓤 H 𝓜 𝓖 𝓡))
     (cited 𝓤 H _ 𝓜 𝓡 code.env number.name number.routine code.calls-numbers·check-number (number-thm.met 𝓤 H 𝓜 𝓖 𝓡)))

@@ -1,4 +1,4 @@
--- `keeper_idle` meets its contract: the reference is passed on to `seen`, the borrow of the cell is looked into, the cell is loaded whole, the borrow is shut, and what `idled` answers is made a number.
+-- `keeper_idle` meets its contract: the reference is passed on to `see_lent`, the borrow of the cell is looked into, the cell is loaded whole, the borrow is shut, and what `idled` answers is made a number.
 -- Assumes nothing.
 use lib.Dec.{lit<}
 use mathlib.Core.Bool.{Bool}
@@ -18,16 +18,16 @@ use Rattle.meaning.proofs.Idled.Laws as idled-laws
 use Rattle.meaning.specs.Codes.{idleOf, idleNumber}
 use Rattle.numbers.proofs.idle_number.Symbol as number
 use Rattle.numbers.proofs.idle_number.Met as number-thm
-use Rattle.lending.proofs.Walk.{_≡_, refl, ap, _∙_, ℕ, [], _∷_, URA, fullShare, named, w64, Val, vptr, SProp, ent, emp, id⊢, GName, Lft, Share, ftrue, fat, flft, Memory, Routine, Heap, Calls, Loops, WpFn, Atoms, Fun, givenOf, tables, Given, ‵, raw, _⊛_, _$_, _∵_, !, qed, by, move, keep, drop, split, join, rewrite, fsplit, fsplit3, fjoin, done, look, look-raw, init, forget, stop, hop, fld, from, load, lit, of-opd, and-then, no-more, assigns, land, returns, enter, alloc1, alloc0, params1, pass1, pass0, whole, sub, look-in, FmC, owns, Is, uint-lawful, u64, ShrRef, only, owned, nothing, Contract, Triple, onEntry, tripleOf, cited}
-use Rattle.lending.proofs.Lent.{R, mach, is-typed, had, looked, shut, called, Equates, applied}
-use Rattle.lending.proofs.Freed.{freed}
-use Rattle.lending.proofs.Seeing.{Sees, seeing-lent}
+use Rattle.lent.proofs.Walk.{_≡_, refl, ap, _∙_, ℕ, [], _∷_, URA, fullShare, named, w64, Val, vptr, SProp, ent, emp, id⊢, GName, Lft, Share, ftrue, fat, flft, Memory, Routine, Heap, Calls, Loops, WpFn, Atoms, Fun, givenOf, tables, Given, ‵, raw, _⊛_, _$_, _∵_, !, qed, by, move, keep, drop, split, join, rewrite, fsplit, fsplit3, fjoin, done, look, look-raw, init, forget, stop, hop, fld, from, load, lit, of-opd, and-then, no-more, assigns, land, returns, enter, alloc1, alloc0, params1, pass1, pass0, whole, sub, look-in, FmC, owns, Is, uint-lawful, u64, ShrRef, only, owned, nothing, Contract, Triple, onEntry, tripleOf, cited}
+use Rattle.lent.proofs.Lent.{R, mach, is-typed, had, looked, shut, called, Equates, applied}
+use Rattle.lent.proofs.Freed.{freed}
+use Rattle.soundness.proofs.Seeing.{Sees, seeing-lent}
 use Rattle.lending.proofs.Asks.{of-lent, handed, handed-at, Post, exits, asks-met}
 use Rattle.keeper.proofs.idled as idles
 use Rattle.keeper.proofs.idled.Symbol as idled-def
 use Rattle.keeper.proofs.idled.Met as idled-thm
-use Rattle.keeper.proofs.exports.seen.Symbol as seen-def
-use Rattle.keeper.proofs.exports.seen.Met as seen-thm
+use Rattle.soundness.proofs.see_lent.Symbol as seen-def
+use Rattle.soundness.proofs.see_lent.Met as seen-thm
 use Rattle.keeper.proofs.exports.keeper_idle.Key.{name}
 use Rattle.keeper.proofs.exports.keeper_idle.Statement.{statement}
 use Rattle.keeper.proofs.exports.keeper_idle.Code as code
@@ -74,6 +74,6 @@ unfolding code.routine
 keeper-idle-spec 𝓤 H 𝓜 𝓖 𝓡 =
     asks-met 𝓤 H 𝓜 𝓖 𝓡 code.env name code.function ask (code.unfolded 𝓤 H 𝓜 𝓡)
     (λ fm κ q b o γ h. walk 𝓤 H (𝓖 .A) (givenOf 𝓤 H 𝓜 𝓖) (𝓜 .mem) (𝓡 .run) κ q b o γ h (tables 𝓤 H 𝓜 𝓡 code.env .C) (tables 𝓤 H 𝓜 𝓡 code.env .Λ) fm
-    (cited 𝓤 H _ 𝓜 𝓡 code.env seen-def.name seen-def.routine code.calls-keeper·exports·seen (seen-thm.met 𝓤 H 𝓜 𝓖 𝓡))
+    (cited 𝓤 H _ 𝓜 𝓡 code.env seen-def.name seen-def.routine code.calls-soundness·see-lent (seen-thm.met 𝓤 H 𝓜 𝓖 𝓡))
     (cited 𝓤 H _ 𝓜 𝓡 code.env idled-def.name idled-def.routine code.calls-keeper·idled (idled-thm.met 𝓤 H 𝓜 𝓖 𝓡))
     (cited 𝓤 H _ 𝓜 𝓡 code.env number.name number.routine code.calls-numbers·idle-number (number-thm.met 𝓤 H 𝓜 𝓖 𝓡)))

@@ -1,4 +1,4 @@
--- `keeper_list` meets its contract: the reference is passed on to `seen`, the borrow of the cell is looked into, the cell is loaded whole, the borrow is shut, `list_known` is called with what was seen, the cell and the slice, which is given up for good, and the answer is passed on.
+-- `keeper_list` meets its contract: the reference is passed on to `see_lent`, the borrow of the cell is looked into, the cell is loaded whole, the borrow is shut, `list_known` is called with what was seen, the cell and the slice, which is given up for good, and the answer is passed on.
 -- Assumes nothing.
 use mathlib.Core.Bool.{Bool}
 use lib.Dec.{lit<}
@@ -17,15 +17,15 @@ use Rattle.meaning.specs.Listing.{listAnswer, listBuffer}
 use Rattle.meaning.specs.Codes.{listNumber}
 use Rattle.listing.specs.Known.{knownAnswer, knownBuffer}
 use Rattle.listing.specs.CallLaws.{list-told}
-use Rattle.lending.proofs.Walk.{_≡_, refl, ap, _∙_, ℕ, List, [], _∷_, URA, fullShare, named, w64, Val, vptr, SProp, ent, id⊢, GName, Lft, Share, Fml, ftrue, fat, flft, fres, fshr-bor, Memory, Routine, Heap, Calls, Loops, WpFn, Atoms, Fun, AllOutlive, givenOf, tables, Given, ‵, raw, _⊛_, ⋆, _$_, _∵_, !, qed, by, move, keep, drop, split, join, rewrite, fsplit, fsplit3, fjoin, fjoin3, feqI, feqL, suffices, frame, done, look, look-raw, init, forget, stop, hop, fld, from, load, lit, addr, of-opd, and-then, no-more, assigns, land, returns, enter, alloc1, alloc0, params1, pass1, pass0, agg, whole, sub, look-in, FmC, owns, Is, partAt, uint-lawful, u8, u64, RefT, ShrRef, ptr-vals, shr-tells, MutSlice, Room, finally, slice-vals, mut-slice-tells, plain, only, owned, nothing, Contract, Triple, onEntry, tripleOf, cited, says, Stays, stay-none-ref, gave-slice, walkOf, goes-none-ref, goes-gave-slice, ends-at, yes, exported}
-use Rattle.lending.proofs.Lent.{R, mach, is-typed, had, looked, shut, called}
-use Rattle.lending.proofs.Freed.{freed}
-use Rattle.lending.proofs.Seeing.{Sees, seeing-lent}
+use Rattle.lent.proofs.Walk.{_≡_, refl, ap, _∙_, ℕ, List, [], _∷_, URA, fullShare, named, w64, Val, vptr, SProp, ent, id⊢, GName, Lft, Share, Fml, ftrue, fat, flft, fres, fshr-bor, Memory, Routine, Heap, Calls, Loops, WpFn, Atoms, Fun, AllOutlive, givenOf, tables, Given, ‵, raw, _⊛_, ⋆, _$_, _∵_, !, qed, by, move, keep, drop, split, join, rewrite, fsplit, fsplit3, fjoin, fjoin3, feqI, feqL, suffices, frame, done, look, look-raw, init, forget, stop, hop, fld, from, load, lit, addr, of-opd, and-then, no-more, assigns, land, returns, enter, alloc1, alloc0, params1, pass1, pass0, agg, whole, sub, look-in, FmC, owns, Is, partAt, uint-lawful, u8, u64, RefT, ShrRef, ptr-vals, shr-tells, MutSlice, Room, finally, slice-vals, mut-slice-tells, plain, only, owned, nothing, Contract, Triple, onEntry, tripleOf, cited, says, Stays, stay-none-ref, gave-slice, walkOf, goes-none-ref, goes-gave-slice, ends-at, yes, exported}
+use Rattle.lent.proofs.Lent.{R, mach, is-typed, had, looked, shut, called}
+use Rattle.lent.proofs.Freed.{freed}
+use Rattle.soundness.proofs.Seeing.{Sees, seeing-lent}
 use Rattle.keeper.proofs.numbered_list as lists
 use Rattle.keeper.proofs.numbered_list.Symbol as list-def
 use Rattle.keeper.proofs.numbered_list.Met as list-thm
-use Rattle.keeper.proofs.exports.seen.Symbol as seen-def
-use Rattle.keeper.proofs.exports.seen.Met as seen-thm
+use Rattle.soundness.proofs.see_lent.Symbol as seen-def
+use Rattle.soundness.proofs.see_lent.Met as seen-thm
 use Rattle.keeper.proofs.exports.keeper_list.Key.{name}
 use Rattle.keeper.proofs.exports.keeper_list as f
 use Rattle.keeper.proofs.exports.keeper_list.Statement.{statement}
@@ -102,5 +102,5 @@ keeper-list-spec 𝓤 H 𝓜 𝓖 𝓡 =
     (goes-none-ref 𝓤 H (𝓖 .A) (givenOf 𝓤 H 𝓜 𝓖) 2 (0 ∷ []) tt (plain (λ _. R)) yes, (goes-gave-slice 𝓤 H (𝓖 .A) (givenOf 𝓤 H 𝓜 𝓖) 2 1 tt (plain (λ _. u8)), tt))
     (λ κs. (ptr-vals, (slice-vals, tt))) (λ κs. (shr-tells (named 0) (κs .0) R, (mut-slice-tells (named 1) (κs .1 .0) u8, tt)))
     (λ fm κs qs bounds a _ are. walk 𝓤 H (𝓖 .A) (givenOf 𝓤 H 𝓜 𝓖) (𝓜 .mem) (𝓡 .run) (κs .0) (κs .1 .0) bounds (qs .0) (qs .1 .0) (a .0 .ptr .0) (a .0 .ptr .1) (a .0 .name) (a .0 .now) (a .1 .0) (are .1 .0 .0 .1) (tables 𝓤 H 𝓜 𝓡 code.env .C) (tables 𝓤 H 𝓜 𝓡 code.env .Λ) fm
-    (cited 𝓤 H (Sees 𝓤 H (𝓖 .A)) 𝓜 𝓡 code.env seen-def.name seen-def.routine code.calls-keeper·exports·seen (seen-thm.met 𝓤 H 𝓜 𝓖 𝓡))
+    (cited 𝓤 H (Sees 𝓤 H (𝓖 .A)) 𝓜 𝓡 code.env seen-def.name seen-def.routine code.calls-soundness·see-lent (seen-thm.met 𝓤 H 𝓜 𝓖 𝓡))
     (cited 𝓤 H (Lists 𝓤 H (𝓖 .A) (givenOf 𝓤 H 𝓜 𝓖) (𝓜 .mem) (𝓡 .run)) 𝓜 𝓡 code.env list-def.name list-def.routine code.calls-keeper·numbered-list (list-thm.met 𝓤 H 𝓜 𝓖 𝓡)))

@@ -11,9 +11,9 @@ use Rattle.meaning.proofs.Verdict.Laws as verdict
 use Rattle.parser.proofs.read as reads
 use Rattle.parser.proofs.read.Symbol as read-def
 use Rattle.parser.proofs.read.Met as read-thm
-use Rattle.lending.proofs.Walk.{_≡_, refl, ap, _∙_, ℕ, List, [], _∷_, URA, named, Val, vptr, SProp, ent, id⊢, GName, Lft, Share, Fml, ftrue, flft, fobs, fbor, Memory, Routine, Heap, Calls, Loops, WpFn, Atoms, Fun, AllOutlive, givenOf, tables, Given, ‵, raw, _⊛_, ⋆, _$_, _∵_, !, qed, by, move, keep, drop, use1, use3, split, join, fsplit, fsplit3, fjoin, fjoin3, feqI, suffices, frame, done, look, look-raw, init, forget, stop, hop, from, load, of-opd, and-then, no-more, assigns, returns, enter, alloc1, alloc0, params1, pass1, pass0, Body, FmC, owns, mem, u8, u64, RefT, MutRef, ptr-vals, mut-tells, ShrSlice, Room, slice-vals, shr-slice-tells, shr-slice-copy, plain, only, nothing, Contract, Triple, onEntry, tripleOf, cited, says, Stays, stay-ref, stay-none-slice, walkOf, goes-ref, goes-none-slice, ends-at, yes, exported}
-use Rattle.lending.proofs.Lent.{R, mach, is-typed, had, opened, called, Equates}
-use Rattle.lending.proofs.Freed.{freed}
+use Rattle.lent.proofs.Walk.{_≡_, refl, ap, _∙_, ℕ, List, [], _∷_, URA, named, Val, vptr, SProp, ent, id⊢, GName, Lft, Share, Fml, ftrue, flft, fobs, fbor, Memory, Routine, Heap, Calls, Loops, WpFn, Atoms, Fun, AllOutlive, givenOf, tables, Given, ‵, raw, _⊛_, ⋆, _$_, _∵_, !, qed, by, move, keep, drop, use1, use3, split, join, fsplit, fsplit3, fjoin, fjoin3, feqI, suffices, frame, done, look, look-raw, init, forget, stop, hop, from, load, of-opd, and-then, no-more, assigns, returns, enter, alloc1, alloc0, params1, pass1, pass0, Body, FmC, owns, mem, u8, u64, RefT, MutRef, ptr-vals, mut-tells, ShrSlice, Room, slice-vals, shr-slice-tells, shr-slice-copy, plain, only, nothing, Contract, Triple, onEntry, tripleOf, cited, says, Stays, stay-ref, stay-none-slice, walkOf, goes-ref, goes-none-slice, ends-at, yes, exported}
+use Rattle.lent.proofs.Lent.{R, mach, is-typed, had, opened, called, Equates}
+use Rattle.lent.proofs.Freed.{freed}
 use Rattle.lending.proofs.Stored.{Result, stored}
 use Rattle.keeper.proofs.numbered_load.Symbol as number
 use Rattle.keeper.proofs.numbered_load.Met as number-thm

@@ -1,4 +1,4 @@
--- `keeper_step` meets its contract: the borrow of the cell is opened, the cell is lent on to `seen`, `decide` is called with what was seen and the cell, and what it decided is carried out on the whole cell or stored in place.
+-- `keeper_step` meets its contract: the borrow of the cell is opened, the cell is lent on to `see_lent`, `decide` is called with what was seen and the cell, and what it decided is carried out on the whole cell or stored in place.
 -- Assumes nothing.
 use mathlib.Core.Bool.{Bool, true, false, not, cond}
 use lib.Dec.{T}
@@ -38,16 +38,16 @@ use Rattle.table.proofs.at.Symbol as at-def
 use Rattle.table.proofs.at.Met as at-thm
 use Rattle.numbers.proofs.step_number.Symbol as number
 use Rattle.numbers.proofs.step_number.Met as number-thm
-use Rattle.lending.proofs.Offsets.{agentSize}
-use Rattle.lending.proofs.Walk.{_≡_, refl, sym, ap, subst, _∙_, ℕ, _<_, _^_, List, [], _∷_, URA, fullShare, named, w8, w64, Val, vint, vptr, SProp, ent, emp, id⊢, GName, Lft, Share, ftrue, fat, flft, fobs, fbor, Memory, Routine, Heap, Calls, Loops, WpFn, Atoms, Fun, givenOf, tables, Given, ‵, raw, _⊛_, ⋆, _$_, _∵_, !, qed, by, move, drop, split, join, rewrite, fsplit, fsplit3, fjoin, fjoin3, feqI, suffices, frame, done, look, look-raw, init, forget, stop, hop, fld, from, load, lit, addr, of-opd, and-then, no-more, assigns, land, returns, enter, alloc1, alloc0, params1, pass1, pass0, whole, sub, look-in, Body, FmC, owns, Is, mem, uint-vals, uint-tells, uint-makes, uint-lawful, u8, u64, RefT, MutRef, ptr-vals, mut-tells, plain, only, owned, nothing, Contract, Triple, onEntry, tripleOf, cited, says, Stays, stay-ref, stay-none, walkOf, goes-ref, goes-none, ends-at, yes, exported}
+use Rattle.lent.proofs.Offsets.{agentSize}
+use Rattle.lent.proofs.Walk.{_≡_, refl, sym, ap, subst, _∙_, ℕ, _<_, _^_, List, [], _∷_, URA, fullShare, named, w8, w64, Val, vint, vptr, SProp, ent, emp, id⊢, GName, Lft, Share, ftrue, fat, flft, fobs, fbor, Memory, Routine, Heap, Calls, Loops, WpFn, Atoms, Fun, givenOf, tables, Given, ‵, raw, _⊛_, ⋆, _$_, _∵_, !, qed, by, move, drop, split, join, rewrite, fsplit, fsplit3, fjoin, fjoin3, feqI, suffices, frame, done, look, look-raw, init, forget, stop, hop, fld, from, load, lit, addr, of-opd, and-then, no-more, assigns, land, returns, enter, alloc1, alloc0, params1, pass1, pass0, whole, sub, look-in, Body, FmC, owns, Is, mem, uint-vals, uint-tells, uint-makes, uint-lawful, u8, u64, RefT, MutRef, ptr-vals, mut-tells, plain, only, owned, nothing, Contract, Triple, onEntry, tripleOf, cited, says, Stays, stay-ref, stay-none, walkOf, goes-ref, goes-none, ends-at, yes, exported}
 use Rattle.lending.proofs.Placed.{placed}
-use Rattle.lending.proofs.Lent.{R, mach, is-typed, had, opened, called, Equates, applied}
-use Rattle.lending.proofs.Freed.{freed}
+use Rattle.lent.proofs.Lent.{R, mach, is-typed, had, opened, called, Equates, applied}
+use Rattle.lent.proofs.Freed.{freed}
 use Rattle.lending.proofs.Stored.{Result, stored}
 use Rattle.lending.proofs.Settled.{val, settled}
-use Rattle.lending.proofs.Seeing.{Sees, seeing, unless}
-use Rattle.keeper.proofs.exports.seen.Symbol as seen-def
-use Rattle.keeper.proofs.exports.seen.Met as seen-thm
+use Rattle.soundness.proofs.Seeing.{Sees, seeing, unless}
+use Rattle.soundness.proofs.see_lent.Symbol as seen-def
+use Rattle.soundness.proofs.see_lent.Met as seen-thm
 use Rattle.keeper.proofs.exports.keeper_step.Key.{name}
 use Rattle.keeper.proofs.exports.keeper_step as f
 use Rattle.keeper.proofs.exports.keeper_step.Statement.{statement}
@@ -179,7 +179,7 @@ keeper-step-spec 𝓤 H 𝓜 𝓖 𝓡 =
     (goes-ref 𝓤 H (𝓖 .A) (givenOf 𝓤 H 𝓜 𝓖) 1 0 tt (plain (λ _. R)), (goes-none 𝓤 H (𝓖 .A) (givenOf 𝓤 H 𝓜 𝓖) 1 (λ _. u8) yes (λ κs x f. refl), (goes-none 𝓤 H (𝓖 .A) (givenOf 𝓤 H 𝓜 𝓖) 1 (λ _. u8) yes (λ κs x f. refl), tt)))
     (λ κs. (ptr-vals, (uint-vals w8, (uint-vals w8, tt)))) (λ κs. (mut-tells (named 0) (κs .0) R, (uint-tells w8, (uint-tells w8, tt))))
     (λ fm κs qs bounds a _ are. walk 𝓤 H (𝓖 .A) (givenOf 𝓤 H 𝓜 𝓖) (𝓜 .mem) (𝓡 .run) (κs .0) (qs .0) (a .0 .ptr .0) (a .0 .ptr .1) (a .0 .name) (a .0 .now) (a .1 .0) (a .1 .1 .0) (are .1 .0 .1) (are .1 .1 .0 .1) (tables 𝓤 H 𝓜 𝓡 code.env .C) (tables 𝓤 H 𝓜 𝓡 code.env .Λ) fm
-    (cited 𝓤 H (Sees 𝓤 H (𝓖 .A)) 𝓜 𝓡 code.env seen-def.name seen-def.routine code.calls-keeper·exports·seen (seen-thm.met 𝓤 H 𝓜 𝓖 𝓡))
+    (cited 𝓤 H (Sees 𝓤 H (𝓖 .A)) 𝓜 𝓡 code.env seen-def.name seen-def.routine code.calls-soundness·see-lent (seen-thm.met 𝓤 H 𝓜 𝓖 𝓡))
     (cited 𝓤 H (Decide 𝓤 H (𝓖 .A) (givenOf 𝓤 H 𝓜 𝓖) (𝓜 .mem) (𝓡 .run)) 𝓜 𝓡 code.env decide-def.name decide-def.routine code.calls-step·decide (decide-thm.met 𝓤 H 𝓜 𝓖 𝓡))
     (cited 𝓤 H (Carry 𝓤 H (𝓖 .A) (givenOf 𝓤 H 𝓜 𝓖) (𝓜 .mem) (𝓡 .run)) 𝓜 𝓡 code.env carry-def.name carry-def.routine code.calls-step·carry-out (carry-thm.met 𝓤 H 𝓜 𝓖 𝓡))
     (cited 𝓤 H (Equates 𝓤 H (𝓖 .A) u8 usize (λ z. z % 64)) 𝓜 𝓡 code.env at-def.name at-def.routine code.calls-table·at (at-thm.met 𝓤 H 𝓜 𝓖 𝓡))

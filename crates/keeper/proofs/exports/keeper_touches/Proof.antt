@@ -1,4 +1,4 @@
--- `keeper_touches` meets its contract: the reference is passed on to `seen`, the borrow of the cell is looked into, the cell is loaded whole, the borrow is shut, and `numbered_touches` is called with what was seen and the cell.
+-- `keeper_touches` meets its contract: the reference is passed on to `see_lent`, the borrow of the cell is looked into, the cell is loaded whole, the borrow is shut, and `numbered_touches` is called with what was seen and the cell.
 -- Assumes nothing.
 use lib.Dec.{lit<}
 use mathlib.Core.Bool.{Bool}
@@ -15,15 +15,15 @@ use Rattle.meaning.specs.Touch.{touchesOf}
 use Rattle.meaning.specs.Codes.{touchNumber}
 use Rattle.touch.specs.Known.{knownTouches}
 use Rattle.touch.specs.KnownLaws.{touches-told}
-use Rattle.lending.proofs.Walk.{_≡_, refl, ap, _∙_, ℕ, _<_, _^_, List, [], _∷_, URA, fullShare, named, w8, w64, Val, vint, vptr, SProp, ent, emp, id⊢, GName, Lft, Share, ftrue, fat, flft, fres, fshr-bor, Memory, Routine, Heap, Calls, Loops, WpFn, Atoms, Fun, givenOf, tables, Given, ‵, raw, _⊛_, ⋆, _$_, _∵_, !, qed, by, move, keep, drop, split, join, rewrite, fsplit, fsplit3, fjoin, fjoin3, feqI, suffices, frame, done, look, look-raw, init, forget, stop, hop, fld, from, load, lit, of-opd, and-then, no-more, assigns, land, returns, enter, alloc1, alloc0, params1, pass1, pass0, whole, sub, look-in, FmC, owns, Is, partAt, uint-vals, uint-tells, uint-makes, uint-lawful, u8, u64, RefT, ShrRef, ptr-vals, shr-tells, plain, only, owned, nothing, Contract, Triple, onEntry, tripleOf, cited, says, Stays, stay-none, stay-none-ref, walkOf, goes-none, goes-none-ref, ends-at, yes, exported}
-use Rattle.lending.proofs.Lent.{R, mach, is-typed, had, looked, shut, called}
-use Rattle.lending.proofs.Freed.{freed}
-use Rattle.lending.proofs.Seeing.{Sees, seeing-lent}
+use Rattle.lent.proofs.Walk.{_≡_, refl, ap, _∙_, ℕ, _<_, _^_, List, [], _∷_, URA, fullShare, named, w8, w64, Val, vint, vptr, SProp, ent, emp, id⊢, GName, Lft, Share, ftrue, fat, flft, fres, fshr-bor, Memory, Routine, Heap, Calls, Loops, WpFn, Atoms, Fun, givenOf, tables, Given, ‵, raw, _⊛_, ⋆, _$_, _∵_, !, qed, by, move, keep, drop, split, join, rewrite, fsplit, fsplit3, fjoin, fjoin3, feqI, suffices, frame, done, look, look-raw, init, forget, stop, hop, fld, from, load, lit, of-opd, and-then, no-more, assigns, land, returns, enter, alloc1, alloc0, params1, pass1, pass0, whole, sub, look-in, FmC, owns, Is, partAt, uint-vals, uint-tells, uint-makes, uint-lawful, u8, u64, RefT, ShrRef, ptr-vals, shr-tells, plain, only, owned, nothing, Contract, Triple, onEntry, tripleOf, cited, says, Stays, stay-none, stay-none-ref, walkOf, goes-none, goes-none-ref, ends-at, yes, exported}
+use Rattle.lent.proofs.Lent.{R, mach, is-typed, had, looked, shut, called}
+use Rattle.lent.proofs.Freed.{freed}
+use Rattle.soundness.proofs.Seeing.{Sees, seeing-lent}
 use Rattle.keeper.proofs.numbered_touches as numbers
 use Rattle.keeper.proofs.numbered_touches.Symbol as numbers-def
 use Rattle.keeper.proofs.numbered_touches.Met as numbers-thm
-use Rattle.keeper.proofs.exports.seen.Symbol as seen-def
-use Rattle.keeper.proofs.exports.seen.Met as seen-thm
+use Rattle.soundness.proofs.see_lent.Symbol as seen-def
+use Rattle.soundness.proofs.see_lent.Met as seen-thm
 use Rattle.keeper.proofs.exports.keeper_touches.Key.{name}
 use Rattle.keeper.proofs.exports.keeper_touches as f
 use Rattle.keeper.proofs.exports.keeper_touches.Statement.{statement}
@@ -89,5 +89,5 @@ keeper-touches-spec 𝓤 H 𝓜 𝓖 𝓡 =
     (goes-none-ref 𝓤 H (𝓖 .A) (givenOf 𝓤 H 𝓜 𝓖) 1 (0 ∷ []) tt (plain (λ _. R)) yes, (goes-none 𝓤 H (𝓖 .A) (givenOf 𝓤 H 𝓜 𝓖) 1 (λ _. u8) yes (λ κs x f. refl), tt))
     (λ κs. (ptr-vals, (uint-vals w8, tt))) (λ κs. (shr-tells (named 0) (κs .0) R, (uint-tells w8, tt)))
     (λ fm κs qs bounds a _ are. walk 𝓤 H (𝓖 .A) (givenOf 𝓤 H 𝓜 𝓖) (𝓜 .mem) (𝓡 .run) (κs .0) (qs .0) (a .0 .ptr .0) (a .0 .ptr .1) (a .0 .name) (a .0 .now) (a .1 .0) (are .1 .0 .1) (tables 𝓤 H 𝓜 𝓡 code.env .C) (tables 𝓤 H 𝓜 𝓡 code.env .Λ) fm
-    (cited 𝓤 H (Sees 𝓤 H (𝓖 .A)) 𝓜 𝓡 code.env seen-def.name seen-def.routine code.calls-keeper·exports·seen (seen-thm.met 𝓤 H 𝓜 𝓖 𝓡))
+    (cited 𝓤 H (Sees 𝓤 H (𝓖 .A)) 𝓜 𝓡 code.env seen-def.name seen-def.routine code.calls-soundness·see-lent (seen-thm.met 𝓤 H 𝓜 𝓖 𝓡))
     (cited 𝓤 H (Numbers 𝓤 H (𝓖 .A) (givenOf 𝓤 H 𝓜 𝓖) (𝓜 .mem) (𝓡 .run)) 𝓜 𝓡 code.env numbers-def.name numbers-def.routine code.calls-keeper·numbered-touches (numbers-thm.met 𝓤 H 𝓜 𝓖 𝓡)))

@@ -1,136 +1,70 @@
--- Each turn takes the lowest agent that is left; what holds before it is `Passed`. An agent that does not fit, or the second
--- that moves a place, makes the table unsound; once nobody is left, the places decide, and then the touches and the row. The agent
--- that is handed out was read before the walk.
-use Prim.Native.Nat.{ℕ}
-use mathlib.Core.Path.{sym, ap, ap₂, _∙_, subst}
-use mathlib.Core.Bool.{true, false, _&&_}
-use native.Mathlib.Omega.{arith}
-use borrow.Author.Tests.{not-true}
-use Rattle.sets.specs.Set.{inserted}
-use Rattle.sets.specs.declared.Set.{Set}
-use Rattle.table.specs.Cell.{cellOf}
-use Rattle.table.specs.SoundParts.{core-holds}
-use Rattle.table.specs.Sound.{firstHeld, secondHeldIn, goingFrom, agentFits, booksSound, touchSum}
-use Rattle.soundness.specs.Pass.{quiet}
-use Rattle.soundness.specs.AgentLaws.{home-out, row-out}
-use Rattle.soundness.specs.PassLaws.{Passed, passed-are, passed-start, passed-twice, passed-quiet, passed-busy}
-use Rattle.order.specs.Row.{rowFits}
-use Rattle.soundness.specs.Left.{leftOf}
-use Rattle.soundness.specs.declared.touches.Left.{Left}
-use Rattle.table.proofs.Facts.{sized}
+-- `see` meets its contract: the cell is lent to `see_lent`, and comes back as it was.
+-- Assumes nothing.
+use denote.Struct.Laws as LL
+use mir.Raw.{raw as rawTy}
+use Rattle.table.specs.declared.Cell.{Cell}
+use Rattle.table.proofs.Cell as T
+use Rattle.table.proofs.Cell.Laws as T′
+use Rattle.soundness.specs.Seen.{seenOf}
+use Rattle.soundness.specs.declared.sound.Seen.{Seen}
+use Rattle.soundness.proofs.sound.Seen as Seen′
+use Rattle.soundness.proofs.sound.Seen.Laws as seen-laws
+use Rattle.soundness.proofs.walks.see_lent.Symbol as lent-def
+use Rattle.soundness.proofs.walks.see_lent.Met as lent-thm
+use Rattle.soundness.proofs.Seeing.{Sees, seeing}
+use Rattle.lent.proofs.Walk.{_≡_, refl, ℕ, _<_, _^_, List, [], _∷_, URA, fullShare, w8, Val, vint, SProp, ent, ftrue, fat, Memory, Routine, Heap, Calls, Loops, WpFn, Atoms, Fun, givenOf, tables, Given, ‵, raw, ⋆, _$_, _∵_, !, qed, by, move, drop, use1, fjoin, suffices, frame, look, init, forget, stop, from, load, addr, of-opd, and-then, no-more, assigns, land, returns, enter, alloc1, alloc0, params1, pass1, pass0, done, FmC, owns, Is, uint-vals, uint-tells, uint-makes, u8, owned, nothing, Triple, onEntry, cited, says, Stays, stay-none, walkOf, goes-none, ends-at, yes, exported}
+use Rattle.lent.proofs.Lent.{R, mach, is-typed, had}
+use Rattle.lent.proofs.Freed.{freed}
+use Rattle.soundness.proofs.sound.see.Key.{name}
+use Rattle.soundness.proofs.sound.see as f
 use Rattle.soundness.proofs.sound.see.Statement.{statement}
-use Rattle.soundness.proofs.sound.see.Tie as tie
-use Rattle.soundness.proofs.sound.see.Proof.Turn.{Inv-loop, μ-loop, Inv-loop2, μ-loop2, small, table, good, number, agent, this, some-left, lowest, fewer, moved-to, refused, unfit, kept, is-still, fits-still, second-is, fits-busy, moves}
-use Rattle.soundness.proofs.sound.see.Proof.Lands as lands
-mod Turn
-mod Lands
+use Rattle.soundness.proofs.sound.see.Code as code
 
-loop-holds : tie.Need-loop-holds Inv-loop μ-loop Inv-loop2 μ-loop2
-loop-holds c =
-    let x = c .before .before .before .before .args .t1 in
-    passed-start x (sized x (c .before .before .before .before .good .0))
+abbrev stayed : Stays (f.ended .signature .params) (f.ended .kept)
+stayed = (stay-none (λ _. R) yes, (stay-none (λ _. u8) yes, tt))
 
-returns : tie.Need-returns Inv-loop μ-loop Inv-loop2 μ-loop2
-returns c =
-    let h = c .before .before in
-    c .unsound .ensures
-    ∙ unfit h (home-out (table h) (sized (table h) (good h)) (number h) (this h) (sym (h .has .ensures) ∙ not-true _ (c .before .if2 .taken)))
+-- the machine value of a cell
+abbrev val : Cell → Val
+val c = LL.val T.the-type T′.the-laws c
 
-returns-2 : tie.Need-returns-2 Inv-loop μ-loop Inv-loop2 μ-loop2
-returns-2 c =
-    let h = c .before .before .before .before .before in
-    c .unsound2 .ensures
-    ∙ unfit h (row-out (table h) (sized (table h) (good h)) (number h) (this h)
-    (sym (c .before .before .before .row-of .ensures .0) ∙ not-true _ (c .before .if3 .taken)))
+module _ {M : Type 1} (𝓤 : URA M) (H : Heap 𝓤) (A : Atoms 𝓤) (W : Given 𝓤 H A) (at-mem : Memory → SProp 𝓤) (run : Routine → Fun 𝓤) (h : Cell) (m : ℕ) (was : Is R h (mach h)) (m-fits : m < 2 ^ 8) where
+  abbrev x : Cell × (ℕ × Unit {0})
+  x = (h, (m, tt))
 
-loop-again : tie.Need-loop-again Inv-loop μ-loop Inv-loop2 μ-loop2
-loop-again c =
-    let h = c .before .before .before .before .before .before .before .before .before .before .before in
-    let l = h .before .before .before .before .before .before .loop in
-    subst (λ (z : Set). Passed (table h) (l .claimed) (l .going) z) (sym (h .before .before .rest2 .ensures))
-    (passed-quiet (table h) (sized (table h) (good h)) (l .claimed) (l .going) (l .rest) (l .inv) (some-left h)
-    (moved-to h (agentFits (cellOf (table h))) true (fits-still (c .before) ∙ kept _ (c .if5 .left)))
-    (moved-to h (λ n a. quiet (a .stage)) true (is-still (c .before .before .before .before))))
+  abbrev at : List Val × (List Val × Unit {0})
+  at = (mach h, (vint w8 m ∷ [], tt))
 
-returns-4 : tie.Need-returns-4 Inv-loop μ-loop Inv-loop2 μ-loop2
-returns-4 c =
-    let second = c .before .before .before .before .before .before .before .before in
-    let h = second .before .before .before .before .before .before .before .before .before .before .before .before .before in
-    let l = h .before .before .before .before .before .before .loop in
-    c .unsound4 .ensures
-    ∙ refused h (passed-twice (table h) (sized (table h) (good h)) (l .claimed) (l .going) (l .rest) (l .inv) (some-left h)
-    (moves (c .before .before) ∙ c .before .if6 .taken))
+  abbrev Post : Val → SProp 𝓤
+  Post = walkOf 𝓤 H A f.ended stayed (f.clauses 𝓤 H A at-mem run) .post ((tt, tt, tt, x, at), tt)
 
-loop-again-2 : tie.Need-loop-again-2 Inv-loop μ-loop Inv-loop2 μ-loop2
-loop-again-2 c =
-    let busy = c .before .before .before .before in
-    let move = busy .before .before in
-    let second = move .before .before .before .before .before .before in
-    let h = second .before .before .before .before .before .before .before .before .before .before .before .before .before in
-    let l = h .before .before .before .before .before .before .loop in
-    let x = table h in
-    let e = lowest h in
-    passed-are x
-    (c .before .insert2 .ensures
-    ∙ ap₂ inserted
-    (c .before .before .insert .ensures ∙ ap (inserted (l .claimed)) (second .before .first-held .ensures ∙ ap (λ (n : ℕ). firstHeld (agent h n)) e))
-    (second-is second ∙ ap (λ (n : ℕ). secondHeldIn (cellOf x) (agent h n)) e))
-    (c .insert3 .ensures ∙ ap (inserted (l .going)) (move .before .going-from .ensures ∙ ap (λ (n : ℕ). goingFrom (agent h n)) e))
-    (h .before .before .rest2 .ensures)
-    (passed-busy (table h) (sized (table h) (good h)) (l .claimed) (l .going) (l .rest) (l .inv) (some-left h)
-    (moved-to h (agentFits (cellOf x)) true (fits-busy busy ∙ kept _ (c .before .before .before .if7 .left))) (moves move ∙ busy .before .if6 .left))
+  exits : (r : Seen) (v : Val) → r ≡ seenOf h m → ent 𝓤 (⋆ 𝓤 H A (‵ (Seen′.the-row .own r (v ∷ [])) ∷ [])) (Post v)
+  exits r v e =
+      qed W (‵ (Seen′.the-row .own r (v ∷ [])) ∷ []) ∵
+      suffices ! _ (ends-at 𝓤 H A f.ended stayed (f.clauses 𝓤 H A at-mem run) W ((tt, tt, tt, x, at), tt) v r (tt, (tt, tt)) (tt, (tt, tt))) $ says ! e $
+      nothing ! $ frame ! $ nothing ! $ owned ! u8 (Is u8) (uint-makes 𝓤 H A W w8) m _ (refl, m-fits) $ fjoin ! $ had ! h was $ fjoin ! $ done !
 
--- once nobody is left, the floor
-returns-6 : tie.Need-returns-6 Inv-loop μ-loop Inv-loop2 μ-loop2
-returns-6 c =
-    let f = c .before .before in
-    c .unsound6 .ensures ∙ lands.refused f (lands.placed f false (not-true _ (c .before .if8 .taken)))
-
--- and then the touches and the row
-returns-9 : tie.Need-returns-9 Inv-loop μ-loop Inv-loop2 μ-loop2
-unfolding booksSound leftOf touchSum cellOf
-returns-9 c =
-    let t = c .before .before in
-    let p = t .before .before .before .before in
-    let x = lands.cell (lands.led-from p) in
-    lands.answered (lands.led-from p) _ (c .books-fit .ensures ∙ ap (λ (l : Left). l .fits && rowFits (x .order)) (t .touches-left .ensures)
-    ∙ core-holds (cellOf x) (sym (lands.led p) ∙ kept _ (t .before .before .before .if11 .left)))
+  module _ (C : Calls 𝓤 H) (Λ : Loops 𝓤 H) (fm : FmC 𝓤 H (W .laws) C) (known : Triple 𝓤 (C lent-def.name) (Sees 𝓤 H A)) where
+    walk : ent 𝓤 (onEntry 𝓤 H A f.signature tt tt x at) (WpFn 𝓤 H C Λ code.function (val h ∷ vint w8 m ∷ []) Post)
+    walk =
+        qed W (‵ ftrue ∷ ‵ (owns (R ∷ u8 ∷ []) x at) ∷ []) ∵ enter ! C Λ code.function (val h ∷ vint w8 m ∷ []) _ $
+        alloc1 ! (λ l₀. alloc1 ! (λ l₁. alloc1 ! (λ l₂. alloc1 ! (λ l₃. alloc1 ! (λ l₄. alloc0 ! $ params1 ! $ pass1 ! (init ! 6 refl (is-typed 𝓤 H A W h was .0)) $ pass1 ! (init ! 4 refl (tt, record { fits = m-fits })) $ pass0 ! $
+        move ! (10 ∷ 11 ∷ []) $ drop ! $ drop ! $
+        -- [_4 at 0; _3; …; _0 at 8]
+        assigns ! (of-opd ! (load ! (from ! (stop !)) (look ! 6 refl))) (from ! (stop !)) (init ! 2 refl (is-typed 𝓤 H A W h was .0)) $
+        assigns ! (addr ! (from ! (stop !))) (from ! (stop !)) (init ! 0 refl (tt, tt)) $
+        move ! (2 ∷ []) $ use1 W (‵ (fat fullShare (rawTy T′.mir) l₃ 0 (val h))) (W .laws .at-raw fullShare T′.mir l₃ 0 (val h)) $
+        seeing ! fm known h was l₃ 0 m m-fits (λ y i. and-then ! (load ! (from ! (stop !)) (look ! 2 refl)) (and-then ! (load ! (from ! (stop !)) (look ! 5 refl)) (no-more !))) (λ v r e is.
+        -- [what r owns; the cell; _4 at 2; the end of _3 at 4; _2 at 5; _1; _0 at 9]
+        land ! (from ! (stop !)) (init ! 9 refl (LL.lawful Seen′.the-type seen-laws.the-laws 𝓤 H A W .typed r _ is .0)) $
+        move ! (1 ∷ []) $ use1 W (‵ (fat fullShare T′.mir l₃ 0 (val h))) (W .laws .raw-at fullShare T′.mir l₃ 0 (val h)) $
+        returns ! (look ! 9 refl) $ forget ! 0 refl $ forget ! 2 refl $ forget ! 5 refl $ forget ! 7 refl $ forget ! 9 refl $
+        move ! (9 ∷ 10 ∷ 7 ∷ 8 ∷ 5 ∷ 6 ∷ 0 ∷ 4 ∷ 2 ∷ 3 ∷ []) $ freed ! $ by ! (exits r v e)))))))
 
 pub see-spec : {M : Type 1} → statement M
-see-spec =
-    tie.close
-    (tie.spec Inv-loop μ-loop Inv-loop2 μ-loop2
-    (λ c κs. tt) (λ c. omega arith) (λ c. omega arith) loop-holds
-    -- the agent of the turn: its home and its row
-    (λ c κs. tt) (λ c κs. tt)
-    (λ c. let h = small c in omega arith) (λ c. let h = small c in omega arith) (λ c. let h = small c in omega arith)
-    (λ c κs. tt) (λ c κs. tt) returns (λ c κs. tt) (λ c κs. tt) returns-2
-    -- asleep, done or about to look
-    (λ c κs. tt) (λ c κs. tt) (λ c κs. tt)
-    (λ c κs. tt)
-    (λ c.
-    c .unsound3 .ensures
-    ∙ unfit (c .before .before .before .before .before .before .before .before .before .before .before .before)
-    (fits-still (c .before .before) ∙ not-true _ (c .before .if5 .taken)))
-    (λ c. fewer (c .before .before .before .before .before .before .before .before .before .before .before)) loop-again
-    -- with locks or on its way
-    (λ c κs. tt) (λ c. omega arith) (λ c. omega arith) (λ c κs. tt) (λ c. omega arith) (λ c. omega arith) (λ c κs. tt) (λ c κs. tt) (λ c κs. tt)
-    (λ c κs. tt) (λ c. omega arith) (λ c. omega arith) (λ c κs. tt) (λ c κs. tt) (λ c κs. tt) returns-4
-    (λ c κs. tt)
-    (λ c κs. tt)
-    (λ c.
-    let second = c .before .before .before .before .before .before .before .before .before .before in
-    c .unsound5 .ensures
-    ∙ unfit (second .before .before .before .before .before .before .before .before .before .before .before .before .before)
-    (fits-busy (c .before .before) ∙ not-true _ (c .before .if7 .taken)))
-    (λ c κs. tt) (λ c κs. tt) (λ c κs. tt)
-    (λ c.
-    let second = c .before .before .before .before .before .before .before .before .before .before .before .before in
-    fewer (second .before .before .before .before .before .before .before .before .before .before .before .before .before)) loop-again-2
-    -- nobody is left: the floor, the other places, the touches and the row
-    (λ c. omega arith) (λ c. omega arith) (λ c κs. tt) (λ c κs. tt) returns-6
-    (λ c κs. tt) lands.loop2-holds (λ c κs. tt) (λ c κs. tt)
-    (λ c. let h = lands.small c in omega arith) (λ c. let h = lands.small c in omega arith) (λ c. let h = lands.small c in omega arith)
-    (λ c. let h = lands.small (c .before) in omega arith) (λ c κs. tt) (λ c κs. tt) (λ c κs. tt) (λ c κs. tt) (λ c κs. tt) lands.returns-7
-    (λ c. let h = lands.small (c .before .before .before .before .before .before .before) in omega arith) (λ c κs. tt)
-    lands.loop2-less lands.loop2-again lands.all-lead-requires (λ c κs. tt) lands.returns-8 (λ c κs. tt) (λ c κs. tt) returns-9)
+unfolding code.routine
+see-spec 𝓤 H 𝓜 𝓖 𝓡 =
+    exported 𝓤 H 𝓜 𝓖 𝓡 code.env name code.function f.ended stayed (f.clauses 𝓤 H (𝓖 .A) (𝓜 .mem) (𝓡 .run)) (code.unfolded 𝓤 H 𝓜 𝓡)
+    (goes-none 𝓤 H (𝓖 .A) (givenOf 𝓤 H 𝓜 𝓖) 0 (λ _. R) yes (λ κs x f. refl), (goes-none 𝓤 H (𝓖 .A) (givenOf 𝓤 H 𝓜 𝓖) 0 (λ _. u8) yes (λ κs x f. refl), tt))
+    (λ κs. (LL.vals T.the-type T′.the-laws, (uint-vals w8, tt))) (λ κs. (LL.tells T.the-type T′.the-laws, (uint-tells w8, tt)))
+    (λ fm κs qs bounds a _ are. walk 𝓤 H (𝓖 .A) (givenOf 𝓤 H 𝓜 𝓖) (𝓜 .mem) (𝓡 .run) (a .0) (a .1 .0) (are .0) (are .1 .0 .1) (tables 𝓤 H 𝓜 𝓡 code.env .C) (tables 𝓤 H 𝓜 𝓡 code.env .Λ) fm
+    (cited 𝓤 H (Sees 𝓤 H (𝓖 .A)) 𝓜 𝓡 code.env lent-def.name lent-def.routine code.calls-soundness·walks·see-lent (lent-thm.met 𝓤 H 𝓜 𝓖 𝓡)))

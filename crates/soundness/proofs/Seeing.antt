@@ -1,5 +1,5 @@
--- The call of `seen`, which has a cell by reference, as one step of the walks of the exports.
---     Sees           the contract of `seen`
+-- The call of `see_lent`, which has a cell by reference, as one step of the walks of the exports.
+--     Sees           the contract of `see_lent`
 --     seeing         a cell that is open is lent for the call, and comes back as it was
 --     seeing-lent    a `&Cell` is passed on, and kept
 --     unless         an `if` with no `else`, which follows such a call
@@ -24,11 +24,11 @@ use denote.Struct.Laws as LL
 use Rattle.table.specs.declared.Cell.{Cell}
 use Rattle.table.proofs.Cell as T
 use Rattle.table.proofs.Cell.Laws as T′
 use Rattle.soundness.specs.declared.sound.Seen.{Seen}
 use Rattle.soundness.specs.Seen.{seenOf}
 use Rattle.soundness.proofs.sound.Seen as Seen′
-use Rattle.lending.proofs.Walk.{_≡_, refl, ℕ, _<_, _^_, List, [], _∷_, URA, fullShare, named, w8, Val, vint, vptr, ent, emp, id⊢, GName, Lft, Share, ftrue, flft, fres, fshr-bor, Heap, Calls, Loops, Atoms, fact, Given, ‵, raw, _⊛_, ⋆, _$_, _∵_, !, qed, move, drop, use1, split, join, fsplit, fjoin, fjoin3, feqI, done, FmC, Is, partAt, uint-makes, u8, ShrRef, plain, owned, nothing, Contract, Triple, tripleOf, yes}
-use Rattle.lending.proofs.Lent.{R, mach, had, called}
+use Rattle.lent.proofs.Walk.{_≡_, refl, ℕ, _<_, _^_, List, [], _∷_, URA, fullShare, named, w8, Val, vint, vptr, ent, emp, id⊢, GName, Lft, Share, ftrue, flft, fres, fshr-bor, Heap, Calls, Loops, Atoms, fact, Given, ‵, raw, _⊛_, ⋆, _$_, _∵_, !, qed, move, drop, use1, split, join, fsplit, fjoin, fjoin3, feqI, done, FmC, Is, partAt, uint-makes, u8, ShrRef, plain, owned, nothing, Contract, Triple, tripleOf, yes}
+use Rattle.lent.proofs.Lent.{R, mach, had, called}
 
 -- a function of a lent cell and a number, which sees
 abbrev pub of-seen : Ended
@@ -69,7 +69,7 @@ module _ {M : Type 1} {𝓤 : URA M} {H : Heap 𝓤} {A : Atoms 𝓤} {K : Type 
       -- [the cell; what it owns; true; what r owns; …; …]
       move t (1 ∷ 2 ∷ 4 ∷ []) $ drop t $ drop t $ drop t $ move t (1 ∷ 0 ∷ []) $ k v r e is))))
 
-  -- a `&Cell` is passed on to `seen`, and kept
+  -- a `&Cell` is passed on to `see_lent`, and kept
   pub seeing-lent : K → FmC 𝓤 H (W .laws) C → Triple 𝓤 (C g) (Sees 𝓤 H A) → {κ : Lft} {q : Share} {γ : GName} (h : Cell) (b o m : ℕ) → m < 2 ^ 8
       → ((y : Sees 𝓤 H A .Ghost) → Opds K W (raw (Sees 𝓤 H A .pre y) ∷ ‵ (fres γ (R .coded .code h)) ∷ ‵ (fshr-bor κ (λ s. partAt R s h b o)) ∷ Γ) E xs (vptr b o ∷ vint w8 m ∷ []))
       → ((v : Val) (r : Seen) → r ≡ seenOf h m → Is Seen′.the-row r (v ∷ []) → Seq K W (‵ (flft κ q) ∷ ‵ (fres γ (R .coded .code h)) ∷ ‵ (fshr-bor κ (λ s. partAt R s h b o)) ∷ Γ) (lands C Λ E d v rest p))

@@ -5,7 +5,7 @@
 use base.Fml.{froom, fdies}
 use prog.Wp.{Env}
 use types.Kit.{Item, Goal, Step, step, frees}
-use Rattle.lending.proofs.Walk.{List, [], _∷_, URA, Heap, Atoms, Given, ‵, _$_, free1, free0}
+use Rattle.lent.proofs.Walk.{List, [], _∷_, URA, Heap, Atoms, Given, ‵, _$_, free1, free0}
 
 abbrev pub rooms : {M : Type 1} (𝓤 : URA M) (H : Heap 𝓤) → Env 𝓤 H → List (Item 𝓤) → List (Item 𝓤)
 rooms 𝓤 H [] Γ = Γ

@@ -23,7 +23,7 @@ use denote.Shadow.{shadow}
 use denote.Array.{Array, arrayVal, each as each-of}
 use denote.Struct.Field.{Field}
 use denote.Struct.Laws.{FLaws}
-use Rattle.lending.proofs.Walk.{_≡_, refl, sym, ap, subst, _∙_, ℕ, _<_, List, [], _∷_, URA, Val, SProp, ent, Share, fat, Heap, Atoms, Given, ‵, raw, _⊛_, _$_, _∵_, !, qed, move, use1, split, frame, done, Is}
+use Rattle.lent.proofs.Walk.{_≡_, refl, sym, ap, subst, _∙_, ℕ, _<_, List, [], _∷_, URA, Val, SProp, ent, Share, fat, Heap, Atoms, Given, ‵, raw, _⊛_, _$_, _∵_, !, qed, move, use1, split, frame, done, Is}
 
 -- ---- lists
 

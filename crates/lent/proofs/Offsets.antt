@@ -4,6 +4,7 @@ use Prim.Native.Nat.{ℕ}
 use mir.Syntax.{Ty, tyInt, w64}
 use prog.Memory.{size, fieldOf}
 use Rattle.table.proofs.Agent.Laws as agent-laws
+use Rattle.table.proofs.Place.Laws as place-laws
 use Rattle.table.proofs.Cell.Laws as T′
 
 -- where a field starts
@@ -11,17 +12,35 @@ abbrev startOf : Option (Ty × ℕ) → ℕ
 startOf none = 0
 startOf (some f) = f .1
 
--- which fields the locks, the agents and the touches are
+-- which fields the places, the locks, the agents, the two sets, the touches and the row are
+abbrev pub placesField : ℕ
+placesField = 0
+
 abbrev pub locksField : ℕ
 locksField = 1
 
 abbrev pub agentsField : ℕ
 agentsField = 2
 
+abbrev pub usedField : ℕ
+usedField = 3
+
+abbrev pub givenField : ℕ
+givenField = 4
+
 abbrev pub touchesField : ℕ
 touchesField = 5
 
--- where they start, and how long an agent and a count of touches are
+abbrev pub orderField : ℕ
+orderField = 6
+
+-- where the arrays start, and how long a place, an agent and a count of touches are
+abbrev pub placesAt : ℕ
+placesAt = startOf (fieldOf T′.mir placesField)
+
+abbrev pub placeSize : ℕ
+placeSize = size place-laws.mir
+
 abbrev pub locksAt : ℕ
 locksAt = startOf (fieldOf T′.mir locksField)
 
