@@ -31,6 +31,12 @@
 **     answer = keeper_step(&cell, agent, wish);
 **     if (keeper_refusal(answer) == 0)
 **         printf("%s, %u woken\n", keeper_word_name(keeper_word(answer)), keeper_woken(answer));
+**     answer = keeper_ask(&cell, agent, wish);
+**     if (keeper_refusal(answer) == 0 && keeper_word(answer) == KEEPER_LEFT)
+**         park_the_gripper_over(cell.agents[agent].home);
+**     answer = keeper_commit(&cell, agent, wish, answer);
+**     if (keeper_refusal(answer) == KEEPER_ANSWER_DIFFERS)
+**         printf("another step came between: ask again\n");
 **     answer = keeper_touch(&cell, place, touches);
 **     if (keeper_refusal(answer) == 0)
 **         printf("%llu touches\n", (unsigned long long)keeper_count(answer));
@@ -47,7 +53,8 @@
 **     every bit pattern, and refuses one that is not a sound table with 10, but it does read it.
 **   - A file or text lent together with a cell does not overlap it.
 **   - During the call no other thread writes what is lent, nor reads what the call may write. So calls on different cells may run at the same
-**     time; and on one cell those that only read it (keeper_list, keeper_check, keeper_idle, keeper_touches), each with a text of its own.
+**     time; and on one cell those that only read it (keeper_ask, keeper_list, keeper_check, keeper_idle, keeper_touches), each with a text of its
+**     own.
 **   - The stack has room for KEEPER_STACK bytes.
 */
 #ifndef KEEPER_H
@@ -69,7 +76,7 @@ extern "C" {
 ** call, a word, a refusal. The patch number changes with anything else.
 */
 #define KEEPER_MAJOR 5
-#define KEEPER_MINOR 1
+#define KEEPER_MINOR 2
 #define KEEPER_PATCH 0
 #define KEEPER_VERSION (KEEPER_MAJOR * 65536 + KEEPER_MINOR * 256 + KEEPER_PATCH)
 
@@ -80,6 +87,9 @@ extern "C" {
 
 /* The lock of a place that no agent holds. */
 #define KEEPER_FREE 64
+
+/* What keeper_ask tells where there is no chosen place. */
+#define KEEPER_NONE_CHOSEN 255
 
 /* The touches that the places in use may have together, at most. */
 #define KEEPER_TOUCHES_MOST 1000000000000
@@ -174,11 +184,12 @@ KEEPER_ASSERT(offsetof(keeper_cell, locks) == 640 && offsetof(keeper_cell, agent
 KEEPER_ASSERT(offsetof(keeper_cell, used) == 5184 && offsetof(keeper_cell, given) == 5192, "keeper_cell");
 KEEPER_ASSERT(offsetof(keeper_cell, touches) == 5200 && offsetof(keeper_cell, order) == 5712, "keeper_cell");
 
-/* The numbers with which a call is refused, and what to do about each (more on it: docs/MEANING.md, section 7). Of a cell file, 3 is for the number that a place record gives, 13 for a parent (of a place) or
-** home (of an agent), 14 for the number of an agent, in an agent or an action record; of the three the earlier byte in the record decides. A
-** step for an agent above 63 is 11. Of touches, in a record and in a call, 3 is for a place above 63, and 5 for one that is not there. A
-** place record with keys (kind 6) is tested as one without (kind 1); 6 is for its name alone, and its keys may be any numbers. 16 and 17 are
-** keeper_read's, and it has no others. */
+/* The numbers with which a call is refused, and what to do about each (more on it: docs/MEANING.md, section 7). Of a cell file, 3 is for
+** the number that a place record gives, 13 for a parent (of a place) or home (of an agent), 14 for the number of an agent, in an agent or
+** an action record; of the three the earlier byte in the record decides. A step, an ask or a commit for an agent above 63 is 11. Of
+** touches, in a record and in a call, 3 is for a place above 63, and 5 for one that is not there. A place record with keys (kind 6) is
+** tested as one without (kind 1); 6 is for its name alone, and its keys may be any numbers. 16 and 17 are keeper_read's, and it has no
+** others. 18 is keeper_commit's. */
 enum {
     KEEPER_CUT_SHORT = 1,           /* copy the file anew; put the byte 4 at its end */
     KEEPER_UNKNOWN_KIND = 2,        /* look at the record before it too: a byte too many or too few there shifts all that follows */
@@ -197,10 +208,11 @@ enum {
     KEEPER_AGENT_TOO_LARGE = 14,    /* look at the record's second byte, and number agents 0 to 63 */
     KEEPER_TOO_MANY_TOUCHES = 15,   /* no line comes near that many: find out who adds them */
     KEEPER_OUTSIDE_LANGUAGE = 16,   /* show the text with a caret under the offset's byte: all bytes before it are right */
-    KEEPER_TOO_MANY = 17            /* leave something out: the text itself is right, but the layout is too large for one cell */
+    KEEPER_TOO_MANY = 17,           /* leave something out: the text itself is right, but the layout is too large for one cell */
+    KEEPER_ANSWER_DIFFERS = 18      /* ask again: since the ask, or for this number, the step would answer otherwise */
 };
 
-/* The words that a step answers. */
+/* The words that a step answers, an ask tells and a commit answers. */
 enum {
     KEEPER_LOOKED = 0,
     KEEPER_TOOK = 1,
@@ -216,9 +228,10 @@ enum {
 
 /*
 ** What a call answers, in one number: bits 0 to 7 are 0, or the number with which the call was refused. The bits above are, for
-** keeper_load and keeper_read, the offset of a refusal; for keeper_step, the word (bits 8 to 15) and the number woken (bits 16 to 23); for
-** keeper_list, the length; for keeper_idle, 1 if all agents are asleep or done; for keeper_touch and keeper_touches, the place's touch
-** count. The functions at the end of this file take it apart.
+** keeper_load and keeper_read, the offset of a refusal; for keeper_step and keeper_commit, the word (bits 8 to 15) and the number woken (bits
+** 16 to 23); for keeper_ask, these two and the chosen place (bits 24 to 31); for keeper_list, the length; for keeper_idle, 1 if all agents
+** are asleep or done; for keeper_touch and keeper_touches, the place's touch count. Where nothing is named, a bit is 0. The functions at the
+** end of this file take it apart.
 */
 typedef uint64_t keeper_answer;
 
@@ -327,6 +340,46 @@ keeper_answer keeper_read(keeper_cell *cell, const uint8_t *text, size_t length)
 keeper_answer keeper_step(keeper_cell *cell, uint8_t agent, uint8_t wish);
 
 /*
+** keeper_ask: what keeper_step with this agent and this wish would answer, and which place it would choose. No step is made; the cell is only
+** read. It is for a host that has something to do before a step is made, such as to park a gripper before the place under it leaves:
+**
+**     keeper_answer asked = keeper_ask(&cell, agent, wish);       what would it do?
+**     if keeper_word(asked) is KEEPER_LEFT                         the agent's own place, cell.agents[agent].home, would leave
+**         park the gripper                                         which takes time; other agents may step meanwhile
+**     keeper_answer answer = keeper_commit(&cell, agent, wish, asked);
+**     if keeper_refusal(answer) is KEEPER_ANSWER_DIFFERS           it would do something else now, and has done nothing
+**         ask again
+**
+** Answers, in keeper_word(answer) and keeper_woken(answer), what keeper_step would answer there, and in keeper_chosen(answer) the place: the
+** one that an enter would enter or that an open would open. It is told where the agent holds its first lock (stage 2) and its action fires,
+** also where the word is held, and where it holds both (stage 3) and its action still fires. Everywhere else, and for every exit, it is
+** KEEPER_NONE_CHOSEN: where the agent has not come so far, is on its way, sleeps or is done, and where the word is slept or back. The number
+** as a whole is
+**
+**     bits 0 to 7      0, or the refusal
+**     bits 8 to 15     the word
+**     bits 16 to 23    how many sleeping agents it would wake
+**     bits 24 to 31    the chosen place, or KEEPER_NONE_CHOSEN
+**
+** and 0 above. Refused with 10 where the table is unsound, else with 11 where no such agent is in the cell.
+*/
+keeper_answer keeper_ask(const keeper_cell *cell, uint8_t agent, uint8_t wish);
+
+/*
+** keeper_commit: makes the step of this agent with this wish, if it is still the one that was asked for. `asked` is the very number that
+** keeper_ask answered for the same agent and wish; a host hands it back and need not read it.
+**
+** If keeper_ask would answer that number now, this is keeper_step with this agent and this wish, in what it answers and in what it does. So a
+** commit right after its ask is always that step; a commit of held, asleep or done goes through and changes nothing; and what happened between
+** the two, steps of others or touch calls, does not matter where the answer is still the same. If keeper_ask would answer another number, the
+** commit is refused with 18 and the cell is as it was. A number that no ask gives, such as one with a word that there is none of, is 18 too.
+**
+** Refused with 10 where the table is unsound, else with 11 where no such agent is in the cell, else with 18; then the cell is as it was. So a
+** refused ask may be handed back as well.
+*/
+keeper_answer keeper_commit(keeper_cell *cell, uint8_t agent, uint8_t wish, keeper_answer asked);
+
+/*
 ** keeper_list: writes the listing of the cell, in ASCII and without a closing zero byte, to text[0] and on. `room` is how many bytes may
 ** be written there. A place whose three keys are its name is written as `7[]`, any other with its keys for entering, exiting and opening
 ** after the name, as `7/8/9/0[]`.
@@ -349,7 +402,7 @@ keeper_answer keeper_list(const keeper_cell *cell, uint8_t *text, size_t room);
 
 /*
 ** keeper_check: whether the table is sound. A cell that keeper_bare or an accepted keeper_load or keeper_read wrote, and that only
-** keeper_step and keeper_touch have changed since, always is.
+** keeper_step, keeper_commit and keeper_touch have changed since, always is.
 **
 ** Answers 0 if it is sound; refused with 10 if it is not. The cell is only read.
 */
@@ -386,11 +439,14 @@ static inline unsigned keeper_refusal(keeper_answer answer) { return (unsigned)(
 /* The offset at which keeper_load refused the file, or keeper_read the text. */
 static inline size_t keeper_offset(keeper_answer answer) { return (size_t)(answer >> 8); }
 
-/* The word that keeper_step answers. */
+/* The word that keeper_step or keeper_commit answers, or that keeper_ask tells. */
 static inline unsigned keeper_word(keeper_answer answer) { return (unsigned)(answer >> 8 & 255); }
 
-/* How many agents the step woke. */
+/* How many agents the step woke, or, where keeper_ask tells it, would wake. */
 static inline unsigned keeper_woken(keeper_answer answer) { return (unsigned)(answer >> 16 & 255); }
+
+/* The chosen place that keeper_ask tells, or KEEPER_NONE_CHOSEN. */
+static inline unsigned keeper_chosen(keeper_answer answer) { return (unsigned)(answer >> 24 & 255); }
 
 /* The length of the listing that keeper_list wrote. */
 static inline size_t keeper_length(keeper_answer answer) { return (size_t)(answer >> 8); }
@@ -440,6 +496,7 @@ static inline const char *keeper_refusal_text(unsigned refusal)
     case KEEPER_TOO_MANY_TOUCHES: return "more than 1,000,000,000,000 touches in all";
     case KEEPER_OUTSIDE_LANGUAGE: return "not a text of the listing's language";
     case KEEPER_TOO_MANY: return "more than 63 places, 64 agents or sixteen actions of one agent";
+    case KEEPER_ANSWER_DIFFERS: return "the step would answer otherwise";
     default: return "unknown";
     }
 }

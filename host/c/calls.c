@@ -108,6 +108,8 @@ static void steps(keeper_cell *cell)
     HOLDS(keeper_step(cell, 2, 0) == KEEPER_NO_SUCH_AGENT);
     HOLDS(keeper_step(cell, 64, 0) == KEEPER_NO_SUCH_AGENT);
     HOLDS(keeper_step(cell, 255, 0) == KEEPER_NO_SUCH_AGENT);
+    HOLDS(keeper_ask(cell, 64, 0) == KEEPER_NO_SUCH_AGENT && keeper_commit(cell, 64, 0, 0) == KEEPER_NO_SUCH_AGENT);
+    HOLDS(keeper_commit(cell, 0, 0, 0) == KEEPER_ANSWER_DIFFERS);
     HOLDS(memcmp(cell, &before, sizeof before) == 0);
 }
 
@@ -144,6 +146,7 @@ static void unsound(keeper_cell *cell)
     HOLDS(keeper_check(cell) == KEEPER_UNSOUND);
     HOLDS(keeper_idle(cell) == KEEPER_UNSOUND);
     HOLDS(keeper_step(cell, 64, 0) == KEEPER_UNSOUND);
+    HOLDS(keeper_ask(cell, 64, 0) == KEEPER_UNSOUND && keeper_commit(cell, 64, 0, UINT64_MAX) == KEEPER_UNSOUND);
     HOLDS(keeper_touch(cell, 64, 1) == KEEPER_UNSOUND && keeper_touches(cell, 64) == KEEPER_UNSOUND);
     HOLDS(keeper_list(cell, text, 0) == KEEPER_UNSOUND && keeper_list(cell, text, 2) == KEEPER_UNSOUND);
     HOLDS(memcmp(cell, &before, sizeof before) == 0 && text[0] == 1 && text[1] == 2);
@@ -222,9 +225,10 @@ static void texts(void)
     HOLDS(strcmp(keeper_refusal_text(KEEPER_AGENT_TOO_LARGE), "agent number above 63") == 0);
     HOLDS(strcmp(keeper_refusal_text(KEEPER_OUTSIDE_LANGUAGE), "not a text of the listing's language") == 0);
     HOLDS(strcmp(keeper_refusal_text(KEEPER_TOO_MANY), "more than 63 places, 64 agents or sixteen actions of one agent") == 0);
-    for (unsigned refusal = 1; refusal <= 17; refusal++)
+    HOLDS(strcmp(keeper_refusal_text(KEEPER_ANSWER_DIFFERS), "the step would answer otherwise") == 0);
+    for (unsigned refusal = 1; refusal <= 18; refusal++)
         HOLDS(strcmp(keeper_refusal_text(refusal), "unknown") != 0);
-    HOLDS(strcmp(keeper_refusal_text(0), "unknown") == 0 && strcmp(keeper_refusal_text(18), "unknown") == 0);
+    HOLDS(strcmp(keeper_refusal_text(0), "unknown") == 0 && strcmp(keeper_refusal_text(19), "unknown") == 0);
     HOLDS(strcmp(keeper_word_name(8), "unknown") == 0);
 }
 

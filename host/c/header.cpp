@@ -29,6 +29,13 @@ int main()
         return 1;
     if (keeper_count(keeper_touch(&cell, 1, 5)) != 5 || keeper_count(keeper_touches(&cell, 1)) != 5)
         return 1;
+    if (keeper_read(&cell, reinterpret_cast<const uint8_t *>("7[enter 9]"), 10) != 0)
+        return 1;
+    const keeper_answer asked = keeper_ask(&cell, 0, 255);
+    if (keeper_word(asked) != KEEPER_LOOKED || keeper_chosen(asked) != KEEPER_NONE_CHOSEN || keeper_commit(&cell, 0, 255, asked) != 0)
+        return 1;
+    if (keeper_refusal(keeper_commit(&cell, 0, 255, asked)) != KEEPER_ANSWER_DIFFERS)
+        return 1;
     std::puts("1 passed, 0 failed");
     return 0;
 }

@@ -13,6 +13,11 @@ keeper_answer keeper_bare(keeper_cell *cell) { (void)cell, abort(); }
 keeper_answer keeper_load(keeper_cell *cell, const uint8_t *file, size_t len) { (void)cell, (void)file, (void)len, abort(); }
 keeper_answer keeper_read(keeper_cell *cell, const uint8_t *text, size_t length) { (void)cell, (void)text, (void)length, abort(); }
 keeper_answer keeper_step(keeper_cell *cell, uint8_t agent, uint8_t wish) { (void)cell, (void)agent, (void)wish, abort(); }
+keeper_answer keeper_ask(const keeper_cell *cell, uint8_t agent, uint8_t wish) { (void)cell, (void)agent, (void)wish, abort(); }
+keeper_answer keeper_commit(keeper_cell *cell, uint8_t agent, uint8_t wish, keeper_answer asked)
+{
+    (void)cell, (void)agent, (void)wish, (void)asked, abort();
+}
 keeper_answer keeper_list(const keeper_cell *cell, uint8_t *text, size_t room) { (void)cell, (void)text, (void)room, abort(); }
 keeper_answer keeper_check(const keeper_cell *cell) { (void)cell, abort(); }
 keeper_answer keeper_idle(const keeper_cell *cell) { (void)cell, abort(); }

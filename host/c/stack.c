@@ -1,8 +1,8 @@
 /*
 ** How much stack the calls use: each runs in a thread whose stack was filled with a pattern, and what has lost it below the caller was
 ** used. The cells are full: all places in each other, side by side, or in a chain with one beside each, numbered against the order in
-** which they are listed; all agents with sixteen actions. All agents step, many times. A listing is also made in a room that not every
-** listing fits, and each listing is read back.
+** which they are listed; all agents with sixteen actions. All agents step, many times; each step is also asked for before, and committed on
+** a copy. A listing is also made in a room that not every listing fits, and each listing is read back.
 */
 #define _POSIX_C_SOURCE 200809L
 #include "../keeper.h"
@@ -14,7 +14,8 @@
 
 #define ROOM (1024 * 1024)
 #define PATTERN 0xA5
-#define CALLS 10
+#define CALLS 12
+#define STEPPING 3 /* the last ones: ask, commit and step */
 
 static keeper_cell cell;
 static uint8_t file[KEEPER_FILE_LONGEST];
@@ -22,11 +23,14 @@ static size_t file_length;
 static uint8_t text[KEEPER_LISTING_LONGEST];
 static size_t text_length;
 static uint8_t agent; /* or the place of a touch call */
+static keeper_answer asked;
 
 static void bare(void) { keeper_bare(&cell); }
 static void load(void) { keeper_load(&cell, file, file_length); }
 static void read(void) { keeper_read(&cell, text, text_length); }
 static void step(void) { keeper_step(&cell, agent, 255); }
+static void ask(void) { asked = keeper_ask(&cell, agent, 255); }
+static void commit(void) { keeper_commit(&cell, agent, 255, asked); }
 static void list(void) { keeper_list(&cell, text, sizeof text); }
 static void list_short(void) { keeper_list(&cell, text, sizeof text - 1); }
 static void check(void) { keeper_check(&cell); }
@@ -103,8 +107,9 @@ static void make_file(int shape, uint8_t kind)
 int main(void)
 {
     size_t used[CALLS] = {0};
-    void (*const calls[CALLS])(void) = {bare, load, check, idle, list, list_short, read, touch, touches, step};
-    const char *const names[CALLS] = {"bare", "load", "check", "idle", "list", "list in a short room", "read", "touch", "touches", "step"};
+    void (*const calls[CALLS])(void) = {bare, load, check, idle, list, list_short, read, touch, touches, ask, commit, step};
+    const char *const names[CALLS] = {"bare", "load",  "check",   "idle", "list",   "list in a short room",
+                                      "read", "touch", "touches", "ask",  "commit", "step"};
     size_t most = 0;
 
     if (!keeper_fits())
@@ -116,10 +121,15 @@ int main(void)
             agent = 63;
             keeper_load(&cell, file, file_length);
             text_length = keeper_length(keeper_list(&cell, text, sizeof text));
-            for (int call = 1; call < CALLS - 1; call++)
+            for (int call = 1; call < CALLS - STEPPING; call++)
                 measure(calls[call], &used[call]);
             for (int turn = 0; turn < 8 * 64; turn++) {
+                keeper_cell before = cell;
+
                 agent = (uint8_t)(turn / 8);
+                measure(ask, &used[CALLS - 3]);
+                measure(commit, &used[CALLS - 2]);
+                cell = before;
                 measure(step, &used[CALLS - 1]);
             }
         }

@@ -103,6 +103,21 @@ typed_of 'a long text that stops early' "$ten$forty$forty" "$order" "refused 16 
 many=$(awk 'BEGIN { for (i = 0; i < 64; i++) printf "7[%s", i < 63 ? "] | " : "]" }')
 typed_of 'too many places' "$many" "$order" "refused 17 $((64 * 6 - 3))\n$(printf '%s' "$many" | tail -c 40)\n$under\n"
 
+# with a gripper each step is asked for and committed; a line says where the gripper was parked between the two
+printf "$cell" > "$folder/cell"
+printf "$order"'\100\000' > "$folder/order"
+parked=$(printf '%s' "$lines" | sed 's/0 left 0/gripper parked: place 1 will leave for place 2\\n0 left 0/')
+printf "start 7[enter 9] | 9[exit 7]\n${parked}64 refused 11\nend 9[exit 7 | 7[]]\n" > "$folder/expected"
+printf 'open 7 | 7[8[6[exit 8]]]' > "$folder/text"
+printf '\000\377\000\377\000\377\000\377\001\377\001\377\001\377\001\377' > "$folder/steps"
+printf 'start open 7 | 7[8[6[exit 8]]]\n0 looked 0\n0 took 0\n0 took 0\ngripper parked: place 1 will be opened\n0 opened 0\n' > "$folder/opened"
+printf '1 looked 0\n1 took 0\n1 took 0\ngripper parked: place 3 will leave\n1 left 0\nend 6[] | 8[]\n' >> "$folder/opened"
+for program in target/walk target/walk-sanitized; do
+    "$program" --gripper "$folder/cell" "$folder/order" | cmp - "$folder/expected" || exit 1
+    "$program" --gripper --text "$folder/text" "$folder/steps" | cmp - "$folder/opened" || exit 1
+    passed=$((passed + 2))
+done
+
 # a typed text that cannot be read, or is too long to be read whole, is not run
 awk 'BEGIN { for (i = 0; i < 65536; i++) printf "[" }' > "$folder/long"
 for program in target/walk target/walk-sanitized; do
@@ -141,7 +156,7 @@ if [ "$status" -ne 1 ] || [ -s "$folder/printed" ]; then
 fi
 passed=$((passed + 1))
 
-for program in calls calls-sanitized served served-sanitized keys keys-sanitized layouts layouts-sanitized texts texts-sanitized header; do
+for program in calls calls-sanitized ask ask-sanitized served served-sanitized keys keys-sanitized layouts layouts-sanitized texts texts-sanitized header; do
     printf '%s: ' "$program"
     "target/$program"
     passed=$((passed + 1))

@@ -1,6 +1,6 @@
--- What an ask tells, of the step that was decided.
+-- What an ask tells, of the step that was decided, and the decision carried out if that is still so.
 use Prim.Native.Nat.{ℕ}
-use mathlib.Core.Bool.{cond}
+use mathlib.Core.Bool.{Bool, true, cond}
 use lib.Dec.{eqb}
 use Rattle.table.specs.Cell.{State, cellOf, kindOf, exitKind}
 use Rattle.table.specs.declared.Agent.{Agent}
@@ -9,8 +9,12 @@ use Rattle.meaning.specs.declared.Answer.{Answer}
 use Rattle.meaning.specs.declared.Answer.the-variants.{Did, Refused}
 use Rattle.meaning.specs.declared.Asked.{Asked}
 use Rattle.meaning.specs.declared.Asked.the-variants.{Would, Unasked}
-use Rattle.meaning.specs.Ask.{noneTold}
-use Rattle.moves.specs.Motions.{wokenIn}
+use Rattle.meaning.specs.declared.Stepped.{Stepped}
+use Rattle.meaning.specs.Ask.{noneTold, handsBack}
+use Rattle.meaning.specs.Refusals.{answerDiffers}
+use Rattle.meaning.specs.Run.{made, turnedAway}
+use Rattle.moves.specs.Motions.{shifted, wokenIn}
+use Rattle.step.specs.Decided.{settled, carriedOut}
 use Rattle.step.specs.declared.Decision.{Decision}
 
 -- the chosen place of agent a; exit has none
@@ -26,6 +30,33 @@ abbrev pub tellOf : Answer → ℕ → ℕ → Asked
 tellOf (Did w n) woken place = Would w woken place
 tellOf (Refused number) woken place = Unasked number
 
--- what an ask of agent a tells of the decision d on a table
-unfoldable pub askedOf : Cell → Agent → Decision → Asked
-askedOf t a d = tellOf (d .answer) (wokenBy (cellOf t) d) (toldBy a (d .chosen))
+-- what an ask tells of the decision d on a table; the agent has the kind of action that it had before
+unfoldable pub askedOf : Cell → Decision → Asked
+askedOf t d = tellOf (d .answer) (wokenBy (cellOf t) d) (toldBy (d .agent) (d .chosen))
+
+-- the decision for agent x carried out, if what was told is still so
+unfoldable pub madeIf : Bool → Cell → ℕ → Decision → Stepped
+madeIf same t x d = cond same (carriedOut t x d) (turnedAway t answerDiffers)
+
+-- an answer and a place, as an ask tells them
+abbrev pub sayOf : Answer → ℕ → Asked
+sayOf (Did w n) place = Would w n place
+sayOf (Refused number) place = Unasked number
+
+-- a step of agent a that answers so goes on: any does, or the one of which an ask gives the number n
+abbrev pub goesOn : Bool → Answer → Agent → ℕ → ℕ → Bool
+goesOn any said a chosen n = cond any true (handsBack (sayOf said (toldBy a chosen)) n)
+
+-- a step that was decided and made, if it goes on; 18 otherwise
+abbrev pub onlyIf : Cell → Decision → Bool → ℕ → Stepped → Stepped
+onlyIf t d any n s = cond (goesOn any (s .answer) (d .agent) (d .chosen) n) s (turnedAway t answerDiffers)
+
+-- so the motion of a decision for agent x, the agent and the locks, and the decision carried out
+unfoldable pub movedIf : Cell → ℕ → Decision → Bool → ℕ → Stepped
+movedIf t x d any n = onlyIf t d any n (made (shifted (cellOf t) x (d .agent) (d .motion)))
+
+unfoldable pub settledIf : Cell → ℕ → Decision → Bool → ℕ → Stepped
+settledIf t x d any n = onlyIf t d any n (record { cell = settled t x (d .agent) (d .locks); answer = d .answer })
+
+unfoldable pub carriedIf : Cell → ℕ → Decision → Bool → ℕ → Stepped
+carriedIf t x d any n = onlyIf t d any n (carriedOut t x d)

@@ -1,6 +1,6 @@
--- What is told of the decision is what the step would give; and what a commit does, told so.
+-- What is told of the decision is what the step would give; and the decision carried out if that is still so is a commit.
 -- Idea: the place is read off the change that the stage decides; word and number woken are those of the change, carried out.
-use mathlib.Core.Path.{_≡_, refl, sym, ap, _∙_}
+use mathlib.Core.Path.{_≡_, refl, sym, ap, ap₂, _∙_}
 use mathlib.Core.Bool.{Bool, true, false, cond}
 use mathlib.Core.List.{List}
 use Prim.Native.Nat.{ℕ, _%_, _<_}
@@ -11,7 +11,7 @@ use borrow.Author.Tests.{eqb-true}
 use Rattle.sets.specs.Set.{member}
 use Rattle.table.specs.BaseLaws.{Told, yea, nay, told, clash}
 use Rattle.table.specs.Bounds.{Sized}
-use Rattle.table.specs.Cell.{Land, State, none, noAgent, cellOf, landOf, kindOf, linked, exitKind, openKind, looksHome}
+use Rattle.table.specs.Cell.{Land, State, none, noAgent, cellOf, landOf, nextAction, kindOf, linked, exitKind, openKind, looksHome}
 use Rattle.table.specs.Cell.{looking, found, holding, holdingBoth, onWay, onWayOwn, onWayBoth, asleep}
 use Rattle.table.specs.CellLaws.{is-given}
 use Rattle.table.specs.Sound.{sound}
@@ -20,10 +20,11 @@ use Rattle.table.specs.declared.Cell.{Cell}
 use Rattle.soundness.specs.Seen.{seenOf}
 use Rattle.meaning.specs.declared.Asked.{Asked}
 use Rattle.meaning.specs.declared.Asked.the-variants.{Would}
+use Rattle.meaning.specs.declared.Stepped.{Stepped}
 use Rattle.meaning.specs.Refusals.{answerDiffers}
 use Rattle.meaning.specs.Step.{Outcome, choice, fires, stays, still, turn, take, release, leave, arrive, dissolve, stepAt, step}
-use Rattle.meaning.specs.Run.{turnedAway}
-use Rattle.meaning.specs.Ask.{noneTold, choiceTold, toldAt, toldPlace, would, askOf, agrees, commitOf}
+use Rattle.meaning.specs.Run.{made, turnedAway, stepOf}
+use Rattle.meaning.specs.Ask.{noneTold, choiceTold, toldAt, toldPlace, would, askOf, agrees, handsBack, commitOf, handedOf}
 use Rattle.moves.specs.Motions.{shifted, wokenIn}
 use Rattle.moves.specs.declared.Motion.{Motion}
 use Rattle.moves.specs.declared.Motion.the-variants.{Leave, Arrive, Dissolve}
@@ -31,9 +32,10 @@ use Rattle.stages.specs.Changes.{looks, locksSecond, holds, acts, travels, carr
 use Rattle.stages.specs.ChangeLaws.{step-carried}
 use Rattle.stages.specs.declared.Change.{Change}
 use Rattle.stages.specs.declared.Change.the-variants.{Still, Turn, Take, Release, Move}
-use Rattle.step.specs.Decided.{lockedChoice, motionChoice, motionWord, settling, decided, carriedOut}
+use Rattle.step.specs.Decided.{lockedChoice, motionChoice, motionWord, settling, decided, settled, carriedOut}
 use Rattle.step.specs.CarryLaws.{decided-step}
-use Rattle.asking.specs.Asked.{toldBy, wokenBy, tellOf, askedOf}
+use Rattle.step.specs.declared.Decision.{Decision}
+use Rattle.asking.specs.Asked.{toldBy, wokenBy, tellOf, askedOf, madeIf, sayOf, goesOn, onlyIf, movedIf, settledIf, carriedIf}
 
 -- ---- the chosen place
 
@@ -45,17 +47,20 @@ chosenBy (Take q stage remembered chosen) a = lockedChoice stage chosen
 chosenBy (Release p q stage remembered w) a = noneTold
 chosenBy (Move m) a = motionChoice m a
 
--- it is that of the decision, held or not
-settled-choice : (k : Change) (x : ℕ) (a : Agent) (ls : List ℕ) → settling k x a ls .chosen ≡ chosenBy k a
-settled-choice (Still w) x a ls = refl
-settled-choice (Turn stage remembered w) x a ls = refl
-settled-choice (Take q stage remembered chosen) x a ls = go (told (eqb (getD ls q 0) none))
+-- what is told of the decision is told of it, held or not: the agent's next action is as it was
+settled-told : (k : Change) (x : ℕ) (a : Agent) (ls : List ℕ) → toldBy (settling k x a ls .agent) (settling k x a ls .chosen) ≡ toldBy a (chosenBy k a)
+unfolding nextAction
+settled-told (Still w) x a ls = refl
+settled-told (Turn stage remembered w) x a ls = refl
+settled-told (Take q stage remembered chosen) x a ls = go (told (eqb (getD ls q 0) none))
   where
-    go : Told (eqb (getD ls q 0) none) → settling (Take q stage remembered chosen) x a ls .chosen ≡ lockedChoice stage chosen
+    go : Told (eqb (getD ls q 0) none)
+        → toldBy (settling (Take q stage remembered chosen) x a ls .agent) (settling (Take q stage remembered chosen) x a ls .chosen)
+        ≡ toldBy a (lockedChoice stage chosen)
     go (yea e) = rw e
     go (nay e) = rw e
-settled-choice (Release p q stage remembered w) x a ls = refl
-settled-choice (Move m) x a ls = refl
+settled-told (Release p q stage remembered w) x a ls = refl
+settled-told (Move m) x a ls = refl
 
 module _ (l : Land) (a : Agent) where
   -- what is told of a change
@@ -163,39 +168,99 @@ module _ (t : Cell) (z : Sized t) (x wish : ℕ) where
   abbrev change : Change
   change = changeAt (a .stage) (landOf (t .places) (t .used) (t .order)) a wish
 
+  abbrev decision : Decision
+  decision = decided (seenOf t x) t x wish
+
+  -- the place, of an agent that is given
+  place-told : member (t .given) x ≡ true
+      → toldBy (settling change x a (t .locks) .agent) (settling change x a (t .locks) .chosen) ≡ toldPlace (cellOf t) x wish
+  unfolding cellOf
+  place-told g =
+      let low : x < 64 = is-given t z x g in
+      let i : x % 64 ≡ x = omega arith in
+      let read : a ≡ getD (t .agents) x noAgent = ap (λ (n : ℕ). getD (t .agents) n noAgent) i in
+      settled-told change x a (t .locks) ∙ change-told (landOf (t .places) (t .used) (t .order)) a (a .stage) wish
+      ∙ ap (λ (b : Agent). toldAt (b .stage) (cellOf t .land) b wish) read
+
   -- of an agent that is given, on a sound table
-  told-step : member (t .given) x ≡ true → askedOf t a (settling change x a (t .locks)) ≡ would (step (cellOf t) x wish) (toldPlace (cellOf t) x wish)
+  told-step : member (t .given) x ≡ true → askedOf t (settling change x a (t .locks)) ≡ would (step (cellOf t) x wish) (toldPlace (cellOf t) x wish)
   unfolding askedOf step cellOf
   told-step g =
       let low : x < 64 = is-given t z x g in
       let i : x % 64 ≡ x = omega arith in
       let read : a ≡ getD (t .agents) x noAgent = ap (λ (n : ℕ). getD (t .agents) n noAgent) i in
-      ap (λ (q : ℕ). tellOf (settling change x a (t .locks) .answer) (wokenBy (cellOf t) (settling change x a (t .locks))) (toldBy a q))
-      (settled-choice change x a (t .locks))
+      ap (tellOf (settling change x a (t .locks) .answer) (wokenBy (cellOf t) (settling change x a (t .locks)))) (settled-told change x a (t .locks))
       ∙ change-answered change t x a _
       ∙ ap (would (carried (cellOf t) x a change)) (change-told (landOf (t .places) (t .used) (t .order)) a (a .stage) wish)
       ∙ ap (λ (o : Outcome). would o (toldAt (a .stage) (cellOf t .land) a wish)) (step-carried (cellOf t) x a (a .stage) wish)
       ∙ ap (λ (b : Agent). would (stepAt (b .stage) (cellOf t) x b wish) (toldAt (b .stage) (cellOf t .land) b wish)) read
 
   -- what is told of what is decided of a table is the ask
-  pub decided-ask : askedOf t a (decided (seenOf t x) t x wish) ≡ askOf t x wish
+  pub decided-ask : askedOf t decision ≡ askOf t x wish
   unfolding decided askOf cellOf askedOf
   decided-ask = go (told (sound (cellOf t))) (told (member (t .given) x))
     where
-      go : Told (sound (cellOf t)) → Told (member (t .given) x) → askedOf t a (decided (seenOf t x) t x wish) ≡ askOf t x wish
+      go : Told (sound (cellOf t)) → Told (member (t .given) x) → askedOf t decision ≡ askOf t x wish
       go (nay s) _ = rw s
       go (yea s) (nay g) = rw (s, g)
       go (yea s) (yea g) = rw (s, g) (told-step g)
 
-  module _ (word woken place : ℕ) where
-    -- a commit of what agrees is the decision carried out
-    pub commit-same : agrees (askedOf t a (decided (seenOf t x) t x wish)) word woken place ≡ true
-        → carriedOut t x (decided (seenOf t x) t x wish) ≡ commitOf t x wish word woken place
-    unfolding commitOf
-    commit-same e = decided-step t z x wish ∙ sym (rw (ap (λ (b : Asked). agrees b word woken place) (sym decided-ask) ∙ e))
+  -- the decision carried out if what is told passes a test: the step if an ask would pass it, 18 if not
+  made-step : (passes : Asked → Bool) → madeIf (passes (askedOf t decision)) t x decision ≡ cond (passes (askOf t x wish)) (stepOf t x wish) (turnedAway t answerDiffers)
+  unfolding madeIf
+  made-step passes = ap₂ (λ (b : Asked) (s : Stepped). cond (passes b) s (turnedAway t answerDiffers)) decided-ask (decided-step t z x wish)
 
-    -- and of what differs, 18
-    pub commit-other : agrees (askedOf t a (decided (seenOf t x) t x wish)) word woken place ≡ false
-        → turnedAway t answerDiffers ≡ commitOf t x wish word woken place
-    unfolding commitOf
-    commit-other e = sym (rw (ap (λ (b : Asked). agrees b word woken place) (sym decided-ask) ∙ e))
+  -- so a commit, of the three
+  pub made-commit : (word woken place : ℕ) → madeIf (agrees (askedOf t decision) word woken place) t x decision ≡ commitOf t x wish word woken place
+  unfolding commitOf
+  made-commit word woken place = made-step (λ b. agrees b word woken place)
+
+  -- and of the number of an ask
+  pub made-handed : (n : ℕ) → madeIf (handsBack (askedOf t decision) n) t x decision ≡ handedOf t x wish n
+  unfolding handedOf
+  made-handed n = made-step (λ b. handsBack b n)
+
+  -- what the step answers, with the place, is the ask
+  said-ask : sayOf (stepOf t x wish .answer) (toldBy (decision .agent) (decision .chosen)) ≡ askOf t x wish
+  unfolding decided stepOf made turnedAway askOf cellOf
+  said-ask = go (told (sound (cellOf t))) (told (member (t .given) x))
+    where
+      go : Told (sound (cellOf t)) → Told (member (t .given) x) → sayOf (stepOf t x wish .answer) (toldBy (decision .agent) (decision .chosen)) ≡ askOf t x wish
+      go (nay s) _ = rw s
+      go (yea s) (nay g) = rw (s, g)
+      go (yea s) (yea g) = rw (s, g) (ap (would (step (cellOf t) x wish)) (place-told g))
+
+  -- the decision carried out, whatever it answers, is the step; and if it answers as an ask of this number told, the commit of that number
+  pub carried-any : (n : ℕ) → carriedIf t x decision true n ≡ stepOf t x wish
+  unfolding carriedIf
+  carried-any n = decided-step t z x wish
+
+  pub carried-handed : (n : ℕ) → carriedIf t x decision false n ≡ handedOf t x wish n
+  unfolding carriedIf handedOf
+  carried-handed n =
+      ap (λ (s : Stepped). cond (handsBack (sayOf (s .answer) (toldBy (decision .agent) (decision .chosen))) n) s (turnedAway t answerDiffers)) (decided-step t z x wish)
+      ∙ ap (λ (b : Asked). cond (handsBack b n) (stepOf t x wish) (turnedAway t answerDiffers)) said-ask
+
+-- where a place moves, the motion is what is carried out; where none does, the agent and the locks
+module _ (t : Cell) (x : ℕ) (d : Decision) (any : Bool) (n : ℕ) where
+  pub carried-moved : d .moves ≡ true → movedIf t x d any n ≡ carriedIf t x d any n
+  unfolding movedIf carriedIf carriedOut
+  carried-moved e = sym (ap (λ (y : Bool). onlyIf t d any n (cond y (made (shifted (cellOf t) x (d .agent) (d .motion))) (record { cell = settled t x (d .agent) (d .locks); answer = d .answer }))) e)
+
+  pub carried-settled : d .moves ≡ false → settledIf t x d any n ≡ carriedIf t x d any n
+  unfolding settledIf carriedIf carriedOut
+  carried-settled e = sym (ap (λ (y : Bool). onlyIf t d any n (cond y (made (shifted (cellOf t) x (d .agent) (d .motion))) (record { cell = settled t x (d .agent) (d .locks); answer = d .answer }))) e)
+
+-- a step r, which is s, that goes on by the test y, and one that does not
+module _ (t : Cell) (d : Decision) (any : Bool) (n : ℕ) (s r : Stepped) (e : r ≡ s) (y : Bool) (e′ : y ≡ goesOn any (r .answer) (d .agent) (d .chosen) n) where
+  abbrev made-by : Bool → Stepped
+  made-by w = cond w s (turnedAway t answerDiffers)
+
+  test : goesOn any (s .answer) (d .agent) (d .chosen) n ≡ y
+  test = sym (ap (λ (q : Stepped). goesOn any (q .answer) (d .agent) (d .chosen) n) e) ∙ sym e′
+
+  pub only-goes : y ≡ true → r ≡ onlyIf t d any n s
+  only-goes h = e ∙ sym (ap made-by (test ∙ h))
+
+  pub only-differs : y ≡ false → turnedAway t answerDiffers ≡ onlyIf t d any n s
+  only-differs h = sym (ap made-by (test ∙ h))

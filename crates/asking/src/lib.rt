@@ -1,4 +1,6 @@
 // Ask, then commit: what a step would give, and the step made only if it is still that.
+mod number;
+
 use meaning::Answer;
 use meaning::Asked;
 use meaning::Stepped;
@@ -10,7 +12,12 @@ ghost use mathlib.Core.Bool.{cond};
 ghost use lib.Dec.{eqb};
 ghost use Rattle.table.specs.Cell.{kindOf, cellOf};
 ghost use Rattle.meaning.specs.Ask.{askOf, agrees as agreesWith, commitOf};
-ghost use Rattle.asking.specs.Asked.{wokenBy, askedOf};
+ghost use Rattle.asking.specs.Asked.{wokenBy, askedOf, madeIf};
+
+// A commit of the very number that an ask gave.
+pub use number::goes_on;
+pub use number::handed;
+pub use number::hands_back;
 
 // The place that an ask of agent a tells: none for exit.
 fn told(a: Agent, chosen: u8) -> u8
@@ -32,10 +39,11 @@ fn waking(c: Cell, d: Decision) -> u8
     0
 }
 
-// What an ask tells of the step that was decided for agent a.
-pub fn asked(c: Cell, a: Agent, d: Decision) -> Asked
-    ensures { λ r. ⌜ r ≡ askedOf c a d ⌝ }
+// What an ask tells of the step that was decided.
+pub fn asked(c: Cell, d: Decision) -> Asked
+    ensures { λ r. ⌜ r ≡ askedOf c d ⌝ }
 {
+    let a = d.agent;
     let q = told(a, d.chosen);
     let answer = d.answer;
     match answer {
@@ -68,9 +76,21 @@ pub fn ask(c: Cell, agent: u8, wish: u8) -> Asked
     ensures { λ r. ⌜ r ≡ askOf c agent wish ⌝ }
 {
     let s = soundness::see(c, agent);
-    let a = s.agent;
     let d = step::decide(s, c, agent, wish);
-    asked(c, a, d)
+    asked(c, d)
+}
+
+// The decision carried out if what was told is still so: 18 otherwise.
+fn made_if(same: bool, c: Cell, agent: u8, d: Decision) -> Stepped
+    ensures { λ r. ⌜ r ≡ madeIf same c agent d ⌝ }
+{
+    if same {
+        return step::carry_out(c, agent, d);
+    }
+    Stepped {
+        cell: c,
+        answer: Answer::Refused(18),
+    }
 }
 
 // The step, if it would still give what was told: 18 otherwise.
@@ -78,14 +98,8 @@ pub fn commit(c: Cell, agent: u8, wish: u8, word: u8, woken: u8, place: u8) -> S
     ensures { λ r. ⌜ r ≡ commitOf c agent wish word woken place ⌝ }
 {
     let s = soundness::see(c, agent);
-    let a = s.agent;
     let d = step::decide(s, c, agent, wish);
-    let t = asked(c, a, d);
-    if agrees(t, word, woken, place) {
-        return step::carry_out(c, agent, d);
-    }
-    Stepped {
-        cell: c,
-        answer: Answer::Refused(18),
-    }
+    let t = asked(c, d);
+    let same = agrees(t, word, woken, place);
+    made_if(same, c, agent, d)
 }

@@ -13,7 +13,8 @@ use Rattle.table.specs.CellLaws.{bounded, forth, sized-table}
 use Rattle.table.specs.Sound.{sound}
 use Rattle.table.specs.declared.Cell.{Cell}
 use Rattle.meaning.specs.Step.{Outcome, still, step}
-use Rattle.meaning.specs.Run.{Call, stepCall, touchCall, stepOf, made, turnedAway, callOf, run}
+use Rattle.meaning.specs.Run.{Call, stepCall, touchCall, commitCall, stepOf, made, turnedAway, callOf, run}
+use Rattle.meaning.specs.AskLaws.{committed}
 use Rattle.demands.specs.Invariant.{Sound, Inv}
 use Rattle.demands.specs.Ways.{Way, is-done, is-asleep, held-first, held-second, held-own, held-destination, looks-up, looks-home}
 use Rattle.demands.specs.Ways.{sleeps-alone, takes-first, goes-back, sleeps-stuck, takes-second, gives-up, enters, exits, opens}
@@ -104,15 +105,17 @@ inv-stepped t x wish z i = stepped (λ (u : Cell). Inv (cellOf u)) t x wish i
 
 -- what any call leaves has the sizes of the struct
 pub sized-called : (t : Cell) (k : Call) → Sized t → Sized (callOf t k .cell)
-unfolding callOf
+unfolding callOf turnedAway
 sized-called t (stepCall x wish) z = sized-stepped t x wish z
 sized-called t (touchCall q n) z = sized-touched t q n z
+sized-called t (commitCall x wish word woken place) z = committed (λ s. Sized (s .cell)) t x wish word woken place (sized-stepped t x wish z) z
 
 -- and the invariant
 pub inv-called : (t : Cell) (k : Call) → Sized t → Inv (cellOf t) → Inv (cellOf (callOf t k .cell))
-unfolding callOf
+unfolding callOf turnedAway
 inv-called t (stepCall x wish) z i = inv-stepped t x wish z i
 inv-called t (touchCall q n) z i = inv-touched t q n z i
+inv-called t (commitCall x wish word woken place) z i = committed (λ s. Inv (cellOf (s .cell))) t x wish word woken place (inv-stepped t x wish z i) i
 
 -- so has every table after a list of calls
 pub sized-run : (t : Cell) (calls : List Call) → Sized t → Sized (run t calls)
@@ -140,9 +143,11 @@ sound-stepped t x wish z e = stepped (λ (u : Cell). sound (cellOf u) ≡ true) 
 
 -- so does every call
 pub sound-called : (t : Cell) (k : Call) → Sized t → sound (cellOf t) ≡ true → sound (cellOf (callOf t k .cell)) ≡ true
-unfolding callOf
+unfolding callOf turnedAway
 sound-called t (stepCall x wish) z e = sound-stepped t x wish z e
 sound-called t (touchCall q n) z e = sound-touched t q n z e
+sound-called t (commitCall x wish word woken place) z e =
+    committed (λ s. sound (cellOf (s .cell)) ≡ true) t x wish word woken place (sound-stepped t x wish z e) e
 
 -- and every list of calls: a sound table is never turned away with 10
 pub sound-run : (t : Cell) (calls : List Call) → Sized t → sound (cellOf t) ≡ true → sound (cellOf (run t calls)) ≡ true

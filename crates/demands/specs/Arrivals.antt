@@ -15,7 +15,8 @@ use Rattle.table.specs.Cell.{Land, State, cellOf}
 use Rattle.table.specs.declared.Agent.{Agent}
 use Rattle.table.specs.declared.Cell.{Cell}
 use Rattle.meaning.specs.Step.{Outcome, still, step, leave, dissolve, arrive, childOf}
-use Rattle.meaning.specs.Run.{Call, stepCall, touchCall, Called, byStep, byTouch, made, turnedAway, callOf, run}
+use Rattle.meaning.specs.Run.{Call, stepCall, touchCall, commitCall, agentOf, Called, byStep, byTouch, made, turnedAway, stepOf, callOf, run}
+use Rattle.meaning.specs.AskLaws.{committed}
 use Rattle.meaning.specs.Touch.{counted, untouched}
 use Rattle.demands.specs.Reading.{parentIn}
 use Rattle.demands.specs.Invariant.{Sound, Inv}
@@ -110,17 +111,27 @@ module _ (c : State) (i : Sound c) (x : ℕ) (g : c .given x ≡ true) (log : Li
 abbrev Goes-on : Cell → List ℕ → Call → Called → Type 0
 Goes-on t log k r = Logged (cellOf (r .cell) .land) (log ++ arrivedAt (cellOf t) k (r .reply) log)
 
-call-logged : (t : Cell) (k : Call) → Sized t → Inv (cellOf t) → (log : List ℕ) → Logged (cellOf t .land) log → Goes-on t log k (callOf t k)
-unfolding callOf made turnedAway counted untouched
-call-logged t (stepCall x wish) z i log m = go (told (cellOf t .given x))
+-- the step of the agent that a call names, a step call or a commit
+step-logged : (t : Cell) (k : Call) (wish : ℕ) → Sized t → Inv (cellOf t) → (log : List ℕ) → Logged (cellOf t .land) log
+    → Goes-on t log k (byStep (stepOf t (agentOf k) wish))
+unfolding made turnedAway
+step-logged t k wish z i log m = go (told (cellOf t .given (agentOf k)))
   where
-    go : Told (cellOf t .given x) → Goes-on t log (stepCall x wish) (callOf t (stepCall x wish))
-    go (yea g) = subst (λ s. Goes-on t log (stepCall x wish) (byStep s)) (sym (call-made t i x wish g))
+    go : Told (cellOf t .given (agentOf k)) → Goes-on t log k (byStep (stepOf t (agentOf k) wish))
+    go (yea g) = let x : ℕ = agentOf k in
+        subst (λ s. Goes-on t log k (byStep s)) (sym (call-made t i x wish g))
         (subst (λ (d : State). Logged (d .land) (log ++ arrivedBy (cellOf t) x (step (cellOf t) x wish .word) log)) (sym (step-back t z (i .sound) x g wish))
         (way-logged (cellOf t) (i .sound) x g log m (step-way (cellOf t) (i .sound) x g wish)))
-    go (nay g) = subst (λ s. Goes-on t log (stepCall x wish) (byStep s)) (sym (call-refused t i x wish g)) (none-came m)
+    go (nay g) = subst (λ s. Goes-on t log k (byStep s)) (sym (call-refused t i (agentOf k) wish g)) (none-came m)
+
+call-logged : (t : Cell) (k : Call) → Sized t → Inv (cellOf t) → (log : List ℕ) → Logged (cellOf t .land) log → Goes-on t log k (callOf t k)
+unfolding callOf turnedAway counted untouched
+call-logged t (stepCall x wish) z i log m = step-logged t (stepCall x wish) wish z i log m
 call-logged t (touchCall q n) z i log m = touched (λ s. Goes-on t log (touchCall q n) (byTouch s)) t q n (λ _. none-came m)
     (λ u _. subst (λ (d : State). Logged (d .land) (log ++ [])) (sym (touch-back t q n z u)) (none-came m))
+call-logged t (commitCall x wish word woken place) z i log m =
+    committed (λ s. Goes-on t log (commitCall x wish word woken place) (byStep s)) t x wish word woken place
+    (step-logged t (commitCall x wish word woken place) wish z i log m) (none-came m)
 
 -- the log goes on beside the row over every list of calls
 pub run-logged : (calls : List Call) (t : Cell) → Sized t → Inv (cellOf t) → (log : List ℕ) → Logged (cellOf t .land) log

@@ -1,9 +1,10 @@
 -- Demand 1: on every table, file, text, agent, wish and buffer, each call is refused only with its numbers, each exactly under its condition, and a
 -- refusal changes nothing.
 -- Idea: a call on a table is a row of tests with a refusal in one arm each; a load is
--- refused by the fault in its file (FileFaultLaws), the reading of a text as RefusedReading says.
+-- refused by the fault in its file (FileFaultLaws), the reading of a text as RefusedReading says, an ask and a commit as RefusedAsking says.
 use mathlib.Core.Path.{_≡_, refl, ap, subst}
 use mathlib.Core.Bool.{true}
+use mathlib.Core.List.{[]}
 use Prim.Native.Nat.{ℕ, _+_, _≤_, zero-le}
 use native.Mathlib.Nat.{le-refl}
 use native.Mathlib.Omega.{arith}
@@ -16,8 +17,10 @@ use Rattle.table.specs.Sound.{touchSum, mostTouches, sound}
 use Rattle.table.specs.Idle.{idle}
 use Rattle.table.specs.declared.Cell.{Cell}
 use Rattle.meaning.specs.declared.Verdict.the-variants.{Rejected}
+use Rattle.meaning.specs.declared.Answer.{Answer}
 use Rattle.meaning.specs.declared.Answer.the-variants.{Refused}
 use Rattle.meaning.specs.declared.Listed.the-variants.{Unlisted}
+use Rattle.meaning.specs.declared.Stepped.{Stepped}
 use Rattle.meaning.specs.declared.Touching.the-variants.{Untouched}
 use Rattle.meaning.specs.declared.Checked.the-variants.{Unsound}
 use Rattle.meaning.specs.declared.Idled.the-variants.{Unknown}
@@ -28,15 +31,18 @@ use Rattle.meaning.specs.Run.{made, turnedAway, stepOf}
 use Rattle.meaning.specs.Touch.{counted, untouched, touchOf, touchesOf}
 use Rattle.meaning.specs.Listing.{listing, listAnswer, listBuffer}
 use Rattle.meaning.specs.Codes.{checkOf, idleOf}
+use Rattle.meaning.specs.AskLaws.{ask-unsound, ask-unknown, commit-unsound, commit-unknown}
 use Rattle.language.specs.Read.{readText, readOf}
 use Rattle.language.specs.Answers.{read-outside}
-use Rattle.demands.specs.Refusals.{KeeperCall, step-call, list-call, touch-call, touches-call, check-call, idle-call, mayAnswer, before, after, RefusedRightly}
+use Rattle.demands.specs.Refusals.{KeeperCall, step-call, list-call, touch-call, touches-call, check-call, idle-call, mayAnswer, Lent, before, after, RefusedRightly}
 use Rattle.demands.specs.Refusals.{Refuses, load-refused, read-refused, step-refused, list-refused, touch-refused, touches-refused, check-refused, idle-refused}
 use Rattle.demands.specs.Refusals.{Grounds, in-the-file, read-16, read-17, step-10, step-11, list-10, list-12, check-10, idle-10}
+use Rattle.demands.specs.Refusals.{ask-refused, commit-refused, ask-10, ask-11, commit-10, commit-11, commit-18}
 use Rattle.demands.specs.Refusals.{touch-10, touch-3, touch-5, touch-15, touches-10, touches-3, touches-5}
 use Rattle.demands.specs.FileFaultLaws.{refused-by-fault}
 use Rattle.demands.specs.RefusedLoads.{fault-number, fault-within}
 use Rattle.demands.specs.RefusedReading.{reading-grounds, overfull-text}
+use Rattle.demands.specs.RefusedAsking.{ask-grounds, commit-different, commit-grounds}
 
 -- two answers of different kinds are not equal: `cc` finds this equation then
 never : {A : Type 0} → _≡_ {A = ℕ} 0 1 → A
@@ -66,6 +72,8 @@ refused-grounds (step-refused {t} {agent} {wish} {number} e) = go (told (sound (
     go (yea s) (yea g) = let f = rw (s, g) at e in never (cc)
     go (yea s) (nay g) = let f = rw (s, g) at e in let z : noSuchAgent ≡ number = cc in of z (step-11 s g)
     go (nay s) _ = let f = rw s at e in let z : unsoundTable ≡ number = cc in of z (step-10 s)
+refused-grounds (ask-refused {t} {agent} {wish} {number} e) = ask-grounds t agent wish number e
+refused-grounds (commit-refused {t} {agent} {wish} {word} {woken} {place} {number} e) = commit-grounds t agent wish word woken place number e
 refused-grounds (list-refused {t} {buffer} {number} e) = go (told (sound (cellOf t))) (told (leb (length (listing (cellOf t))) (length buffer)))
   where
     go : Told (sound (cellOf t)) → Told (leb (length (listing (cellOf t))) (length buffer)) → Grounds (list-call t buffer) number 0
@@ -102,6 +110,13 @@ refused-grounds (idle-refused {t} {number} e) = go (told (sound (cellOf t))) (to
     go (yea s) (nay i) = let f = rw (s, i) at e in never (cc)
     go (nay s) _ = let f = rw s at e in let z : unsoundTable ≡ number = cc in of z (idle-10 s)
 
+-- what a step call or a commit answers, and what it leaves of what a host lent
+abbrev answers : Stepped → Answer
+answers r = r .answer
+
+abbrev leaves : Stepped → Lent
+leaves r = record { table = r .cell; bytes = [] }
+
 -- and from the condition to the answer
 grounds-refused : {k : KeeperCall} {number offset : ℕ} → Grounds k number offset → Refuses k number offset
 unfolding loadOf readOf loaded stepOf turnedAway listAnswer touchOf untouched touchesOf checkOf idleOf
@@ -110,6 +125,11 @@ grounds-refused (read-16 {t} {text} {offset} b l) = read-refused (ap (λ (r : Lo
 grounds-refused (read-17 {t} {text} c q f) = read-refused (ap (λ (r : Load). loaded t r .verdict) (overfull-text text c q f))
 grounds-refused (step-10 {t} {agent} {wish} s) = let e : stepOf t agent wish .answer ≡ Refused unsoundTable = rw s in step-refused e
 grounds-refused (step-11 {t} {agent} {wish} s g) = let e : stepOf t agent wish .answer ≡ Refused noSuchAgent = rw (s, g) in step-refused e
+grounds-refused (ask-10 {t} {agent} {wish} s) = ask-refused (ask-unsound t agent wish s)
+grounds-refused (ask-11 {t} {agent} {wish} s g) = ask-refused (ask-unknown t agent wish s g)
+grounds-refused (commit-10 {t} {agent} {wish} {word} {woken} {place} s) = commit-refused (ap answers (commit-unsound t agent wish word woken place s))
+grounds-refused (commit-11 {t} {agent} {wish} {word} {woken} {place} s g) = commit-refused (ap answers (commit-unknown t agent wish word woken place s g))
+grounds-refused (commit-18 {t} {agent} {wish} {word} {woken} {place} s g d) = commit-refused (ap answers (commit-different t agent wish word woken place s g d))
 grounds-refused (list-10 {t} {buffer} s) = let e : listAnswer (cellOf t) buffer ≡ Unlisted unsoundTable = rw s in list-refused e
 grounds-refused (list-12 {t} {buffer} s l) =
     let e : listAnswer (cellOf t) buffer ≡ Unlisted tooLong = rw (s, lt-leb (length (listing (cellOf t))) (length buffer) l) in
@@ -137,6 +157,11 @@ grounds-number (read-16 b l) = refl
 grounds-number (read-17 c q f) = refl
 grounds-number (step-10 s) = refl
 grounds-number (step-11 s g) = refl
+grounds-number (ask-10 s) = refl
+grounds-number (ask-11 s g) = refl
+grounds-number (commit-10 s) = refl
+grounds-number (commit-11 s g) = refl
+grounds-number (commit-18 s g d) = refl
 grounds-number (list-10 s) = refl
 grounds-number (list-12 s l) = refl
 grounds-number (touch-10 s) = refl
@@ -155,6 +180,11 @@ grounds-within (read-16 b l) = l .within
 grounds-within (read-17 {t} {text} c q f) = le-refl (length text)
 grounds-within (step-10 s) = zero-le
 grounds-within (step-11 s g) = zero-le
+grounds-within (ask-10 s) = zero-le
+grounds-within (ask-11 s g) = zero-le
+grounds-within (commit-10 s) = zero-le
+grounds-within (commit-11 s g) = zero-le
+grounds-within (commit-18 s g d) = zero-le
 grounds-within (list-10 s) = zero-le
 grounds-within (list-12 s l) = zero-le
 grounds-within (touch-10 s) = zero-le
@@ -174,6 +204,11 @@ grounds-keep (read-16 {t} {text} {offset} b l) = rw (read-outside text offset b 
 grounds-keep (read-17 {t} {text} c q f) = rw (overfull-text text c q f)
 grounds-keep (step-10 s) = rw s
 grounds-keep (step-11 s g) = rw (s, g)
+grounds-keep (ask-10 s) = refl
+grounds-keep (ask-11 s g) = refl
+grounds-keep (commit-10 {t} {agent} {wish} {word} {woken} {place} s) = ap leaves (commit-unsound t agent wish word woken place s)
+grounds-keep (commit-11 {t} {agent} {wish} {word} {woken} {place} s g) = ap leaves (commit-unknown t agent wish word woken place s g)
+grounds-keep (commit-18 {t} {agent} {wish} {word} {woken} {place} s g d) = ap leaves (commit-different t agent wish word woken place s g d)
 grounds-keep (list-10 s) = rw s
 grounds-keep (list-12 {t} {buffer} s l) = rw (s, lt-leb (length (listing (cellOf t))) (length buffer) l)
 grounds-keep (touch-10 s) = rw s

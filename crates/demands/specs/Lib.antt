@@ -10,6 +10,7 @@ pub mod TouchTotal
 pub mod FirstCome
 pub mod FileTree
 pub mod SameListings
+pub mod Asking
 -- the theorems
 pub mod DemandOne
 pub mod DemandTwo
@@ -22,11 +23,14 @@ pub mod TouchTotalLaws
 pub mod FirstComeLaws
 pub mod FileTreeLaws
 pub mod SameListingsLaws
--- the refusals of a load and of the reading of a text
+pub mod AskingLaws
+pub mod HandedLaws
+-- the refusals of a load, of the reading of a text, of an ask and of a commit
 pub mod RecordFaultLaws
 pub mod FileFaultLaws
 pub mod RefusedLoads
 pub mod RefusedReading
+pub mod RefusedAsking
 -- the invariant and the ways a step can go
 pub mod Reading
 pub mod ReadingLaws
@@ -65,6 +69,8 @@ pub mod SteppedLaws
 pub mod ChangesLaws
 pub mod Touching
 pub mod Always
+-- what an ask tells
+pub mod TellingLaws
 -- an accepted load
 pub mod Fresh
 pub mod Loading

@@ -15,7 +15,9 @@ use Rattle.table.specs.declared.Cell.{Cell}
 use Rattle.meaning.specs.declared.Answer.the-variants.{Did, Refused}
 use Rattle.meaning.specs.declared.Touching.the-variants.{Count}
 use Rattle.meaning.specs.Step.{Outcome, still, leave, dissolve, arrive, step}
-use Rattle.meaning.specs.Run.{Call, stepCall, touchCall, stepOf, made, turnedAway, callOf, run}
+use Rattle.meaning.specs.Run.{Call, stepCall, touchCall, commitCall, stepOf, made, turnedAway, callOf, run}
+use Rattle.meaning.specs.Ask.{commitOf}
+use Rattle.meaning.specs.AskLaws.{committed}
 use Rattle.meaning.specs.Touch.{counted, untouched, touchOf}
 use Rattle.demands.specs.NoMore.{Untouched, usedAfter, touchesAfter, orderBy, NoMore, OnlyTouches}
 use Rattle.demands.specs.Invariant.{Sound}
@@ -145,6 +147,13 @@ no-more t x wish z = go (told (sound (cellOf t))) (told (cellOf t .given x))
     go (yea e) (nay g) = rw (e, g) (refused-no-more (cellOf t) x wish _)
     go (nay e) _ = rw e (refused-no-more (cellOf t) x wish _)
 
+-- a commit changes what the step that it makes changes, and no more, and nothing if it is refused
+pub commit-no-more : (t : Cell) (x wish word woken place : ℕ) → Sized t
+    → NoMore (cellOf t) x wish (cellOf (commitOf t x wish word woken place .cell)) (commitOf t x wish word woken place .answer)
+unfolding turnedAway
+commit-no-more t x wish word woken place z = committed (λ s. NoMore (cellOf t) x wish (cellOf (s .cell)) (s .answer)) t x wish word woken place
+    (no-more t x wish z) (refused-no-more (cellOf t) x wish _)
+
 -- a touch call changes nothing but the touches of the place that it names, which grow by its number, or not at all if it is refused
 pub only-touches : (t : Cell) (q n : ℕ) → Sized t → OnlyTouches (cellOf t) q n (cellOf (touchOf t q n .cell)) (touchOf t q n .answer)
 unfolding counted untouched
@@ -164,6 +173,7 @@ pub called-untouched : (t : Cell) (k : Call) → Sized t → Untouched (cellOf t
 unfolding callOf
 called-untouched t (stepCall x wish) z = no-more t x wish z .untouched
 called-untouched t (touchCall q n) z = touched-untouched t q n z
+called-untouched t (commitCall x wish word woken place) z = commit-no-more t x wish word woken place z .untouched
 
 -- over a list of calls what was not in use is as it was; what an opening made unused stays so, by the same law from there on
 pub no-more-run : (t : Cell) (calls : List Call) → Sized t → Untouched (cellOf t) (cellOf (run t calls))

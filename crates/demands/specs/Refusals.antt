@@ -1,7 +1,7 @@
--- What demand 1 claims of every call of the keeper (document 01, "Turned-away calls"; document 02, W8): which numbers it may be refused with,
+-- What demand 1 claims of every call of the keeper (document 01, "Turned-away calls"; document 02, W8, W9): which numbers it may be refused with,
 -- when, and that a refusal changes nothing. A call more is one line more in each of these definitions. Definitions only.
 use mathlib.Core.Path.{_≡_}
-use mathlib.Core.Logic.{_↔_}
+use mathlib.Core.Logic.{_≢_, _↔_}
 use mathlib.Core.Bool.{Bool, true, false, _&&_, _||_}
 use mathlib.Core.List.{List, []}
 use Prim.Native.Nat.{ℕ, _+_, _≤_, _<_}
@@ -12,17 +12,20 @@ use Rattle.table.specs.Sound.{touchSum, mostTouches, sound}
 use Rattle.table.specs.declared.Cell.{Cell}
 use Rattle.meaning.specs.declared.Verdict.the-variants.{Rejected}
 use Rattle.meaning.specs.declared.Answer.the-variants.{Refused}
+use Rattle.meaning.specs.declared.Asked.the-variants.{Would, Unasked}
+use Rattle.meaning.specs.declared.Word.{Word}
 use Rattle.meaning.specs.declared.Listed.the-variants.{Unlisted}
 use Rattle.meaning.specs.declared.Touching.the-variants.{Untouched}
 use Rattle.meaning.specs.declared.Checked.the-variants.{Unsound}
 use Rattle.meaning.specs.declared.Idled.the-variants.{Unknown}
 use Rattle.meaning.specs.Refusals.{cutShort, afterEnd, placeTooLarge, notYetGiven, parentTooLarge, agentTooLarge, unsoundTable, noSuchAgent, tooLong, tooManyTouches}
-use Rattle.meaning.specs.Refusals.{outsideLanguage, tooMany}
+use Rattle.meaning.specs.Refusals.{outsideLanguage, tooMany, answerDiffers}
 use Rattle.meaning.specs.File.{loadOf}
 use Rattle.meaning.specs.Run.{stepOf}
 use Rattle.meaning.specs.Touch.{touchOf, touchesOf}
 use Rattle.meaning.specs.Listing.{listing, listAnswer, listBuffer}
-use Rattle.meaning.specs.Codes.{checkOf, idleOf}
+use Rattle.meaning.specs.Codes.{checkOf, idleOf, wordNumber}
+use Rattle.meaning.specs.Ask.{askOf, commitOf}
 use Rattle.language.specs.Grammar.{Text, Contents, floorTyped, Belongs}
 use Rattle.language.specs.Layout.{fits}
 use Rattle.language.specs.Prefixes.{LongestViable}
@@ -31,11 +34,14 @@ use Rattle.demands.specs.FileFaults.{Fault}
 
 -- ---- the calls
 
--- a call with what it is given: a table with anything in it; a file, a text, an agent and a wish, a buffer, a place and a number, or a place
+-- a call with what it is given: a table with anything in it; a file, a text, an agent and a wish, with or without word, number woken and place, a
+-- buffer, a place and a number, or a place
 pub data KeeperCall : Type 0 where
   load-call : Cell → List ℕ → KeeperCall
   read-call : Cell → Text → KeeperCall
   step-call : Cell → ℕ → ℕ → KeeperCall
+  ask-call : Cell → ℕ → ℕ → KeeperCall
+  commit-call : Cell → ℕ → ℕ → ℕ → ℕ → ℕ → KeeperCall
   list-call : Cell → List ℕ → KeeperCall
   touch-call : Cell → ℕ → ℕ → KeeperCall
   touches-call : Cell → ℕ → KeeperCall
@@ -49,6 +55,9 @@ pub data Refuses : KeeperCall → ℕ → ℕ → Type 0 where
   read-refused : {t : Cell} {text : Text} {number offset : ℕ} → readOf t text .verdict ≡ Rejected number offset
       → Refuses (read-call t text) number offset
   step-refused : {t : Cell} {agent wish number : ℕ} → stepOf t agent wish .answer ≡ Refused number → Refuses (step-call t agent wish) number 0
+  ask-refused : {t : Cell} {agent wish number : ℕ} → askOf t agent wish ≡ Unasked number → Refuses (ask-call t agent wish) number 0
+  commit-refused : {t : Cell} {agent wish word woken place number : ℕ} → commitOf t agent wish word woken place .answer ≡ Refused number
+      → Refuses (commit-call t agent wish word woken place) number 0
   list-refused : {t : Cell} {buffer : List ℕ} {number : ℕ} → listAnswer (cellOf t) buffer ≡ Unlisted number
       → Refuses (list-call t buffer) number 0
   touch-refused : {t : Cell} {place touches number : ℕ} → touchOf t place touches .answer ≡ Untouched number
@@ -68,11 +77,13 @@ abbrev pub ofPlace : ℕ → Bool
 ofPlace number = eqb number unsoundTable || (eqb number placeTooLarge || eqb number notYetGiven)
 
 -- the numbers of each call: "Calls on a table test 10 first, then 11 or 12"; a touch call's last is 15 (document 02, W3); the reading of a
--- text has 16 and 17 (W8)
+-- text has 16 and 17 (W8); a commit's last is 18 (W9)
 abbrev pub mayAnswer : KeeperCall → ℕ → Bool
 mayAnswer (load-call t file) number = ofFile number
 mayAnswer (read-call t text) number = eqb number outsideLanguage || eqb number tooMany
 mayAnswer (step-call t agent wish) number = eqb number unsoundTable || eqb number noSuchAgent
+mayAnswer (ask-call t agent wish) number = eqb number unsoundTable || eqb number noSuchAgent
+mayAnswer (commit-call t agent wish word woken place) number = eqb number unsoundTable || (eqb number noSuchAgent || eqb number answerDiffers)
 mayAnswer (list-call t buffer) number = eqb number unsoundTable || eqb number tooLong
 mayAnswer (touch-call t place touches) number = ofPlace number || eqb number tooManyTouches
 mayAnswer (touches-call t place) number = ofPlace number
@@ -92,6 +103,16 @@ pub data Grounds : KeeperCall → ℕ → ℕ → Type 0 where
       → Grounds (read-call t text) tooMany (length text)
   step-10 : {t : Cell} {agent wish : ℕ} → sound (cellOf t) ≡ false → Grounds (step-call t agent wish) unsoundTable 0
   step-11 : {t : Cell} {agent wish : ℕ} → sound (cellOf t) ≡ true → cellOf t .given agent ≡ false → Grounds (step-call t agent wish) noSuchAgent 0
+  ask-10 : {t : Cell} {agent wish : ℕ} → sound (cellOf t) ≡ false → Grounds (ask-call t agent wish) unsoundTable 0
+  ask-11 : {t : Cell} {agent wish : ℕ} → sound (cellOf t) ≡ true → cellOf t .given agent ≡ false → Grounds (ask-call t agent wish) noSuchAgent 0
+  -- "18 if the answer would differ, after 10 and 11": an ask tells no word of this number with this number woken and this place
+  commit-10 : {t : Cell} {agent wish word woken place : ℕ} → sound (cellOf t) ≡ false
+      → Grounds (commit-call t agent wish word woken place) unsoundTable 0
+  commit-11 : {t : Cell} {agent wish word woken place : ℕ} → sound (cellOf t) ≡ true → cellOf t .given agent ≡ false
+      → Grounds (commit-call t agent wish word woken place) noSuchAgent 0
+  commit-18 : {t : Cell} {agent wish word woken place : ℕ} → sound (cellOf t) ≡ true → cellOf t .given agent ≡ true
+      → ((w : Word) → wordNumber w ≡ word → askOf t agent wish ≢ Would w woken place)
+      → Grounds (commit-call t agent wish word woken place) answerDiffers 0
   list-10 : {t : Cell} {buffer : List ℕ} → sound (cellOf t) ≡ false → Grounds (list-call t buffer) unsoundTable 0
   list-12 : {t : Cell} {buffer : List ℕ} → sound (cellOf t) ≡ true → length buffer < length (listing (cellOf t))
       → Grounds (list-call t buffer) tooLong 0
@@ -121,17 +142,21 @@ abbrev pub before : KeeperCall → Lent
 before (load-call t file) = record { table = t; bytes = file }
 before (read-call t text) = record { table = t; bytes = text }
 before (step-call t agent wish) = record { table = t; bytes = [] }
+before (ask-call t agent wish) = record { table = t; bytes = [] }
+before (commit-call t agent wish word woken place) = record { table = t; bytes = [] }
 before (list-call t buffer) = record { table = t; bytes = buffer }
 before (touch-call t place touches) = record { table = t; bytes = [] }
 before (touches-call t place) = record { table = t; bytes = [] }
 before (check-call t) = record { table = t; bytes = [] }
 before (idle-call t) = record { table = t; bytes = [] }
 
--- and what it has of it afterwards
+-- and what it has of it afterwards; an ask changes nothing
 abbrev pub after : KeeperCall → Lent
 after (load-call t file) = record { table = loadOf t file .cell; bytes = file }
 after (read-call t text) = record { table = readOf t text .cell; bytes = text }
 after (step-call t agent wish) = record { table = stepOf t agent wish .cell; bytes = [] }
+after (ask-call t agent wish) = record { table = t; bytes = [] }
+after (commit-call t agent wish word woken place) = record { table = commitOf t agent wish word woken place .cell; bytes = [] }
 after (list-call t buffer) = record { table = t; bytes = listBuffer (cellOf t) buffer }
 after (touch-call t place touches) = record { table = touchOf t place touches .cell; bytes = [] }
 after (touches-call t place) = record { table = t; bytes = [] }

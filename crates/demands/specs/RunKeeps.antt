@@ -1,7 +1,7 @@
 -- A run of calls on a table whose cell has the invariant keeps the plain tree beside the cell, by one permitted move for each left or opened.
--- By induction over the calls: a step call for an agent that is not given is refused with 11 and changes nothing, any other is a step; a touch
--- call changes touches, of which the plain tree knows nothing.
-use mathlib.Core.Path.{_≡_, refl, sym, ap, subst}
+-- By induction over the calls: a step call for an agent that is not given is refused with 11 and changes nothing, any other is a step; a commit
+-- is a step call, or it is refused; a touch call changes touches, of which the plain tree knows nothing.
+use mathlib.Core.Path.{_≡_, refl, sym, ap, _∙_, subst}
 use mathlib.Core.List.{List, [], _∷_}
 use mathlib.Core.Bool.{true, false}
 use Prim.Native.Nat.{ℕ}
@@ -11,9 +11,10 @@ use Rattle.table.specs.Bounds.{Sized}
 use Rattle.table.specs.CellLaws.{sized-table}
 use Rattle.table.specs.Sound.{sound}
 use Rattle.table.specs.declared.Cell.{Cell}
-use Rattle.meaning.specs.Refusals.{noSuchAgent}
+use Rattle.meaning.specs.Refusals.{noSuchAgent, answerDiffers}
 use Rattle.meaning.specs.Step.{step}
-use Rattle.meaning.specs.Run.{Call, stepCall, touchCall, agentOf, Reply, Called, byStep, byTouch, made, turnedAway, stepOf, callOf, run, answers}
+use Rattle.meaning.specs.Run.{Call, stepCall, touchCall, commitCall, agentOf, wishOf, Reply, Called, byStep, byTouch, made, turnedAway, stepOf, callOf, run, answers}
+use Rattle.meaning.specs.AskLaws.{committed}
 use Rattle.meaning.specs.Touch.{addTouches, counted, untouched, touchOf}
 use Rattle.meaning.specs.Calculus.{Tree}
 use Rattle.meaning.specs.Plain.{Plain, treeOf, plainStep, plainRun, saysMove, History, start, moved, stayed}
@@ -85,22 +86,43 @@ same-touched : (c : State) (q n : ℕ) (p : Plain) → Same c p → Same (addTou
 unfolding treeOf agentIn
 same-touched c q n p m = record { tree = m .tree; travels = m .travels; pick = m .pick; order = m .order }
 
+-- ---- one call and the rest
+
+-- the rest of the calls keeps the plain tree beside the cell
+abbrev KeptBy : List Call → Type 0
+KeptBy calls = (u : Cell) → Sized u → Inv (cellOf u) → (q : Plain) → Same (cellOf u) q → Beside u q calls
+
+module _ (t : Cell) (z : Sized t) (i : Inv (cellOf t)) (p : Plain) (m : Same (cellOf t) p) (k : Call) (calls : List Call) (rest : KeptBy calls) where
+  -- a call that is refused
+  refused-first : (number : ℕ) → callOf t k ≡ byStep (turnedAway t number) → Beside t p (k ∷ calls)
+  unfolding turnedAway plainStep
+  refused-first number e = first-call t p k calls (byStep (turnedAway t number)) e unmoved (rest t z i p m)
+
+  -- a call that is the step call of the agent that it names, with its wish
+  step-first : callOf t k ≡ byStep (stepOf t (agentOf k) (wishOf k)) → Beside t p (k ∷ calls)
+  unfolding made plainStep
+  step-first e = go (told (cellOf t .given (agentOf k)))
+    where
+      go : Told (cellOf t .given (agentOf k)) → Beside t p (k ∷ calls)
+      go (yea g) =
+          let c : State = cellOf t in
+          let x : ℕ = agentOf k in
+          let d : State = step c x (wishOf k) .cell in
+          let b : d ≡ cellOf (tableOf d) = sym (step-back t z (i .sound) x g (wishOf k)) in
+          let f = way-follows c (i .sound) x g p m (step-way c (i .sound) x g (wishOf k)) in
+          first-call t p k calls (byStep (made (step c x (wishOf k)))) (e ∙ ap byStep (call-made t i x (wishOf k) g)) (f .step)
+          (rest (tableOf d) (sized-table d) (subst Inv b (step-inv c i x g (wishOf k))) _ (same-cell b (f .same)))
+      go (nay g) = refused-first noSuchAgent (e ∙ ap byStep (call-refused t i (agentOf k) (wishOf k) g))
+
 -- a run keeps the plain tree beside the cell
 pub run-keeps : (calls : List Call) (t : Cell) → Sized t → Inv (cellOf t) → (p : Plain) → Same (cellOf t) p → Beside t p calls
-unfolding run answers plainRun made turnedAway plainStep callOf counted untouched
+unfolding run answers plainRun plainStep callOf counted untouched
 run-keeps [] t z i p m = record { same = m; steps = no-step }
-run-keeps (stepCall x wish ∷ calls) t z i p m = go (told (cellOf t .given x)) (run-keeps calls)
-  where
-    go : Told (cellOf t .given x) → ((u : Cell) → Sized u → Inv (cellOf u) → (q : Plain) → Same (cellOf u) q → Beside u q calls)
-        → Beside t p (stepCall x wish ∷ calls)
-    go (yea g) rest =
-        let c : State = cellOf t in
-        let d : State = step c x wish .cell in
-        let b : d ≡ cellOf (tableOf d) = sym (step-back t z (i .sound) x g wish) in
-        let f = way-follows c (i .sound) x g p m (step-way c (i .sound) x g wish) in
-        first-call t p (stepCall x wish) calls (byStep (made (step c x wish))) (ap byStep (call-made t i x wish g)) (f .step)
-        (rest (tableOf d) (sized-table d) (subst Inv b (step-inv c i x g wish)) _ (same-cell b (f .same)))
-    go (nay g) rest = first-call t p (stepCall x wish) calls (byStep (turnedAway t noSuchAgent)) (ap byStep (call-refused t i x wish g)) unmoved (rest t z i p m)
+run-keeps (stepCall x wish ∷ calls) t z i p m = step-first t z i p m (stepCall x wish) calls (run-keeps calls) refl
 run-keeps (touchCall q n ∷ calls) t z i p m = first-call t p (touchCall q n) calls (byTouch (touchOf t q n)) refl unmoved
     (run-keeps calls _ (sized-touched t q n z) (inv-touched t q n z i) p
     (touched (λ s. Same (cellOf (s .cell)) p) t q n (λ _. m) (λ u _. same-cell (sym (touch-back t q n z u)) (same-touched (cellOf t) q n p m))))
+run-keeps (commitCall x wish word woken place ∷ calls) t z i p m =
+    committed (λ s. callOf t (commitCall x wish word woken place) ≡ byStep s → Beside t p (commitCall x wish word woken place ∷ calls)) t x wish word woken place
+    (step-first t z i p m (commitCall x wish word woken place) calls (run-keeps calls))
+    (refused-first t z i p m (commitCall x wish word woken place) calls (run-keeps calls) answerDiffers) refl

@@ -10,7 +10,7 @@ use Rattle.table.specs.Cell.{State, cellOf}
 use Rattle.table.specs.Sound.{touchSum}
 use Rattle.meaning.specs.declared.Touching.the-variants.{Count, Untouched}
 use Rattle.meaning.specs.File.{byteAt, countAt}
-use Rattle.meaning.specs.Run.{Call, stepCall, touchCall, Reply, stepReply, touchReply}
+use Rattle.meaning.specs.Run.{Call, stepCall, touchCall, commitCall, Reply, stepReply, touchReply}
 use Rattle.demands.specs.AfterCalls.{reached, answered}
 
 -- ---- "touches loaded"
@@ -39,6 +39,7 @@ addedBy (stepCall agent wish) reply = 0
 addedBy (touchCall place number) (stepReply answer) = 0
 addedBy (touchCall place number) (touchReply (Count n)) = number
 addedBy (touchCall place number) (touchReply (Untouched refusal)) = 0
+addedBy (commitCall agent wish word woken place) reply = 0
 
 -- what a list of calls adds
 unfoldable pub added : List Call → List Reply → ℕ

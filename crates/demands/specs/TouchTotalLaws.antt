@@ -12,7 +12,8 @@ use Rattle.table.specs.CellLaws.{sized-table}
 use Rattle.table.specs.Sound.{touchSum}
 use Rattle.table.specs.declared.Cell.{Cell}
 use Rattle.meaning.specs.File.{load, accepted}
-use Rattle.meaning.specs.Run.{Call, stepCall, touchCall, touchReply, callOf, run, answers}
+use Rattle.meaning.specs.Run.{Call, stepCall, touchCall, commitCall, touchReply, stepOf, turnedAway, callOf, run, answers}
+use Rattle.meaning.specs.AskLaws.{committed}
 use Rattle.meaning.specs.Touch.{counted, untouched}
 use Rattle.demands.specs.Invariant.{Inv}
 use Rattle.demands.specs.Touches.{touch-sum}
@@ -27,14 +28,20 @@ use Rattle.demands.specs.TouchTotal.{addedBy, added, TouchTotal, AllTouc
 
 -- ---- calls on a table
 
+-- a step call
+sum-stepped : (t : Cell) (x wish : ℕ) → Sized t → Inv (cellOf t) → touchSum (cellOf (stepOf t x wish .cell)) ≡ touchSum (cellOf t) + 0
+sum-stepped t x w z i = stepped (λ (u : Cell). touchSum (cellOf u) ≡ touchSum (cellOf t) + 0) t x w (sym (add-zero _))
+    (λ _ g. ap touchSum (step-back t z (i .sound) x g w) ∙ step-keeps (cellOf t) (i .sound) x g w .touched ∙ sym (add-zero _))
+
 -- one call
 pub sum-called : (t : Cell) (k : Call) → Sized t → Inv (cellOf t) → touchSum (cellOf (callOf t k .cell)) ≡ touchSum (cellOf t) + addedBy k (callOf t k .reply)
-unfolding callOf counted untouched
-sum-called t (stepCall x w) z i = stepped (λ (u : Cell). touchSum (cellOf u) ≡ touchSum (cellOf t) + 0) t x w (sym (add-zero _))
-    (λ _ g. ap touchSum (step-back t z (i .sound) x g w) ∙ step-keeps (cellOf t) (i .sound) x g w .touched ∙ sym (add-zero _))
+unfolding callOf turnedAway counted untouched
+sum-called t (stepCall x w) z i = sum-stepped t x w z i
 sum-called t (touchCall q n) z i = touched (λ s. touchSum (cellOf (s .cell)) ≡ touchSum (cellOf t) + addedBy (touchCall q n) (touchReply (s .answer))) t q n
     (λ _. sym (add-zero _))
     (λ u _. ap touchSum (touch-back t q n z u) ∙ touch-sum (cellOf t) q n u (i .sound .places .small q u))
+sum-called t (commitCall x w word woken place) z i = committed (λ s. touchSum (cellOf (s .cell)) ≡ touchSum (cellOf t) + 0) t x w word woken place
+    (sum-stepped t x w z i) (sym (add-zero _))
 
 -- a list of calls
 pub sum-run : (t : Cell) (calls : List Call) → Sized t → Inv (cellOf t) → touchSum (cellOf (run t calls)) ≡ touchSum (cellOf t) + added calls (answers t calls)

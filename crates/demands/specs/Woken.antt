@@ -22,6 +22,8 @@ use Rattle.meaning.specs.declared.Answer.the-variants.{Did, Refused}
 use Rattle.meaning.specs.Update.{atStage}
 use Rattle.meaning.specs.Step.{Outcome, still, asleepOn, wake, leave, dissolveAgent, wokenBy, dissolve, arrive, step}
 use Rattle.meaning.specs.Run.{stepOf, made, turnedAway}
+use Rattle.meaning.specs.Ask.{commitOf}
+use Rattle.meaning.specs.AskLaws.{committed}
 use Rattle.demands.specs.Invariant.{Sound}
 use Rattle.demands.specs.Ways.{Way, is-done, is-asleep, held-first, held-second, held-own, held-destination, looks-up, looks-home}
 use Rattle.demands.specs.Ways.{sleeps-alone, takes-first, goes-back, sleeps-stuck, takes-second, gives-up, enters, exits, opens}
@@ -196,3 +198,10 @@ woken-counted t z x wish = go (told (sound (cellOf t))) (told (cellOf t .given x
     go (yea e) (yea g) = rw (e, g) (after e g)
     go (yea e) (nay g) = rw (e, g) (none-changes (cellOf t) x)
     go (nay e) _ = rw e (none-changes (cellOf t) x)
+
+-- of every commit likewise
+pub commit-counted : (t : Cell) → Sized t → (x wish word woken place : ℕ)
+    → numberWoken (commitOf t x wish word woken place .answer) ≡ countOf 64 (wokeUp (cellOf t) (cellOf (commitOf t x wish word woken place .cell)))
+unfolding turnedAway
+commit-counted t z x wish word woken place = committed (λ s. numberWoken (s .answer) ≡ countOf 64 (wokeUp (cellOf t) (cellOf (s .cell)))) t x wish word woken place
+    (woken-counted t z x wish) (none-changes (cellOf t) x)

@@ -27,6 +27,11 @@ pub use parser::read;
 // One step call: `stepOf`.
 pub use step::step;
 
+// What a step would give, `askOf`, and the step made only if it is still that: told the three, `commitOf`, or the number of an ask, `handedOf`.
+pub use asking::ask;
+pub use asking::commit;
+pub use asking::handed;
+
 // A touch call, `touchOf`, and the touches of a place, `touchesOf`.
 pub use touch::touch;
 pub use touch::touches;
@@ -35,6 +40,7 @@ pub use touch::touches;
 pub use listing::list;
 
 // Every answer as a number.
+pub use numbers::ask_number;
 pub use numbers::check_number;
 pub use numbers::idle_number;
 pub use numbers::list_number;

@@ -3,3 +3,5 @@ pub mod Asks
 pub mod Placed
 pub mod Settled
 pub mod Tallied
+pub mod Passing
+pub mod Deciding

@@ -9,10 +9,10 @@ use Rattle.table.specs.declared.Cell.{Cell}
 use Rattle.meaning.specs.declared.Asked.{Asked}
 use Rattle.meaning.specs.declared.Asked.the-variants.{Would, Unasked}
 use Rattle.meaning.specs.declared.Stepped.{Stepped}
-use Rattle.meaning.specs.Codes.{wordNumber}
+use Rattle.meaning.specs.Codes.{wordNumber, askNumber}
 use Rattle.meaning.specs.Refusals.{unsoundTable, noSuchAgent, answerDiffers}
-use Rattle.meaning.specs.Run.{turnedAway, stepOf}
 use Rattle.meaning.specs.Step.{Outcome, choice, fires, stays, step}
+use Rattle.meaning.specs.StepCall.{turnedAway, stepOf}
 
 -- ---- the chosen place
 
@@ -60,3 +60,14 @@ agrees (Unasked number) word woken place = true
 -- differ, after 10 and 11"
 unfoldable pub commitOf : Cell → ℕ → ℕ → ℕ → ℕ → ℕ → Stepped
 commitOf t x wish word woken place = cond (agrees (askOf t x wish) word woken place) (stepOf t x wish) (turnedAway t answerDiffers)
+
+-- ---- a commit of the very number that an ask gave
+
+-- the number is that of what is told; where an ask is refused the step refuses by itself
+abbrev pub handsBack : Asked → ℕ → Bool
+handsBack (Would word woken place) n = eqb (askNumber (Would word woken place)) n
+handsBack (Unasked number) n = true
+
+-- the same commit with the three in one number, as a host hands it back unread
+unfoldable pub handedOf : Cell → ℕ → ℕ → ℕ → Stepped
+handedOf t x wish n = cond (handsBack (askOf t x wish) n) (stepOf t x wish) (turnedAway t answerDiffers)

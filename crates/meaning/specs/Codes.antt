@@ -9,6 +9,8 @@ use Rattle.meaning.specs.declared.Word.{Word}
 use Rattle.meaning.specs.declared.Word.the-variants.{Looked, Took, Held, Back, Slept, Left, Came, Opened, Asleep, Done}
 use Rattle.meaning.specs.declared.Answer.{Answer}
 use Rattle.meaning.specs.declared.Answer.the-variants.{Did, Refused}
+use Rattle.meaning.specs.declared.Asked.{Asked}
+use Rattle.meaning.specs.declared.Asked.the-variants.{Would, Unasked}
 use Rattle.meaning.specs.declared.Verdict.{Verdict}
 use Rattle.meaning.specs.declared.Verdict.the-variants.{Accepted, Rejected}
 use Rattle.meaning.specs.declared.Touching.{Touching}
@@ -54,6 +56,15 @@ above number low = number % 2 ^ 56 * 256 + low
 abbrev pub stepNumber : Answer → ℕ
 stepNumber (Did word woken) = above (woken * 256 + wordNumber word) 0
 stepNumber (Refused number) = number
+
+-- word, number woken and place in one number: the word in bits 8 to 15, the number woken in bits 16 to 23, the place in bits 24 to 31
+abbrev pub toldNumber : ℕ → ℕ → ℕ → ℕ
+toldNumber word woken place = above (place * 65536 + (woken * 256 + word)) 0
+
+-- an ask's answer: word and number woken as in a step's answer, and the place, or the refusal's number
+abbrev pub askNumber : Asked → ℕ
+askNumber (Would word woken place) = toldNumber (wordNumber word) woken place
+askNumber (Unasked number) = number
 
 -- a load's answer: 0, or the refusal's number with its offset above
 abbrev pub loadNumber : Verdict → ℕ

@@ -2,6 +2,7 @@ pub mod Refusals
 pub mod Update
 pub mod File
 pub mod Step
+pub mod StepCall
 pub mod Touch
 pub mod Run
 pub mod Calculus
@@ -23,12 +24,14 @@ pub mod BenchSound
 pub mod BenchCalls
 pub mod BenchAfter
 pub mod BenchTouch
+pub mod BenchAsk
 pub mod BenchOrder
 pub mod BenchKeys
 pub mod BenchPlain
 pub mod Bench
 pub mod FileLaws
 pub mod OrderLaws
+pub mod AskLaws
 pub mod Every
 pub mod SortedLaws
 pub mod InsertLaws

@@ -1,11 +1,9 @@
--- Step calls (document 01, "Turned-away calls" and "One step"): a call on a table with its refusals, and a run of calls of any kind one after
--- the other.
+-- Any call that may change a cell, a step, a commit or a touch, and a run of calls of any kind one after the other.
 use Prim.Native.Nat.{ℕ}
 use mathlib.Core.Bool.{Bool, true, false, not, _&&_, cond}
 use mathlib.Core.List.{List, [], _∷_}
 use lib.Dec.{eqb}
-use Rattle.table.specs.Cell.{State, none, travels, cellOf, tableOf}
-use Rattle.table.specs.Sound.{sound}
+use Rattle.table.specs.Cell.{State, none, travels}
 use Rattle.table.specs.Base.{allBelow}
 use Rattle.table.specs.declared.Cell.{Cell}
 use Rattle.meaning.specs.declared.Word.{Word}
@@ -15,42 +13,30 @@ use Rattle.meaning.specs.declared.Answer.the-variants.{Did, Refused}
 use Rattle.meaning.specs.declared.Stepped.{Stepped}
 use Rattle.meaning.specs.declared.Touching.{Touching}
 use Rattle.meaning.specs.declared.Touched.{Touched}
-use Rattle.meaning.specs.Refusals.{unsoundTable, noSuchAgent}
-use Rattle.meaning.specs.Step.{Outcome, step}
+use Rattle.meaning.specs.Ask.{commitOf}
 use Rattle.meaning.specs.Touch.{touchOf}
-
--- ---- the step call
-
--- a step that was made, as the call answers it
-unfoldable pub made : Outcome → Stepped
-made o = record { cell = tableOf (o .cell); answer = Did (o .word) (o .woken) }
-
--- a refusal changes nothing
-unfoldable pub turnedAway : Cell → ℕ → Stepped
-turnedAway t number = record { cell = t; answer = Refused number }
-
--- the step call on a table: "Calls on a table test 10 first, then 11"
-unfoldable pub stepOf : Cell → ℕ → ℕ → Stepped
-stepOf t agent wish =
-    cond (sound (cellOf t))
-    (cond (cellOf t .given agent) (made (step (cellOf t) agent wish)) (turnedAway t noSuchAgent))
-    (turnedAway t unsoundTable)
+-- the step call, handed on
+unfoldable pub use Rattle.meaning.specs.StepCall.{made, turnedAway, stepOf}
 
 -- ---- any call that may change a cell
 
--- a step call: "A call names an agent and a wish, a byte"; a touch call "adds a four-byte number to a place" (document 02, W3)
+-- a step call: "A call names an agent and a wish, a byte"; a touch call "adds a four-byte number to a place" (document 02, W3); "Commit takes
+-- agent, wish and these three", the word by its number, the number woken and the place (W9)
 pub data Call : Type 0 where
   stepCall : ℕ → ℕ → Call
   touchCall : ℕ → ℕ → Call
+  commitCall : ℕ → ℕ → ℕ → ℕ → ℕ → Call
 
 -- the agent that a call names, none where it names none, and the wish
 abbrev pub agentOf : Call → ℕ
 agentOf (stepCall agent wish) = agent
 agentOf (touchCall place number) = none
+agentOf (commitCall agent wish word woken place) = agent
 
 abbrev pub wishOf : Call → ℕ
 wishOf (stepCall agent wish) = wish
 wishOf (touchCall place number) = none
+wishOf (commitCall agent wish word woken place) = wish
 
 -- what a call answers
 pub data Reply : Type 0 where
@@ -62,7 +48,8 @@ pub record Called : Type 0 where
   pub cell : Cell
   pub reply : Reply
 
--- a step call's or a touch call's result as that of any call
+-- a step call's or a touch call's result as that of any call; a commit's is a step's: "A commit that goes through is a step call for every
+-- statement about cells" (document 02, W9)
 abbrev pub byStep : Stepped → Called
 byStep s = record { cell = s .cell; reply = stepReply (s .answer) }
 
@@ -73,6 +60,7 @@ byTouch s = record { cell = s .cell; reply = touchReply (s .answer) }
 unfoldable pub callOf : Cell → Call → Called
 callOf t (stepCall agent wish) = byStep (stepOf t agent wish)
 callOf t (touchCall place number) = byTouch (touchOf t place number)
+callOf t (commitCall agent wish word woken place) = byStep (commitOf t agent wish word woken place)
 
 -- ---- a run
 

@@ -1,5 +1,6 @@
 // Every answer as one number, for hosts in C: bits 0 to 7 are 0 or the refusal's number, what else there is to say stands above them.
 use meaning::Answer;
+use meaning::Asked;
 use meaning::Checked;
 use meaning::Idled;
 use meaning::Listed;
@@ -44,6 +45,22 @@ pub fn step_number(answer: Answer) -> u64
             above((woken as u64) * 256 + (w as u64), 0)
         }
         Answer::Refused(number) => number as u64,
+    }
+}
+
+// An ask's answer: the word in bits 8 to 15, the number woken in bits 16 to 23 and the place in bits 24 to 31.
+pub fn ask_number(asked: Asked) -> u64
+    ensures { λ r. ⌜ r ≡ codes.askNumber asked ⌝ }
+{
+    match asked {
+        Asked::Would(word, woken, place) => {
+            let w = word_number(word);
+            above(
+                (place as u64) * 65536 + ((woken as u64) * 256 + (w as u64)),
+                0,
+            )
+        }
+        Asked::Unasked(number) => number as u64,
     }
 }
 

@@ -2,6 +2,7 @@
 
 use crate::cell::{members, Cell, Name, LISTING_LONGEST, MOST_TOUCHES};
 use crate::cells::{random, Random};
+use crate::files::{keyed, more_digits, renumbered};
 use crate::jobs::{Job, Room, Workload};
 use crate::keeper::{Keeper, Proved};
 use crate::plain::Plain;
@@ -38,6 +39,15 @@ fn job(job: &Job) -> Result<usize, String> {
             order.iter().try_for_each(|&(agent, wish)| step(&mut cells, agent, wish))?;
             Ok(order.len())
         }
+        Job::Ask { cells, order } => {
+            order.iter().try_for_each(|&(at, agent, wish)| ask(&cells[at], agent, wish).map(|_| ()))?;
+            Ok(order.len())
+        }
+        Job::Commit { start, order } => {
+            let mut cells = [**start; 3];
+            order.iter().try_for_each(|&(agent, wish, asked)| commit(&mut cells, agent, wish, asked))?;
+            Ok(order.len())
+        }
         Job::Touch { start, order } => {
             let mut cells = [**start; 3];
             order.iter().try_for_each(|&(place, number)| touch(&mut cells, place, number))?;
@@ -70,6 +80,31 @@ fn step(cells: &mut [Cell; 3], agent: u8, wish: u8) -> Result<(), String> {
     let answers = [Plain::step(one, agent, wish), Tuned::step(two, agent, wish), Proved::step(three, agent, wish)];
     same(&format!("answers {answers:x?} of agent {agent} with wish {wish}"), answers)?;
     same(&format!("cells after agent {agent} with wish {wish}, answered {:x}", answers[0]), *cells)
+}
+
+/// An ask by each; answers its number.
+fn ask(cell: &Cell, agent: u8, wish: u8) -> Result<u64, String> {
+    let answers = [Plain::ask(cell, agent, wish), Tuned::ask(cell, agent, wish), Proved::ask(cell, agent, wish)];
+    same(&format!("answers {answers:x?} of an ask of agent {agent} with wish {wish}"), answers)?;
+    Ok(answers[0])
+}
+
+fn commit(cells: &mut [Cell; 3], agent: u8, wish: u8, asked: u64) -> Result<(), String> {
+    let [one, two, three] = cells;
+    let answers =
+        [Plain::commit(one, agent, wish, asked), Tuned::commit(two, agent, wish, asked), Proved::commit(three, agent, wish, asked)];
+    same(&format!("answers {answers:x?} of a commit of {asked:x} of agent {agent} with wish {wish}"), answers)?;
+    same(&format!("cells after a commit of {asked:x} of agent {agent} with wish {wish}, answered {:x}", answers[0]), *cells)
+}
+
+/// An ask, a commit of a number that is not its one, and mostly a commit of it.
+fn ask_and_commit(numbers: &mut Random, cells: &mut [Cell; 3], agent: u8, wish: u8) -> Result<(), String> {
+    let asked = ask(&cells[0], agent, wish)?;
+    commit(cells, agent, wish, asked ^ 1 << numbers.below(64))?;
+    if numbers.below(4) != 0 {
+        commit(cells, agent, wish, asked)?;
+    }
+    Ok(())
 }
 
 fn touch(cells: &mut [Cell; 3], place: u8, number: u32) -> Result<(), String> {
@@ -149,7 +184,7 @@ fn one_random(numbers: &mut Random, damaged: bool) -> Result<usize, String> {
         more_digits(&mut file);
     }
     let mut cells = load(&file)?;
-    let (mut touched, mut listed) = (0, 0);
+    let (mut touched, mut listed, mut asked) = (0, 0, 0);
     for i in 0..300 {
         if numbers.below(10) == 0 {
             touched += 1;
@@ -159,6 +194,11 @@ fn one_random(numbers: &mut Random, damaged: bool) -> Result<usize, String> {
             damage(numbers, &mut cells);
         }
         let agent = if numbers.below(40) == 0 { numbers.below(256) } else { numbers.below(agents.max(1)) };
+        if numbers.below(4) == 0 {
+            asked += 1;
+            let wish = numbers.below(70) as u8;
+            ask_and_commit(numbers, &mut cells, agent as u8, wish)?;
+        }
         step(&mut cells, agent as u8, numbers.below(70) as u8)?;
         if i % 50 == 0 {
             asks(&cells[0])?;
@@ -169,68 +209,7 @@ fn one_random(numbers: &mut Random, damaged: bool) -> Result<usize, String> {
     let at = numbers.below(file.len());
     file[at] = numbers.below(256) as u8;
     load(&file)?;
-    Ok(300 + 2 * touched + listed + 6 * 2 + 2)
-}
-
-/// The length of a record of this kind.
-fn length(kind: u8) -> usize {
-    match kind {
-        1 | 3 => 5,
-        2 => 3,
-        5 => 6,
-        6 => 11,
-        _ => 1,
-    }
-}
-
-/// The file with keys for some of its places: numbers that actions have too, and 0.
-fn keyed(numbers: &mut Random, file: &[u8], names: usize) -> Vec<u8> {
-    let mut keyed = Vec::new();
-    let mut at = 0;
-    while at < file.len() {
-        let (kind, body) = (file[at], &file[at + 1..at + length(file[at])]);
-        if kind == 1 && numbers.below(2) == 0 {
-            let keys: Vec<u8> = (0..3).flat_map(|_| [numbers.below(names + 1) as u8, 0]).collect();
-            keyed.extend([&[6], body, &keys].concat());
-        } else {
-            keyed.extend([&[kind], body].concat());
-        }
-        at += length(kind);
-    }
-    keyed
-}
-
-/// The file's names, keys and actions' numbers up to 6 with other ones in their place, some of which begin with others of them.
-fn more_digits(file: &mut [u8]) {
-    const NUMBERS: [u16; 7] = [0, 70, 7, 65_535, 700, 6_553, 71];
-    let mut at = 0;
-    while at < file.len() {
-        let end = at + length(file[at]);
-        if matches!(file[at], 1 | 3 | 6) {
-            for number in file[at + 3..end].chunks_exact_mut(2) {
-                number.copy_from_slice(&NUMBERS[number[0] as usize].to_le_bytes());
-            }
-        }
-        at = end;
-    }
-}
-
-/// The file with other numbers for its places, so that they stand in it in another order than that of their numbers.
-fn renumbered(numbers: &mut Random, mut file: Vec<u8>) -> Vec<u8> {
-    let mut other: [u8; 64] = std::array::from_fn(|q| q as u8);
-    (2..64).for_each(|q| other.swap(q, 1 + numbers.below(q)));
-    let mut at = 0;
-    while at < file.len() {
-        let places = match file[at] {
-            1 => at + 1..at + 3,
-            2 => at + 2..at + 3,
-            5 => at + 1..at + 2,
-            _ => at..at,
-        };
-        file[places].iter_mut().for_each(|q| *q = other[*q as usize]);
-        at += length(file[at]);
-    }
-    file
+    Ok(300 + 2 * touched + 2 * asked + listed + 6 * 2 + 2)
 }
 
 /// The touches of a place that a test looks at: at the most that is sound, past it, and so many that a sum of two wraps.

@@ -12,6 +12,10 @@ use std::hint::black_box;
 pub enum Job {
     /// The calls of an order on a cell, which is set back before each lap.
     Step { start: Box<Cell>, order: Vec<(u8, u8)> },
+    /// Asks, each of one of these cells.
+    Ask { cells: Vec<Cell>, order: Vec<(usize, u8, u8)> },
+    /// Commits on a cell, which is set back before each lap, of what asks tell there.
+    Commit { start: Box<Cell>, order: Vec<(u8, u8, u64)> },
     /// Touch calls on a cell, which is set back before each lap.
     Touch { start: Box<Cell>, order: Vec<(u8, u32)> },
     /// The load of a file.
@@ -70,6 +74,8 @@ impl Job {
     pub fn calls(&self) -> usize {
         match self {
             Job::Step { order, .. } => order.len(),
+            Job::Ask { order, .. } => order.len(),
+            Job::Commit { order, .. } => order.len(),
             Job::Touch { order, .. } => order.len(),
             _ => 1,
         }
@@ -94,6 +100,11 @@ impl Job {
             Job::Step { start, order } => {
                 room.cell = **start;
                 order.iter().fold(0, |sum, &(agent, wish)| sum + K::step(&mut room.cell, agent, wish))
+            }
+            Job::Ask { cells, order } => order.iter().fold(0, |sum, &(at, agent, wish)| sum + K::ask(&cells[at], agent, wish)),
+            Job::Commit { start, order } => {
+                room.cell = **start;
+                order.iter().fold(0, |sum, &(agent, wish, asked)| sum + K::commit(&mut room.cell, agent, wish, asked))
             }
             Job::Touch { start, order } => {
                 room.cell = **start;
@@ -139,6 +150,39 @@ fn busy(sketch: Sketch, before: usize) -> Job {
     Job::Step { order: cells::busy(&start, 400), start }
 }
 
+/// Asks for the calls of a step job, each of the cell as its step finds it.
+fn asks(steps: Job) -> Job {
+    let (mut cells, mut order) = (Vec::new(), Vec::new());
+    each_call(&steps, |cell, agent, wish| {
+        if cells.last() != Some(cell) {
+            cells.push(*cell);
+        }
+        order.push((cells.len() - 1, agent, wish));
+    });
+    Job::Ask { cells, order }
+}
+
+/// The calls of a step job as commits of what an ask would tell there.
+fn commits(steps: Job) -> Job {
+    let mut order = Vec::new();
+    each_call(&steps, |cell, agent, wish| order.push((agent, wish, Tuned::ask(cell, agent, wish))));
+    match steps {
+        Job::Step { start, .. } => Job::Commit { start, order },
+        other => other,
+    }
+}
+
+/// Each call of a step job, with the cell before it.
+fn each_call(steps: &Job, mut call: impl FnMut(&Cell, u8, u8)) {
+    if let Job::Step { start, order } = steps {
+        let mut cell = start.clone();
+        for &(agent, wish) in order {
+            call(&cell, agent, wish);
+            Tuned::step(&mut cell, agent, wish);
+        }
+    }
+}
+
 /// All that is measured, in the order of the table.
 pub fn workloads() -> Vec<Workload> {
     let boxed = |sketch: &Sketch| Box::new(sketch.cell());
@@ -164,6 +208,14 @@ pub fn workloads() -> Vec<Workload> {
         of("step, full, busy", STEP, busy(cells::full(), 300)),
         of("step, chain, at rest", CHAIN, quiet(cells::chain())),
         of("step, chain, busy", CHAIN, busy(cells::chain(), 0)),
+        of("ask, typical, at rest", None, asks(quiet(cells::typical()))),
+        of("ask, typical, busy", None, asks(busy(cells::typical(), 0))),
+        of("ask, full, at rest", None, asks(quiet(cells::full().finding_nothing()))),
+        of("ask, full, busy", None, asks(busy(cells::full(), 300))),
+        of("commit, typical, at rest", None, commits(quiet(cells::typical()))),
+        of("commit, typical, busy", None, commits(busy(cells::typical(), 0))),
+        of("commit, full, at rest", None, commits(quiet(cells::full().finding_nothing()))),
+        of("commit, full, busy", None, commits(busy(cells::full(), 300))),
         of("touch, typical", None, touch(cells::typical())),
         of("touch, full", None, touch(cells::full())),
         of("check, typical", None, check(cells::typical())),

@@ -8,6 +8,8 @@ pub trait Keeper {
     fn load(cell: &mut Cell, file: &[u8]) -> u64;
     fn read(cell: &mut Cell, text: &[u8]) -> u64;
     fn step(cell: &mut Cell, agent: u8, wish: u8) -> u64;
+    fn ask(cell: &Cell, agent: u8, wish: u8) -> u64;
+    fn commit(cell: &mut Cell, agent: u8, wish: u8, asked: u64) -> u64;
     fn list(cell: &Cell, text: &mut [u8]) -> u64;
     fn check(cell: &Cell) -> u64;
     fn idle(cell: &Cell) -> u64;
@@ -20,6 +22,8 @@ extern "C" {
     fn keeper_load(cell: *mut Cell, file: *const u8, len: usize) -> u64;
     fn keeper_read(cell: *mut Cell, text: *const u8, length: usize) -> u64;
     fn keeper_step(cell: *mut Cell, agent: u8, wish: u8) -> u64;
+    fn keeper_ask(cell: *const Cell, agent: u8, wish: u8) -> u64;
+    fn keeper_commit(cell: *mut Cell, agent: u8, wish: u8, asked: u64) -> u64;
     fn keeper_list(cell: *const Cell, text: *mut u8, room: usize) -> u64;
     fn keeper_check(cell: *const Cell) -> u64;
     fn keeper_idle(cell: *const Cell) -> u64;
@@ -42,6 +46,12 @@ impl Keeper for Proved {
     }
     fn step(cell: &mut Cell, agent: u8, wish: u8) -> u64 {
         unsafe { keeper_step(cell, agent, wish) }
+    }
+    fn ask(cell: &Cell, agent: u8, wish: u8) -> u64 {
+        unsafe { keeper_ask(cell, agent, wish) }
+    }
+    fn commit(cell: &mut Cell, agent: u8, wish: u8, asked: u64) -> u64 {
+        unsafe { keeper_commit(cell, agent, wish, asked) }
     }
     fn list(cell: &Cell, text: &mut [u8]) -> u64 {
         unsafe { keeper_list(cell, text.as_mut_ptr(), text.len()) }

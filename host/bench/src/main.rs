@@ -6,6 +6,7 @@
 mod cell;
 mod cells;
 mod compare;
+mod files;
 mod jobs;
 mod keeper;
 mod measure;

@@ -1,6 +1,6 @@
 //! The library's answers as keeper.h lays them out: what the model's answers are as numbers, and what a number says.
 
-use model::{Refused, Stepped, Word};
+use model::{Asked, Refused, Stepped, Word};
 
 /// The words with their numbers.
 const WORDS: [(Word, u64); 10] = [
@@ -32,6 +32,22 @@ pub fn of_step(stepped: Result<Stepped, u8>) -> u64 {
     }
 }
 
+/// The answer of an ask: the refusal's number, or the word and the number woken as a step's, and the chosen place in bits 24 to 31.
+pub fn of_ask(asked: Result<Asked, u8>) -> u64 {
+    match asked {
+        Err(number) => number as u64,
+        Ok(Asked { word, woken, chosen }) => of_step(Ok(Stepped { word, woken })) | (chosen as u64) << 24,
+    }
+}
+
+/// What a commit that hands back this number says: the word, the number woken and the chosen place. A number that no ask gives says a word that
+/// does not exist: one with a refusal in bits 0 to 7, or with anything above bit 31.
+pub fn handed_back(number: u64) -> (Option<Word>, usize, u8) {
+    let byte = |at: u32| (number >> at & 255) as u8;
+    let word = WORDS.iter().find(|entry| entry.1 == byte(8) as u64).map(|entry| entry.0);
+    (word.filter(|_| byte(0) == 0 && number >> 32 == 0), byte(16) as usize, byte(24))
+}
+
 /// The answer of a listing, an idle call or a check: the refusal's number, or a value above it.
 pub fn of_value(value: Result<usize, u8>) -> u64 {
     of_count(value.map(|value| value as u64))
@@ -49,6 +65,15 @@ pub fn of_count(count: Result<u64, u8>) -> u64 {
 pub fn step_text(answer: u64) -> String {
     match (answer & 255, WORDS.iter().find(|entry| entry.1 == (answer >> 8 & 255))) {
         (0, Some((word, _))) if answer >> 24 == 0 => format!("{} {}", word.text(), answer >> 16),
+        _ => value_text(answer),
+    }
+}
+
+/// An ask's answer in words.
+pub fn ask_text(answer: u64) -> String {
+    match (answer & 255, answer >> 24) {
+        (0, 255) => format!("{}, no place", step_text(answer & 0xFF_FFFF)),
+        (0, place @ 0..=254) => format!("{}, place {place}", step_text(answer & 0xFF_FFFF)),
         _ => value_text(answer),
     }
 }

@@ -1,5 +1,6 @@
 //! The calls of which an example is made, and how an example is printed.
 
+use crate::answer::ask_text;
 use std::fmt;
 
 /// A call of the library, or a byte that somebody else writes into the lent cell.
@@ -9,6 +10,21 @@ pub enum Call {
     /// A text of the listing's language, or one that is not.
     Read(Vec<u8>),
     Step {
+        agent: u8,
+        wish: u8,
+    },
+    Ask {
+        agent: u8,
+        wish: u8,
+    },
+    /// A commit that hands this number back.
+    Commit {
+        agent: u8,
+        wish: u8,
+        asked: u64,
+    },
+    /// Commits of every number that differs in one byte from that of an ask.
+    Invent {
         agent: u8,
         wish: u8,
     },
@@ -42,6 +58,13 @@ impl fmt::Display for Call {
             }
             Call::Read(text) => write!(out, "read \"{}\"", text.escape_ascii()),
             Call::Step { agent, wish } => write!(out, "step of agent {agent}, wish {wish}"),
+            Call::Ask { agent, wish } => write!(out, "ask of agent {agent}, wish {wish}"),
+            Call::Commit { agent, wish, asked } => {
+                write!(out, "commit of agent {agent}, wish {wish}, that hands {asked:#x} back ({})", ask_text(*asked))
+            }
+            Call::Invent { agent, wish } => {
+                write!(out, "commits of agent {agent}, wish {wish}, of numbers that differ in a byte from an ask's")
+            }
             Call::Touch { place, number } => write!(out, "touch of place {place}, {number}"),
             Call::List { room } => write!(out, "list with room for {room} bytes"),
             Call::Renumber { seed } => write!(out, "list, and list under other numbers, seed {seed}"),

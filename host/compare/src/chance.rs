@@ -5,14 +5,19 @@ use crate::orders::Order;
 use crate::pair::Pair;
 use crate::random::Random;
 
-/// An example of one file, steps and touch calls, with fewer of them than this one, if some tries find one.
+/// An example of one file, steps, asks, commits and touch calls, with fewer of them than this one, if some tries find one.
 pub fn shorter(calls: &[Call], thorough: bool) -> Option<Vec<Call>> {
     let (load, steps) = calls.split_first()?;
-    if !matches!(load, Call::Load(_) | Call::Read(_)) || !steps.iter().all(|call| matches!(call, Call::Step { .. } | Call::Touch { .. })) {
+    if !matches!(load, Call::Load(_) | Call::Read(_)) || !steps.iter().all(in_orders) {
         return None;
     }
     let mut random = Random::new(calls.len() as u64);
     (0..3_000).find_map(|_| one_try(&mut random, load, steps.len() - 1, thorough))
+}
+
+/// Whether orders are made of such calls.
+fn in_orders(call: &Call) -> bool {
+    matches!(call, Call::Step { .. } | Call::Ask { .. } | Call::Commit { .. } | Call::Touch { .. })
 }
 
 /// A random order of so many calls at most, if library and model differ in it.

@@ -9,6 +9,13 @@ pub struct Counts {
     pub steps: u64,
     pub steps_refused: u64,
     pub words: BTreeMap<&'static str, u64>,
+    pub asks: u64,
+    pub asks_refused: BTreeMap<u8, u64>,
+    pub told: BTreeMap<&'static str, u64>,
+    pub invented: u64,
+    pub commits: u64,
+    pub committed: BTreeMap<&'static str, u64>,
+    pub commits_refused: BTreeMap<u8, u64>,
     pub choices: u64,
     pub not_lowest: u64,
     pub keyed: u64,
@@ -36,11 +43,30 @@ pub struct Counts {
     pub differences: u64,
 }
 
+impl Counts {
+    /// How many steps were called and committed, to ask slow questions by turns.
+    pub fn turns(&self) -> u64 {
+        self.steps + self.commits
+    }
+}
+
 impl fmt::Display for Counts {
     fn fmt(&self, out: &mut fmt::Formatter<'_>) -> fmt::Result {
         write!(out, "step calls      {:>9}   ({} refused", self.steps, self.steps_refused)?;
         self.words.iter().try_for_each(|(word, count)| write!(out, ", {count} {word}"))?;
         writeln!(out, ")")?;
+        let refused: u64 = self.asks_refused.values().sum();
+        write!(out, "asks            {:>9}   ({} refused:", self.asks, refused)?;
+        self.asks_refused.iter().try_for_each(|(number, count)| write!(out, " {count} with {number}"))?;
+        write!(out, "; a place told")?;
+        self.told.iter().try_for_each(|(word, count)| write!(out, ", {count} {word}"))?;
+        writeln!(out, ")")?;
+        let refused: u64 = self.commits_refused.values().sum();
+        write!(out, "commits         {:>9}   ({} refused:", self.commits, refused)?;
+        self.commits_refused.iter().try_for_each(|(number, count)| write!(out, " {count} with {number}"))?;
+        self.committed.iter().try_for_each(|(word, count)| write!(out, ", {count} {word}"))?;
+        writeln!(out, ")")?;
+        writeln!(out, "invented numbers {:>8}   (committed and refused)", self.invented)?;
         writeln!(
             out,
             "choices         {:>9}   (among several, without a fitting wish; {} not the lowest number)",

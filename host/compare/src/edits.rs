@@ -26,7 +26,7 @@ pub enum Edit {
     Byte(usize, usize, u8),
     /// So many bytes of a text taken out from one on.
     Piece(usize, usize, usize),
-    /// A step without a wish, fewer touches, a listing into less room, a lower byte written.
+    /// A step, ask or commit without a wish, a step in place of an ask or a commit, fewer touches, a listing into less room, a lower byte written.
     Plainer(usize),
 }
 

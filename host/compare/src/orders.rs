@@ -1,8 +1,9 @@
-//! Orders: which agent steps next and what it wishes, with touch calls among the steps.
+//! Orders: which agent steps next and what it wishes, with touch calls, asks and commits among the steps.
 
+use crate::answer;
 use crate::call::Call;
 use crate::random::Random;
-use model::Cell;
+use model::{ask, Cell};
 
 /// How agents are chosen.
 #[derive(Clone, Copy)]
@@ -19,12 +20,18 @@ enum Manner {
     WholeMoves,
 }
 
-/// The manner of an order, how many of a hundred calls touch, the agent of the step before, and the stage it was at before that.
+/// How many asks are kept to be committed later.
+const KEPT: usize = 12;
+
+/// The manner of an order, how many of a hundred calls touch, and how many of the others ask or commit, the agent of the step before, the stage
+/// it was at before that, and asks that were made and not committed yet: agent, wish and number.
 pub struct Order {
     manner: Manner,
     touching: usize,
+    asking: usize,
     agent: u8,
     stage: u8,
+    asks: Vec<(u8, u8, u64)>,
 }
 
 impl Order {
@@ -32,16 +39,46 @@ impl Order {
     pub fn new(random: &mut Random) -> Order {
         use Manner::*;
         let manner = random.pick(&[Any, Same, Same, InTurn, Awake, Awake, WholeMoves, WholeMoves]);
-        Order { manner, touching: random.pick(&[0, 3, 10, 40]), agent: random.below(64) as u8, stage: 0 }
+        let (touching, asking) = (random.pick(&[0, 3, 10, 40]), random.pick(&[0, 10, 50, 100]));
+        Order { manner, touching, asking, agent: random.below(64) as u8, stage: 0, asks: Vec::new() }
     }
 
-    /// The next call: a touch call now and then, else a step call, which sometimes names no agent of the cell.
+    /// The next call: a touch call now and then, else a step call, an ask or a commit, which sometimes names no agent of the cell.
     pub fn next(&mut self, random: &mut Random, cell: &Cell) -> Call {
         if random.percent(self.touching) {
             return touch(random, cell);
         }
+        let (agent, wish) = (self.agent(random, cell), wish(random, cell));
+        if random.percent(self.asking) {
+            self.asking(random, cell, agent, wish)
+        } else {
+            Call::Step { agent, wish }
+        }
+    }
+
+    /// An ask; a commit of what an ask would tell now; one of an ask that was made some calls before; or one of an invented number.
+    fn asking(&mut self, random: &mut Random, cell: &Cell, agent: u8, wish: u8) -> Call {
+        let now = answer::of_ask(ask(cell, agent, wish));
+        match random.below(10) {
+            0..=2 => {
+                self.asks.truncate(KEPT - 1);
+                self.asks.insert(0, (agent, wish, now));
+                Call::Ask { agent, wish }
+            }
+            3..=4 if !self.asks.is_empty() => {
+                let latest = random.below(self.asks.len()).min(random.below(self.asks.len()));
+                let (agent, wish, asked) = self.asks.remove(latest);
+                Call::Commit { agent, wish, asked }
+            }
+            5 => Call::Commit { agent, wish, asked: invented(random, cell, now) },
+            _ => Call::Commit { agent, wish, asked: now },
+        }
+    }
+
+    /// The agent of the next call.
+    fn agent(&mut self, random: &mut Random, cell: &Cell) -> u8 {
         if cell.agents.is_empty() || random.percent(1) {
-            return Call::Step { agent: random.byte(), wish: wish(random, cell) };
+            return random.byte();
         }
         let went_on = cell.agents.get(&self.agent).is_some_and(|agent| agent.stage != self.stage && agent.stage < 7);
         self.agent = match self.manner {
@@ -53,7 +90,28 @@ impl Order {
             _ => awake(random, cell),
         };
         self.stage = cell.agents[&self.agent].stage;
-        Call::Step { agent: self.agent, wish: wish(random, cell) }
+        self.agent
+    }
+}
+
+/// A number that is not this one: another word, number woken or place, a refusal or something above bit 31 beside it, a refusal alone, or any.
+pub fn invented(random: &mut Random, cell: &Cell, number: u64) -> u64 {
+    let with = |at: u32, byte: u8| number & !(255 << at) | (byte as u64) << at;
+    let any = random.next();
+    let other = match random.below(8) {
+        0 => with(8, random.below(12) as u8),
+        1 => with(8, random.byte()),
+        2 => with(16, random.pick(&[0, 1, 2, 64, 255])),
+        3 => with(24, place(random, cell)),
+        4 => with(24, random.pick(&[0, 63, 64, 254, 255])),
+        5 => with(0, random.pick(&[1, 10, 11, 18, 255])),
+        6 => number | 1 << (32 + random.below(32)),
+        _ => random.pick(&[0, 10, 11, 18, u64::MAX, any]),
+    };
+    if other == number {
+        number ^ (1 + random.below(255) as u64) << (8 * random.below(8))
+    } else {
+        other
     }
 }
 
@@ -85,11 +143,24 @@ fn awake(random: &mut Random, cell: &Cell) -> u8 {
 fn wish(random: &mut Random, cell: &Cell) -> u8 {
     match random.below(10) {
         0..=3 => 255,
-        4..=8 => {
-            let numbers: Vec<u8> = cell.places.keys().copied().collect();
-            random.pick(&numbers)
-        }
+        4..=8 => place(random, cell),
         _ => random.byte(),
+    }
+}
+
+/// A place in use.
+fn place(random: &mut Random, cell: &Cell) -> u8 {
+    let numbers: Vec<u8> = cell.places.keys().copied().collect();
+    random.pick(&numbers)
+}
+
+/// A step, an ask or a commit of any agent, on an unsound table.
+pub fn unsound(random: &mut Random) -> Call {
+    let (agent, wish, any) = (random.byte() % 80, random.byte(), random.next());
+    match random.below(3) {
+        0 => Call::Step { agent, wish },
+        1 => Call::Ask { agent, wish },
+        _ => Call::Commit { agent, wish, asked: random.pick(&[0, 10, 11, 18, 255 << 24, 1 << 8 | 255 << 24, any]) },
     }
 }
 
@@ -98,10 +169,7 @@ pub fn touch(random: &mut Random, cell: &Cell) -> Call {
     let place = match random.below(20) {
         0 => random.byte(),
         1 => random.below(66) as u8,
-        _ => {
-            let numbers: Vec<u8> = cell.places.keys().copied().collect();
-            random.pick(&numbers)
-        }
+        _ => place(random, cell),
     };
     Call::Touch { place, number: count(random) }
 }

@@ -11,7 +11,7 @@ use crate::renumber;
 use crate::rows;
 use crate::touches;
 use keeper::lent::Lent;
-use model::{listing, load, permitted, step, touch, Cell, Plain, Stepped, Table, Tree, Word, LISTING_TOO_LONG, UNSOUND};
+use model::{listing, load, permitted, touch, Cell, Plain, Table, Tree, LISTING_TOO_LONG, UNSOUND};
 
 /// A byte that no listing has, with which buffers are filled before they are lent.
 pub const FILL: u8 = 0xAA;
@@ -80,6 +80,9 @@ impl Pair {
             Call::Load(ref file) => self.load(file),
             Call::Read(ref text) => self.read(text),
             Call::Step { agent, wish } => self.step(agent, wish),
+            Call::Ask { agent, wish } => self.ask(agent, wish),
+            Call::Commit { agent, wish, asked } => self.commit(agent, wish, asked),
+            Call::Invent { agent, wish } => self.invent(agent, wish),
             Call::Touch { place, number } => self.touch(place, number),
             Call::List { room } => self.list(room),
             Call::Renumber { seed } => match &self.cell {
@@ -108,41 +111,6 @@ impl Pair {
                 rows::same("a load", self.bytes(), &rows::loaded(file))?;
                 self.counts.keyed += keys::loaded(self.bytes(), file)? as u64;
                 self.cell = Some(cell);
-                self.agree()
-            }
-        }
-    }
-
-    /// A step: refused with 10 on an unsound table, with 11 for no such agent, else as the model says.
-    fn step(&mut self, agent: u8, wish: u8) -> Result<(), String> {
-        let before = self.lent.clone();
-        let several = self.cell.as_ref().and_then(|cell| rows::several(cell, agent, wish));
-        let by_key = self.cell.as_ref().is_some_and(|cell| keys::by_key(cell, agent));
-        let stepped = match &mut self.cell {
-            None => Err(UNSOUND),
-            Some(cell) => step(cell, agent, wish),
-        };
-        self.counts.steps += 1;
-        let answer = self.lent.step(agent, wish);
-        same("step", answer, answer::of_step(stepped), answer::step_text)?;
-        match stepped {
-            Err(_) => {
-                self.counts.steps_refused += 1;
-                self.unchanged("a refused step", before.bytes())
-            }
-            Ok(Stepped { word, .. }) => {
-                *self.counts.words.entry(word.text()).or_default() += 1;
-                self.counts.pooled += touches::pooled(before.bytes(), self.lent.bytes())? as u64;
-                rows::same(word.text(), self.bytes(), &rows::stepped(before.bytes(), agent, word))?;
-                keys::kept(before.bytes(), self.lent.bytes())?;
-                self.counts.by_key += (by_key && matches!(word, Word::Left | Word::Opened)) as u64;
-                if let (Word::Took, Some(found), Some(cell)) = (word, several, &self.cell) {
-                    self.counts.choices += 1;
-                    self.counts.not_lowest += (cell.agents[&agent].chosen != Some(found[0])) as u64;
-                }
-                if let Some(plain) = &mut self.plain {
-                    demands::follow(plain, agent, wish, word)?;
-                }
                 self.agree()
             }
         }
@@ -239,7 +207,7 @@ impl Pair {
         if self.thorough || self.counts.listings % 32 == 0 {
             self.read_back()?;
         }
-        let one = (self.counts.steps % 67) as u8;
+        let one = (self.counts.turns() % 67) as u8;
         let (first, last) = if self.thorough { (0, 255) } else { (one, one) };
         (first..=last).try_for_each(|place| self.count(place))?;
         self.unchanged("check, idle, list or touches", before.bytes())?;
@@ -253,14 +221,14 @@ impl Pair {
         if cell.idle() {
             self.counts.at_rest += 1;
             demands::at_rest(cell)?;
-        } else if self.thorough || self.counts.steps % 64 == 0 {
+        } else if self.thorough || self.counts.turns() % 64 == 0 {
             self.counts.going_on += 1;
             demands::somebody_can_go_on(cell)?;
         }
-        if cell.settled() && (self.thorough || self.counts.steps % 8 == 0) {
+        if cell.settled() && (self.thorough || self.counts.turns() % 8 == 0) {
             let moves = permitted(&Tree::of(cell));
             let most = if self.thorough { moves.len() } else { 3 };
-            let start = self.counts.steps as usize % moves.len().max(1);
+            let start = self.counts.turns() as usize % moves.len().max(1);
             for &reached in moves.iter().cycle().skip(start).take(most.min(moves.len())) {
                 self.counts.nine_steps += 1;
                 demands::nine_steps(cell, reached)?;

@@ -6,7 +6,7 @@ use crate::counts::Counts;
 use crate::damage;
 use crate::files;
 use crate::layouts;
-use crate::orders::{touch, Order};
+use crate::orders::{touch, unsound, Order};
 use crate::pair::{Pair, LONGEST};
 use crate::random::Random;
 use crate::texts;
@@ -34,7 +34,7 @@ impl Session {
     }
 
     /// Makes a call.
-    fn call(&mut self, call: Call) -> Outcome {
+    pub fn call(&mut self, call: Call) -> Outcome {
         self.calls.push(call);
         let last = &self.calls[self.calls.len() - 1];
         self.pair.call(last).map_err(|_| self.calls.clone())
@@ -203,7 +203,7 @@ impl Session {
         Ok(())
     }
 
-    /// A random order on the cell, with touch calls, listings into small buffers and listings under other numbers among the steps.
+    /// A random order on the cell, with touch calls, asks and commits, listings into small buffers and listings under other numbers among the steps.
     pub fn order(&mut self, random: &mut Random) -> Outcome {
         let mut order = Order::new(random);
         let agents = self.pair.cell.as_ref().map_or(0, |cell| cell.agents.len());
@@ -255,7 +255,7 @@ impl Session {
         for _ in 0..1 + random.below(8) {
             let call = match &self.pair.cell {
                 Some(cell) => order.next(random, cell),
-                None => Call::Step { agent: random.byte() % 80, wish: random.byte() },
+                None => unsound(random),
             };
             self.call(call)?;
             if let (Some(cell), true) = (&self.pair.cell, random.percent(20)) {

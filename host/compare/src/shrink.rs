@@ -76,12 +76,24 @@ impl Shrinking {
     }
 }
 
+/// How far a wish is from none.
+fn far(wish: u8) -> usize {
+    if wish == 255 {
+        0
+    } else {
+        256 + wish as usize
+    }
+}
+
 /// How large an example is: calls first, then the bytes of its files, then how far its numbers are from plain ones.
 fn weight(calls: &[Call]) -> (usize, usize, usize) {
     let bytes = calls.iter().map(|call| if let Call::Load(bytes) | Call::Read(bytes) = call { bytes.len() } else { 0 }).sum();
     let numbers = |call: &Call| match call {
         Call::Load(bytes) | Call::Read(bytes) => bytes.iter().map(|&byte| byte as usize).sum(),
-        Call::Step { agent, wish } => *agent as usize + if *wish == 255 { 0 } else { 256 + *wish as usize },
+        Call::Step { agent, wish } => *agent as usize + far(*wish),
+        Call::Ask { agent, wish } => 500 + *agent as usize + far(*wish),
+        Call::Invent { agent, wish } => 1_000 + *agent as usize + far(*wish),
+        Call::Commit { agent, wish, asked } => 1_000 + *agent as usize + far(*wish) + asked.count_ones() as usize,
         Call::Touch { place, number } => *place as usize + *number as usize,
         Call::List { room } => *room,
         Call::Renumber { seed } => *seed as usize,
@@ -90,12 +102,20 @@ fn weight(calls: &[Call]) -> (usize, usize, usize) {
     (calls.len(), bytes, calls.iter().map(numbers).sum())
 }
 
+/// The agent that a call names.
+fn agent_of(call: &Call) -> Option<u8> {
+    match *call {
+        Call::Step { agent, .. } | Call::Ask { agent, .. } | Call::Commit { agent, .. } | Call::Invent { agent, .. } => Some(agent),
+        _ => None,
+    }
+}
+
 /// The example with the edit, if it applies.
 fn edited(calls: &[Call], edit: Edit) -> Option<Vec<Call>> {
     let mut other = calls.to_vec();
     match edit {
         Edit::Agent(number) => {
-            other.retain(|call| !matches!(call, Call::Step { agent, .. } if *agent == number));
+            other.retain(|call| agent_of(call) != Some(number));
             each_file(&mut other, |rows| rows.retain(|row| !(matches!(row[0], 2 | 3) && row.get(1) == Some(&number))));
         }
         Edit::Calls(from, count) => {
@@ -114,7 +134,7 @@ fn edited(calls: &[Call], edit: Edit) -> Option<Vec<Call>> {
                 rows.iter_mut().filter(|row| matches!(row[0], 2 | 3)).for_each(|row| replace(row, &[1], from, to))
             });
             for call in &mut other {
-                if let Call::Step { agent, .. } = call {
+                if let Call::Step { agent, .. } | Call::Ask { agent, .. } | Call::Commit { agent, .. } | Call::Invent { agent, .. } = call {
                     *agent = if *agent == from { to } else { *agent };
                 }
             }
@@ -162,7 +182,11 @@ fn edited(calls: &[Call], edit: Edit) -> Option<Vec<Call>> {
             _ => return None,
         },
         Edit::Plainer(at) => match other.get_mut(at)? {
-            Call::Step { wish, .. } => *wish = 255,
+            Call::Step { wish, .. } | Call::Ask { wish, .. } | Call::Invent { wish, .. } if *wish != 255 => *wish = 255,
+            Call::Commit { wish, .. } if *wish != 255 => *wish = 255,
+            Call::Step { .. } => return None,
+            Call::Invent { agent, wish } => other[at] = Call::Ask { agent: *agent, wish: *wish },
+            Call::Ask { agent, wish } | Call::Commit { agent, wish, .. } => other[at] = Call::Step { agent: *agent, wish: *wish },
             Call::Touch { number, .. } => *number /= 2,
             Call::List { room } => *room /= 2,
             Call::Renumber { seed } => *seed /= 2,

@@ -5,6 +5,7 @@
 //! document 02 is named there with its request.
 
 mod alike;
+mod ask;
 mod calculus;
 mod cell;
 mod children;
@@ -21,6 +22,7 @@ mod touch;
 mod walk;
 
 pub use alike::alike;
+pub use ask::{ask, commit, Asked, NONE_CHOSEN};
 pub use calculus::{make, permitted, Ambient, Move, Tree};
 pub use cell::{Action, Agent, Cell, Keys, Kind, Place, Places, Stands};
 pub use children::Children;
@@ -71,3 +73,5 @@ pub const TOO_MANY_TOUCHES: u8 = 15;
 pub const OUTSIDE_LANGUAGE: u8 = 16;
 /// Document 02, W8: "17, at the text's length, for too many of anything"
 pub const TOO_MANY: u8 = 17;
+/// Document 02, W9: "18 if the answer would differ, after 10 and 11"
+pub const ANSWER_DIFFERS: u8 = 18;

@@ -78,6 +78,8 @@ pub enum Refusal {
     /// 17: the text has more than 63 places, more than 64 agents, or an agent with more than sixteen actions. The offset is the text's length.
     /// Leave something out.
     TooMany,
+    /// 18: the step would not answer what the commit hands back: another call came between, or no ask gave it. Ask again.
+    AnswerDiffers,
     /// 255, which no library answers: the linked library is not one that this crate was made for, and was not called.
     OtherLibrary,
     /// A refusal of a later library, by its number.
@@ -94,13 +96,22 @@ pub struct Refused {
     pub offset: Option<usize>,
 }
 
-/// What a step did.
+/// What a step or a commit did.
 #[derive(Clone, Copy, PartialEq, Eq, Hash, Debug)]
 pub struct Stepped {
     /// What the agent did.
     pub word: Word,
     /// How many sleeping agents that woke.
     pub woken: u8,
+}
+
+/// What a step of an agent would answer, and the place that it would choose: [`Cell::ask`](crate::Cell::ask) tells it, and
+/// [`Cell::commit`](crate::Cell::commit) takes it back. The library's number is kept in it as it is.
+#[derive(Clone, Copy, PartialEq, Eq, Hash)]
+pub struct Asked {
+    agent: u8,
+    wish: u8,
+    number: u64,
 }
 
 impl Word {
@@ -118,6 +129,23 @@ impl Word {
             9 => Word::Asleep,
             10 => Word::Done,
             _ => Word::Unknown(number),
+        }
+    }
+
+    /// The library's number of the word.
+    pub(crate) fn number(self) -> u8 {
+        match self {
+            Word::Looked => 0,
+            Word::Took => 1,
+            Word::Held => 2,
+            Word::Back => 3,
+            Word::Slept => 4,
+            Word::Left => 5,
+            Word::Came => 6,
+            Word::Opened => 7,
+            Word::Asleep => 9,
+            Word::Done => 10,
+            Word::Unknown(number) => number,
         }
     }
 
@@ -139,9 +167,75 @@ impl Word {
     }
 }
 
+impl Stepped {
+    /// The word and the number woken, where an answer that was not refused has them.
+    pub(crate) fn of(answer: u64) -> Stepped {
+        Stepped { word: Word::of((answer >> 8) as u8), woken: (answer >> 16) as u8 }
+    }
+}
+
+impl Asked {
+    /// The chosen place where there is none.
+    const NONE_CHOSEN: u8 = 255;
+
+    /// What was asked, with the library's number, which was not refused.
+    pub(crate) fn of(agent: u8, wish: u8, number: u64) -> Asked {
+        Asked { agent, wish, number }
+    }
+
+    /// The library's number.
+    pub(crate) fn number(self) -> u64 {
+        self.number
+    }
+
+    /// The same made by hand, of what a host kept or was told: agent, wish, and the three values that an ask tells. For what no ask of a cell
+    /// tells, the commit is refused with [`Refusal::AnswerDiffers`]. A chosen place of 255 is none.
+    pub fn new(agent: u8, wish: u8, word: Word, woken: u8, chosen: Option<u8>) -> Asked {
+        let [word, woken, chosen] = [word.number(), woken, chosen.unwrap_or(Asked::NONE_CHOSEN)].map(u64::from);
+        Asked { agent, wish, number: word << 8 | woken << 16 | chosen << 24 }
+    }
+
+    /// The agent that was asked for.
+    pub fn agent(self) -> u8 {
+        self.agent
+    }
+
+    /// The wish that was asked with.
+    pub fn wish(self) -> u8 {
+        self.wish
+    }
+
+    /// What the agent would do.
+    pub fn word(self) -> Word {
+        Stepped::of(self.number).word
+    }
+
+    /// How many sleeping agents that would wake.
+    pub fn woken(self) -> u8 {
+        Stepped::of(self.number).woken
+    }
+
+    /// The place that an enter would enter or an open would open. It is told where the agent holds its first lock (stage 2) and its action fires,
+    /// also with [`Word::Held`], and where it holds both (stage 3) and its action still fires; not for an exit, nor at any other stage.
+    pub fn chosen(self) -> Option<u8> {
+        match (self.number >> 24) as u8 {
+            Asked::NONE_CHOSEN => None,
+            place => Some(place),
+        }
+    }
+}
+
+impl fmt::Debug for Asked {
+    fn fmt(&self, out: &mut fmt::Formatter<'_>) -> fmt::Result {
+        let mut out = out.debug_struct("Asked");
+        out.field("agent", &self.agent).field("wish", &self.wish);
+        out.field("word", &self.word()).field("woken", &self.woken()).field("chosen", &self.chosen()).finish()
+    }
+}
+
 impl Refusal {
-    /// The library's refusals, 1 to 17, in the order of their numbers.
-    pub const ALL: [Refusal; 17] = [
+    /// The library's refusals, 1 to 18, in the order of their numbers.
+    pub const ALL: [Refusal; 18] = [
         Refusal::CutShort,
         Refusal::UnknownKind,
         Refusal::TooLarge,
@@ -159,6 +253,7 @@ impl Refusal {
         Refusal::TooManyTouches,
         Refusal::OutsideLanguage,
         Refusal::TooMany,
+        Refusal::AnswerDiffers,
     ];
 
     /// The number of [`Refusal::OtherLibrary`].
@@ -184,6 +279,7 @@ impl Refusal {
             15 => Refusal::TooManyTouches,
             16 => Refusal::OutsideLanguage,
             17 => Refusal::TooMany,
+            18 => Refusal::AnswerDiffers,
             Refusal::OTHER_LIBRARY => Refusal::OtherLibrary,
             _ => Refusal::Unknown(number),
         }
@@ -209,6 +305,7 @@ impl Refusal {
             Refusal::TooManyTouches => 15,
             Refusal::OutsideLanguage => 16,
             Refusal::TooMany => 17,
+            Refusal::AnswerDiffers => 18,
             Refusal::OtherLibrary => Refusal::OTHER_LIBRARY,
             Refusal::Unknown(number) => number,
         }
@@ -234,6 +331,7 @@ impl Refusal {
             Refusal::TooManyTouches => "more than 1,000,000,000,000 touches in all",
             Refusal::OutsideLanguage => "not a text of the listing's language",
             Refusal::TooMany => "more than 63 places, 64 agents or sixteen actions of one agent",
+            Refusal::AnswerDiffers => "the step would answer otherwise",
             Refusal::OtherLibrary => "not the library that this crate was made for",
             Refusal::Unknown(_) => "unknown",
         }
@@ -268,7 +366,7 @@ impl Error for Refused {}
 
 #[cfg(test)]
 mod tests {
-    use super::{Refusal, Word};
+    use super::{Asked, Refusal, Stepped, Word};
 
     #[test]
     fn every_number_has_a_refusal_and_a_word() {
@@ -276,12 +374,24 @@ mod tests {
             assert_eq!(Refusal::of(number).number(), number);
         }
         assert!((0..=255).all(|number| (Word::of(number) == Word::Unknown(number)) == (number == 8 || number > 10)));
+        assert!((0..=255).all(|number| Word::of(number).number() == number));
+    }
+
+    #[test]
+    fn what_is_made_by_hand_is_what_is_told() {
+        for number in (0..=255).flat_map(|byte: u64| [byte << 8, byte << 16, byte << 24, byte << 8 | byte << 16 | byte << 24]) {
+            let told = Asked::of(7, 9, number);
+            assert_eq!(Asked::new(7, 9, told.word(), told.woken(), told.chosen()), told);
+            assert_eq!((told.agent(), told.wish(), told.number()), (7, 9, number));
+            assert_eq!(Stepped { word: told.word(), woken: told.woken() }, Stepped::of(number));
+            assert_eq!(told.chosen(), Some((number >> 24) as u8).filter(|&place| place != 255));
+        }
     }
 
     #[test]
     fn unknown_numbers_have_texts() {
-        assert!((1..=254).all(|number| (Refusal::of(number) == Refusal::Unknown(number)) == (number > 17)));
-        assert_eq!(Refusal::of(18).text(), "unknown");
+        assert!((1..=254).all(|number| (Refusal::of(number) == Refusal::Unknown(number)) == (number > 18)));
+        assert_eq!(Refusal::of(19).text(), "unknown");
         assert_eq!(Word::of(8).name(), "unknown");
     }
 }

@@ -121,6 +121,8 @@ extern "C" {
     fn keeper_load(cell: *mut Lent, file: *const u8, len: usize) -> u64;
     fn keeper_read(cell: *mut Lent, text: *const u8, length: usize) -> u64;
     fn keeper_step(cell: *mut Lent, agent: u8, wish: u8) -> u64;
+    fn keeper_ask(cell: *const Lent, agent: u8, wish: u8) -> u64;
+    fn keeper_commit(cell: *mut Lent, agent: u8, wish: u8, asked: u64) -> u64;
     fn keeper_list(cell: *const Lent, text: *mut u8, room: usize) -> u64;
     fn keeper_check(cell: *const Lent) -> u64;
     fn keeper_idle(cell: *const Lent) -> u64;
@@ -152,7 +154,7 @@ fn fitting(version: u64, cell_bytes: u64) -> bool {
 }
 
 /// The answer of a call, which is made only where the library fits.
-fn asked(call: impl FnOnce() -> u64) -> u64 {
+fn answered(call: impl FnOnce() -> u64) -> u64 {
     if fits() {
         call()
     } else {
@@ -176,47 +178,57 @@ impl Lent {
 
     /// Makes the cell a bare floor.
     pub fn bare(&mut self) -> u64 {
-        asked(|| unsafe { keeper_bare(self) })
+        answered(|| unsafe { keeper_bare(self) })
     }
 
     /// Makes the cell what the cell file says.
     pub fn load(&mut self, file: &[u8]) -> u64 {
-        asked(|| unsafe { keeper_load(self, file.as_ptr(), file.len()) })
+        answered(|| unsafe { keeper_load(self, file.as_ptr(), file.len()) })
     }
 
     /// Makes the cell what the text, of the listing's language, says. It may have any bytes.
     pub fn read(&mut self, text: &[u8]) -> u64 {
-        asked(|| unsafe { keeper_read(self, text.as_ptr(), text.len()) })
+        answered(|| unsafe { keeper_read(self, text.as_ptr(), text.len()) })
     }
 
     /// One lock step of an agent.
     pub fn step(&mut self, agent: u8, wish: u8) -> u64 {
-        asked(|| unsafe { keeper_step(self, agent, wish) })
+        answered(|| unsafe { keeper_step(self, agent, wish) })
+    }
+
+    /// What a step of an agent would answer, and the place that it would choose.
+    pub fn ask(&self, agent: u8, wish: u8) -> u64 {
+        answered(|| unsafe { keeper_ask(self, agent, wish) })
+    }
+
+    /// The step, if an ask would answer this number now.
+    pub fn commit(&mut self, agent: u8, wish: u8, asked: u64) -> u64 {
+        answered(|| unsafe { keeper_commit(self, agent, wish, asked) })
     }
 
     /// Writes the listing to the start of the text.
     pub fn list(&self, text: &mut [u8]) -> u64 {
-        asked(|| unsafe { keeper_list(self, text.as_mut_ptr(), text.len()) })
+        answered(|| unsafe { keeper_list(self, text.as_mut_ptr(), text.len()) })
     }
 
     /// Whether the table is sound.
     pub fn check(&self) -> u64 {
-        asked(|| unsafe { keeper_check(self) })
+        answered(|| unsafe { keeper_check(self) })
     }
 
     /// Whether all agents are asleep or done.
     pub fn idle(&self) -> u64 {
-        asked(|| unsafe { keeper_idle(self) })
+        answered(|| unsafe { keeper_idle(self) })
     }
 
     /// Adds a number to the touch count of a place.
     pub fn touch(&mut self, place: u8, number: u32) -> u64 {
-        asked(|| unsafe { keeper_touch(self, place, number) })
+        answered(|| unsafe { keeper_touch(self, place, number) })
     }
 
     /// The touch count of a place, if the table is sound and the place in use; the field `touches` holds the counts of all places.
     pub fn touches(&self, place: u8) -> u64 {
-        asked(|| unsafe { keeper_touches(self, place) })
+        answered(|| unsafe { keeper_touches(self, place) })
     }
 
     /// The bytes of the cell.

@@ -58,6 +58,21 @@
 //! assert_eq!(cell.step(0, 255)?.word, Word::Looked);
 //! assert_eq!(Cell::read("9[] | 7[enter 0]").unwrap_err().offset, Some(14));
 //!
+//! // Ask, then commit: what a step would do is told first, so that a gripper can be parked before place 1 leaves for place 2. The step is made
+//! // only if it is still that.
+//! let mut cell = Cell::read("7[enter 9] | 9[]")?;
+//! loop {
+//!     let asked = cell.ask(0, 255)?;
+//!     if asked.word() == Word::Left {
+//!         assert_eq!(asked.chosen(), Some(2));
+//!     }
+//!     if cell.commit(asked)?.word == Word::Came {
+//!         break;
+//!     }
+//! }
+//! let length = cell.list(&mut text)?;
+//! assert_eq!(&text[..length], b"9[7[]]");
+//!
 //! // A file of length 0 is a bare floor: a line with nothing on it yet.
 //! let cell = Cell::load(&[])?;
 //! let length = cell.list(&mut text)?;
@@ -85,12 +100,12 @@ mod answer;
 mod cell;
 pub mod lent;
 
-pub use answer::{Refusal, Refused, Stepped, Word};
+pub use answer::{Asked, Refusal, Refused, Stepped, Word};
 pub use cell::Cell;
 
 /// The version of the library that this crate was made for: the major number from bit 16 on, the minor one in bits 8 to 15, the patch in
 /// bits 0 to 7.
-pub const VERSION: u64 = 327_936;
+pub const VERSION: u64 = 328_192;
 
 /// The longest cell file that can be accepted.
 pub const FILE_LONGEST: usize = 6_390;

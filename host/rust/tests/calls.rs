@@ -1,7 +1,7 @@
 //! Each call of the crate: what it answers, and that a refusal changes nothing.
 
 use keeper::lent::{cell_bytes, fits, version, Lent, SIZE};
-use keeper::{check_library, Cell, Refusal, Refused, Stepped, Word, TOUCHES_MOST, VERSION};
+use keeper::{check_library, Asked, Cell, Refusal, Refused, Stepped, Word, TOUCHES_MOST, VERSION};
 
 /// The worked example's cell: `7[enter 9] | 9[exit 7]`.
 const FILE: [u8; 27] = [1, 1, 0, 7, 0, 1, 2, 0, 9, 0, 2, 0, 1, 3, 0, 1, 9, 0, 2, 1, 2, 3, 1, 2, 7, 0, 4];
@@ -105,6 +105,7 @@ fn refused_steps_and_listings() {
     let before = cell.clone();
     for agent in [2, 63, 64, 255] {
         assert_eq!(cell.step(agent, 0), Err(Refused { refusal: Refusal::NoSuchAgent, offset: None }));
+        assert_eq!(cell.ask(agent, 0), Err(Refused { refusal: Refusal::NoSuchAgent, offset: None }));
     }
     let mut text = [b'.'; 30];
     assert_eq!(cell.list(&mut text[..21]), Err(Refused { refusal: Refusal::ListingTooLong, offset: None }));
@@ -121,6 +122,7 @@ fn an_unsound_table() {
     assert_eq!(cell.check(), Err(unsound));
     assert_eq!(cell.idle(), Err(unsound));
     assert_eq!(cell.step(64, 0), Err(unsound));
+    assert_eq!((cell.ask(64, 0), cell.commit(Asked::new(64, 0, Word::Looked, 0, None))), (Err(unsound), Err(unsound)));
     assert_eq!(cell.list(&mut []), Err(unsound));
     assert_eq!((cell.touch(64, 0), cell.touches(64)), (Err(unsound), Err(unsound)));
     assert!(*cell.lent() == Lent::zeros());
@@ -253,7 +255,7 @@ fn texts() {
     let refused = Cell::load(&[4, 4]).unwrap_err();
     assert_eq!(refused.to_string(), "refused with 9: bytes after the end record, at byte 1");
     let numbers: Vec<u8> = Refusal::ALL.iter().map(|refusal| refusal.number()).collect();
-    assert_eq!(numbers, (1..=17).collect::<Vec<u8>>());
+    assert_eq!(numbers, (1..=18).collect::<Vec<u8>>());
     assert_eq!(Refusal::TooLarge.to_string(), "place number above 63, or 0 in a place record");
     assert_eq!(Cell::load(&[1, 1, 64, 7, 0, 4]).unwrap_err().to_string(), "refused with 13: parent or home above 63, at byte 0");
     assert_eq!(Cell::load(&[2, 64, 0, 4]).unwrap_err().to_string(), "refused with 14: agent number above 63, at byte 0");

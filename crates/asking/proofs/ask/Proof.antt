@@ -12,10 +12,10 @@ use Rattle.asking.proofs.ask.Tie as tie
 returns : tie.Need-returns
 returns c =
     let v = c .before .before .before in
-    let s = v .before .args in
-    c .asked .ensures ∙ ap (askedOf (s .c) (v .see .result .agent)) (c .before .decide .ensures)
-    ∙ ap (λ (w : Seen). askedOf (s .c) (w .agent) (decided w (s .c) (s .agent) (s .wish))) (v .see .ensures)
-    ∙ decided-ask (s .c) (sized (s .c) (v .before .good .0)) (s .agent) (s .wish)
+    let s = v .args in
+    c .asked .ensures
+    ∙ ap (askedOf (s .c)) (c .before .decide .ensures ∙ ap (λ (w : Seen). decided w (s .c) (s .agent) (s .wish)) (c .before .before .see .ensures))
+    ∙ decided-ask (s .c) (sized (s .c) (v .good .0)) (s .agent) (s .wish)
 
 pub ask-spec : {M : Type 1} → statement M
 ask-spec = tie.close (tie.spec (λ c κs. search needs) (λ c κs. search needs) (λ c κs. search needs) returns)

@@ -1,6 +1,7 @@
 //! The plain peer: a Rust keeper with the same tests at every call and the same answers, as one writes it first.
 //!
-//! The cell is changed in place. Every pass goes over all 64 numbers and asks of each whether it is in use. Loading is the tuned peer's.
+//! The cell is changed in place; an ask steps a copy, and a commit takes that copy. Every pass goes over all 64 numbers and asks of each whether
+//! it is in use. Loading is the tuned peer's.
 
 mod list;
 mod read;
@@ -9,7 +10,7 @@ mod step;
 
 use crate::cell::{has, Cell};
 use crate::keeper::Keeper;
-use crate::tuned::{take, Tuned, NOT_GIVEN, NO_SUCH_AGENT, TOO_LARGE, TOO_LONG, TOO_MANY_TOUCHES, UNSOUND};
+use crate::tuned::{take, Tuned, ANSWER_DIFFERS, NOT_GIVEN, NO_SUCH_AGENT, TOO_LARGE, TOO_LONG, TOO_MANY_TOUCHES, UNSOUND};
 use sound::{few_touches, sound};
 
 /// The plain Rust keeper.
@@ -39,6 +40,26 @@ impl Keeper for Plain {
         }
         let (word, woken) = step::step(cell, agent, wish);
         woken << 16 | word << 8
+    }
+
+    #[inline(never)]
+    fn ask(cell: &Cell, agent: u8, wish: u8) -> u64 {
+        match told(cell, agent, wish) {
+            Ok((_, number)) => number,
+            Err(refused) => refused,
+        }
+    }
+
+    #[inline(never)]
+    fn commit(cell: &mut Cell, agent: u8, wish: u8, asked: u64) -> u64 {
+        match told(cell, agent, wish) {
+            Ok((after, number)) if number == asked => {
+                *cell = after;
+                number & 0xFF_FFFF
+            }
+            Ok(_) => ANSWER_DIFFERS,
+            Err(refused) => refused,
+        }
     }
 
     #[inline(never)]
@@ -93,6 +114,15 @@ impl Keeper for Plain {
             0 => cell.touches[place as usize] << 8,
             refused => refused,
         }
+    }
+}
+
+/// The cell after the step, and the number that an ask tells; or its refusal.
+fn told(cell: &Cell, agent: u8, wish: u8) -> Result<(Cell, u64), u64> {
+    let mut after = *cell;
+    match Plain::step(&mut after, agent, wish) {
+        answer if answer & 255 == 0 => Ok((after, answer | (step::chosen(cell, agent, wish) as u64) << 24)),
+        refused => Err(refused),
     }
 }
 

@@ -123,6 +123,19 @@ fn choose(cell: &Cell, action: Action, home: u8, p: u8, wish: u8) -> Option<u8> 
     }
 }
 
+/// The place that an ask of agent x tells, or 255.
+pub fn chosen(cell: &Cell, x: u8, wish: u8) -> u8 {
+    let agent = &cell.agents[x as usize];
+    let (home, p, action) = (agent.home, agent.remembered, agent.action());
+    let none = 255;
+    match agent.stage {
+        _ if action.kind == EXIT => none,
+        2 if action.kind == OPEN || linked_to(cell, home, p) => choose(cell, action, home, p, wish).unwrap_or(none),
+        3 if fires(cell, action, home, p, agent.chosen) => agent.chosen,
+        _ => none,
+    }
+}
+
 fn hold(cell: &mut Cell, x: u8, agent: &Mind, wish: u8) -> Answer {
     let (home, p, action) = (agent.home, agent.remembered, agent.action);
     if action.kind != OPEN && !linked_to(cell, home, p) {

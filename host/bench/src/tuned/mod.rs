@@ -3,6 +3,7 @@
 //! The cell is changed in place. Every pass walks over the numbers in use only, and leaves at the first fault. Nothing is remembered between calls, so every call tests soundness in full, as the proved keeper does.
 //! The calls are not inlined into the loops that measure them, as those of the library are not.
 
+mod ask;
 mod list;
 mod load;
 mod read;
@@ -26,6 +27,8 @@ pub const NO_SUCH_AGENT: u64 = 11;
 pub const TOO_LONG: u64 = 12;
 /// Refusal: too many touches.
 pub const TOO_MANY_TOUCHES: u64 = 15;
+/// Refusal: the step would answer otherwise.
+pub const ANSWER_DIFFERS: u64 = 18;
 /// Refusal: a text outside the language.
 pub const OUTSIDE_LANGUAGE: u8 = 16;
 /// Refusal: a text with too many of anything.
@@ -72,6 +75,32 @@ impl Keeper for Tuned {
         }
         let (word, woken) = step::step(cell, agent, wish);
         (woken as u64) << 16 | (word as u64) << 8
+    }
+
+    #[inline(never)]
+    fn ask(cell: &Cell, agent: u8, wish: u8) -> u64 {
+        if !sound(cell) {
+            return UNSOUND;
+        }
+        if !has(cell.given, agent) {
+            return NO_SUCH_AGENT;
+        }
+        ask::told(cell, agent, wish)
+    }
+
+    #[inline(never)]
+    fn commit(cell: &mut Cell, agent: u8, wish: u8, asked: u64) -> u64 {
+        if !sound(cell) {
+            return UNSOUND;
+        }
+        if !has(cell.given, agent) {
+            return NO_SUCH_AGENT;
+        }
+        if ask::told(cell, agent, wish) != asked {
+            return ANSWER_DIFFERS;
+        }
+        step::step(cell, agent, wish);
+        asked & 0xFF_FFFF
     }
 
     #[inline(never)]

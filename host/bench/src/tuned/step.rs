@@ -21,9 +21,9 @@ pub enum Word {
 /// A word and the number of agents woken.
 type Answer = (Word, u32);
 
-const ENTER: u8 = 1;
-const EXIT: u8 = 2;
-const OPEN: u8 = 3;
+pub const ENTER: u8 = 1;
+pub const EXIT: u8 = 2;
+pub const OPEN: u8 = 3;
 
 impl Agent {
     /// Sets the stage with the remembered and the chosen place, 0 where there is none.
@@ -36,7 +36,7 @@ impl Agent {
         self.stand(if self.next < self.count { 0 } else { 8 }, 0, 0);
     }
 
-    fn asleep_on(&self, place: u8) -> bool {
+    pub fn asleep_on(&self, place: u8) -> bool {
         self.stage == 7 && self.remembered == place
     }
 }
@@ -66,7 +66,7 @@ pub fn step(cell: &mut Cell, x: u8, wish: u8) -> Answer {
 }
 
 /// The next action; a sound table has one at stages 0 to 3.
-fn next_action(agent: &Agent) -> Action {
+pub fn next_action(agent: &Agent) -> Action {
     agent.actions[agent.next as usize]
 }
 
@@ -114,7 +114,7 @@ fn look(cell: &mut Cell, x: u8) -> Answer {
 }
 
 /// Whether an action of an agent that lives in home and holds p fires on q; exit fires on p itself.
-fn fires(cell: &Cell, action: Action, home: u8, p: u8, q: u8) -> bool {
+pub fn fires(cell: &Cell, action: Action, home: u8, p: u8, q: u8) -> bool {
     let keyed = has(cell.used, q) && cell.places[q as usize].name.key(action.kind) == action.name;
     keyed
         && match action.kind {
@@ -130,7 +130,7 @@ fn awaited(cell: &Cell, q: u8) -> bool {
 }
 
 /// The wished place if the action fires on it, else the one on which it does that has been there longest.
-fn choose(cell: &Cell, action: Action, home: u8, p: u8, wish: u8) -> Option<u8> {
+pub fn choose(cell: &Cell, action: Action, home: u8, p: u8, wish: u8) -> Option<u8> {
     let fits = |q: u8| fires(cell, action, home, p, q);
     if action.kind == EXIT {
         fits(p).then_some(p)

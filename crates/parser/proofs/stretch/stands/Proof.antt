@@ -3,7 +3,6 @@ use mathlib.Core.Path.{_≡_, refl}
 use Prim.Native.Nat.{ℕ, _+_, _-_, _≤_, _<_}
 use native.Mathlib.Omega.{arith}
 use lib.ListN.{length, getD}
-use borrow.Author.Needs.{needs}
 use Rattle.table.specs.BaseLaws.{clash}
 use Rattle.parser.specs.StretchLaws.{alike-more}
 use Rattle.parser.proofs.stretch.stands.Statement.{statement}
