@@ -68,6 +68,7 @@ rows =
     -- "keys 0 to 65,535 (three that equal the name may be written or left off)"
     ∷ lists "7/7/7/7[]" "7[]"
     ∷ lists "7/0/65535/10[7/7/7/8[]]" "7/0/65535/10[7/7/7/8[]]"
+    ∷ lists "7/7/0/0[]" "7/7/0/0[]"
     -- "Places and agents are numbered as they appear, places from 1 and agents from 0, and touches are 0": outer before inner, and the row of
     -- places is the order of appearance
     ∷ gives "7[enter 9] | 9[exit 7]" (file (place 1 0 7 ∷ agent 0 1 ∷ enters 0 9 ∷ place 2 0 9 ∷ agent 1 2 ∷ exits 1 7 ∷ []))
@@ -103,6 +104,7 @@ rows =
     ∷ stops "7[]  | 9[]" 16 4
     -- "nothing after the end", also no end of a line
     ∷ stops "7[]]" 16 3
+    ∷ stops "7[9[]" 16 5
     ∷ stops "7[]\n" 16 3
     ∷ stops "enter 7.7[]" 16 8
     ∷ stops "embark" 16 1

@@ -48,11 +48,22 @@ rows =
     ∷ row [] [] ("refused 16 0" ∷ "" ∷ "^" ∷ [])
     ∷ row (ascii "7[0]") (agents "0") ("refused 16 2" ∷ "7[0]" ∷ "  ^" ∷ [])
     ∷ row (ascii "7[enter 7\n") [] ("refused 16 9" ∷ "7[enter 7" ∷ "         ^" ∷ [])
+    -- bytes 32 to 126 are shown as they are, all others as `?`
+    ∷ row (55 ∷ 32 ∷ 126 ∷ []) [] ("refused 16 1" ∷ "7 ~" ∷ " ^" ∷ [])
+    ∷ row (55 ∷ 31 ∷ 127 ∷ 255 ∷ []) [] ("refused 16 1" ∷ "7???" ∷ " ^" ∷ [])
+    -- too many of anything: seventeen actions
+    ∷ row (ascii "enter 1.enter 1.enter 1.enter 1.enter 1.enter 1.enter 1.enter 1.enter 1.enter 1.enter 1.enter 1.enter 1.enter 1.enter 1.enter 1.enter 1") []
+    ("refused 17 135" ∷ ".enter 1.enter 1.enter 1.enter 1.enter 1" ∷ "                                        ^" ∷ [])
     -- a text of 72 bytes is shown whole, a longer one from 40 bytes before the offset on
     ∷ row (ascii "1[2[3[4[5[6[7[8[9[10[11[12[13[14[15[16[17[18[19[20[ ]]]]]]]]]]]]]]]]]]]]") []
     ("refused 16 51" ∷ "1[2[3[4[5[6[7[8[9[10[11[12[13[14[15[16[17[18[19[20[ ]]]]]]]]]]]]]]]]]]]]" ∷ "                                                   ^" ∷ [])
     ∷ row (ascii "1[2[3[4[5[6[7[8[9[10[11[12[13[14[15[16[17[18[19[20[ ]]]]]]]]]]]]]]]]]]]]]") []
     ("refused 16 51" ∷ "[7[8[9[10[11[12[13[14[15[16[17[18[19[20[ ]]]]]]]]]]]]]]]]]]]]]" ∷ "                                        ^" ∷ [])
+    -- 72 bytes and no more
+    ∷ row (ascii "xxxxxxxxxxxxxxxxxxxxxxxxxxxxxxxxxxxxxxxxxxxxxxxxxxxxxxxxxxxxxxxxxxxxxxxxxxxxxxxx") []
+    ("refused 16 0" ∷ "xxxxxxxxxxxxxxxxxxxxxxxxxxxxxxxxxxxxxxxxxxxxxxxxxxxxxxxxxxxxxxxxxxxxxxxx" ∷ "^" ∷ [])
+    ∷ row (ascii "1[2[3[4[5[6[7[8[9[10[11[12[13[14[15[16[17[18[19[20[xxxxxxxxxxxxxxxxxxxxxxxxxxxxxxxxxxxxxxxxxxxxxxxxxxxxxxxxxxxxxxxxxxxxxxxxxxxxxxxxxxxxxxxxxxxxxxxxxxx") []
+    ("refused 16 51" ∷ "[7[8[9[10[11[12[13[14[15[16[17[18[19[20[xxxxxxxxxxxxxxxxxxxxxxxxxxxxxxxx" ∷ "                                        ^" ∷ [])
     ∷ []
 
 -- two texts are the same
