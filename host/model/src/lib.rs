@@ -1,5 +1,4 @@
-//! The cell keeper once more, written from document 01 and the landed requests of document 02 alone, in plain vectors and maps; but whoever
-//! wrote `ask` had read the library's definition of it.
+//! The cell keeper once more, written from document 01 and the landed requests of document 02 alone, in plain vectors and maps.
 //!
 //! It serves one purpose: the library is compared with it, call by call. So it follows the papers' sentences one after another, is
 //! slow where slow is simpler, and shares nothing with the library. The sentence that a function stands for is quoted above it; one of
