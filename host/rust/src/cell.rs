@@ -1,9 +1,11 @@
-//! A cell and its calls.
+//! A cell, and where it comes from: a file, a text, or memory that a host kept. Its other calls stand in the modules.
 
-use crate::answer::{Asked, Refusal, Refused, Stepped};
+mod listing;
+mod steps;
+mod touches;
+
 use crate::lent::Lent;
-#[cfg(feature = "alloc")]
-use crate::LISTING_LONGEST;
+use crate::refusal::{Refusal, Refused};
 
 /// A cell. One that came from [`Cell::bare`], [`Cell::load`] or [`Cell::read`] stays sound, so its calls are never refused with 10.
 #[derive(Clone, Debug)]
@@ -111,112 +113,6 @@ impl Cell {
         accepted_whole(self.lent.read(text.as_bytes()))
     }
 
-    /// One lock step of an agent. `wish` is the number of the place that an enter or open should choose where several qualify. It counts
-    /// in the call in which the agent, holding its first lock, chooses. A wish for a place that does not qualify, or for none, such as 255,
-    /// is passed over, and the qualifying place is chosen that has been under its parent longest: first in, first served. Loaded places count in
-    /// file order, or in that of the text; a place that comes is the latest, and so are those that an opening frees, in the order in which they stood. Which places
-    /// qualify, their keys say ([`lent::Name`](crate::lent::Name)).
-    ///
-    /// # Errors
-    ///
-    /// Refused with 10 where the table is unsound, else with 11 where no such agent is in the cell; the cell is then as it was.
-    pub fn step(&mut self, agent: u8, wish: u8) -> Result<Stepped, Refused> {
-        let answer = self.lent.step(agent, wish);
-        accepted(answer)?;
-        Ok(Stepped::of(answer))
-    }
-
-    /// What a step of this agent with this wish would answer, and which place it would choose. No step is made. It is for a host that has
-    /// something to do before the step, such as to park a gripper before the place under it leaves; [`Cell::commit`] then makes the step, if it
-    /// is still the one that was told.
-    ///
-    /// ```
-    /// use keeper::{Asked, Cell, Refusal, Word};
-    ///
-    /// // Agent 0 takes holder 30, place 1, into bonder 20, place 2; agent 1 takes magazine 40, place 3, into it.
-    /// let mut cell = Cell::read("30[enter 20] | 20[] | 40[enter 20]")?;
-    /// let mut parked = Vec::new();
-    /// while !cell.idle()? {
-    ///     let asked = cell.ask(0, 255)?;
-    ///     if asked.word() == Word::Left {
-    ///         // the gripper is parked before the holder leaves for the bonder
-    ///         assert_eq!(asked.chosen(), Some(2));
-    ///         parked.push(cell.lent().agents[0].home);
-    ///     }
-    ///     let stepped = cell.commit(asked)?;
-    ///     assert_eq!((stepped.word, stepped.woken), (asked.word(), asked.woken()));
-    ///     if stepped.word == Word::Done {
-    ///         cell.step(1, 255)?;
-    ///     }
-    /// }
-    /// assert_eq!(parked, [1]);
-    ///
-    /// // Another agent has locked the floor since the ask: the commit is refused, and the host asks again.
-    /// let mut cell = Cell::read("30[enter 20] | 20[] | 40[enter 20]")?;
-    /// cell.step(0, 255)?;
-    /// cell.step(1, 255)?;
-    /// let asked = cell.ask(0, 255)?;
-    /// assert_eq!(asked, Asked::new(0, 255, Word::Took, 0, None));
-    /// cell.step(1, 255)?;
-    /// assert_eq!(cell.commit(asked).unwrap_err().refusal, Refusal::AnswerDiffers);
-    /// assert_eq!(cell.ask(0, 255)?.word(), Word::Held);
-    /// # Ok::<(), keeper::Refused>(())
-    /// ```
-    ///
-    /// # Errors
-    ///
-    /// Refused with 10 where the table is unsound, else with 11 where no such agent is in the cell.
-    pub fn ask(&self, agent: u8, wish: u8) -> Result<Asked, Refused> {
-        let answer = self.lent.ask(agent, wish);
-        accepted(answer)?;
-        Ok(Asked::of(agent, wish, answer))
-    }
-
-    /// The step that was asked for, if it would still answer what the ask told: the same word, the same number woken and the same place. Then it is
-    /// [`Cell::step`] with the agent and the wish of the ask. A commit right after its ask is always that step; one of [`Word::Held`](crate::Word::Held),
-    /// [`Word::Asleep`](crate::Word::Asleep) or [`Word::Done`](crate::Word::Done) goes through and changes nothing; and what happened since the ask
-    /// does not matter where the answer is still the same.
-    ///
-    /// # Errors
-    ///
-    /// Refused with 10 where the table is unsound, else with 11 where no such agent is in the cell, else with 18 where the step would answer
-    /// otherwise; the cell is then as it was.
-    pub fn commit(&mut self, asked: Asked) -> Result<Stepped, Refused> {
-        let answer = self.lent.commit(asked.agent(), asked.wish(), asked.number());
-        accepted(answer)?;
-        Ok(Stepped::of(answer))
-    }
-
-    /// Writes the listing, in ASCII, to the start of the text and answers its length; bytes past it are as they were. A place whose three keys
-    /// are its name is written as `7[]`, any other with its keys for entering, exiting and opening after the name, as `7/8/9/0[]`.
-    ///
-    /// One layout has one listing. Of what a place holds, the agents come first and then the places, each of the two in byte order of their
-    /// texts, as `[u8]` is ordered: `70[] | 7[]`, `7[] | 7[enter 7]`. Numbers and the order in which places came play no part, so two cells hold
-    /// the same layout exactly if their listings are equal (proved: crate `demands`, `same-listings`): the same places with the same names and
-    /// keys in each other, and the same agents with unused actions in them. Locks, stages, touch counts, who came first, and whether a place is
-    /// still on its way are not in it.
-    ///
-    /// # Errors
-    ///
-    /// Refused with 10 where the table is unsound, else with 12 where the listing is longer than the text; the whole text is then as it was.
-    pub fn list(&self, text: &mut [u8]) -> Result<usize, Refused> {
-        let answer = self.lent.list(text);
-        accepted(answer)?;
-        Ok((answer >> 8) as usize)
-    }
-
-    /// The listing as a string; two of them are equal exactly if the layouts are the same, as [`Cell::list`] says.
-    ///
-    /// # Errors
-    ///
-    /// Refused with 10 where the table is unsound.
-    #[cfg(feature = "alloc")]
-    pub fn listing(&self) -> Result<alloc::string::String, Refused> {
-        let mut text = alloc::vec![0; LISTING_LONGEST];
-        let length = self.list(&mut text)?;
-        Ok(text.into_iter().take(length).map(char::from).collect())
-    }
-
     /// Whether the table is sound: only a cell from [`Cell::from_lent`] can be unsound.
     ///
     /// # Errors
@@ -235,44 +131,6 @@ impl Cell {
         let answer = self.lent.idle();
         accepted(answer)?;
         Ok(answer >> 8 & 1 == 1)
-    }
-
-    /// Adds a number to the touch count of a place and answers its new count. The count stays with the place wherever it goes, and is added
-    /// to the opener's place when the place is opened: the sum over all places in use is what the file gave and what was added since.
-    ///
-    /// ```
-    /// use keeper::{Cell, Refusal};
-    ///
-    /// // Place 1, named 30, with 40 touches; agent 0, on the floor, opens it.
-    /// let mut cell = Cell::load(&[1, 1, 0, 30, 0, 5, 1, 40, 0, 0, 0, 2, 0, 0, 3, 0, 3, 30, 0, 4])?;
-    /// assert_eq!(cell.touch(1, 2)?, 42);
-    /// while !cell.idle()? {
-    ///     cell.step(0, 255)?;
-    /// }
-    /// assert_eq!(cell.touches(0)?, 42);
-    /// assert_eq!(cell.touch(1, 1).unwrap_err().refusal, Refusal::NotYetGiven);
-    /// # Ok::<(), keeper::Refused>(())
-    /// ```
-    ///
-    /// # Errors
-    ///
-    /// Refused with 10 where the table is unsound, else with 3 for a place above 63, else with 5 for one that is not in use, else with 15
-    /// where the sum over all places in use would pass [`TOUCHES_MOST`](crate::TOUCHES_MOST); the cell is then as it was.
-    pub fn touch(&mut self, place: u8, number: u32) -> Result<u64, Refused> {
-        let answer = self.lent.touch(place, number);
-        accepted(answer)?;
-        Ok(answer >> 8)
-    }
-
-    /// The touch count of a place.
-    ///
-    /// # Errors
-    ///
-    /// Refused with 10 where the table is unsound, else with 3 for a place above 63, else with 5 for one that is not in use.
-    pub fn touches(&self, place: u8) -> Result<u64, Refused> {
-        let answer = self.lent.touches(place);
-        accepted(answer)?;
-        Ok(answer >> 8)
     }
 
     /// The cell in memory that something else has written. It may be unsound: then each call but [`Cell::reload`] and [`Cell::reread`] is refused with

@@ -97,11 +97,15 @@
 extern crate alloc;
 
 mod answer;
+mod asked;
 mod cell;
 pub mod lent;
+mod refusal;
 
-pub use answer::{Asked, Refusal, Refused, Stepped, Word};
+pub use answer::{Stepped, Word};
+pub use asked::Asked;
 pub use cell::Cell;
+pub use refusal::{Refusal, Refused};
 
 /// The version of the library that this crate was made for: the major number from bit 16 on, the minor one in bits 8 to 15, the patch in
 /// bits 0 to 7.
