@@ -33,7 +33,7 @@
 **         printf("%s, %u woken\n", keeper_word_name(keeper_word(answer)), keeper_woken(answer));
 **     answer = keeper_ask(&cell, agent, wish);
 **     if (keeper_refusal(answer) == 0 && keeper_word(answer) == KEEPER_LEFT)
-**         park_the_gripper_over(cell.agents[agent].home);
+**         park_the_gripper_that_is_over(cell.agents[agent].home);
 **     answer = keeper_commit(&cell, agent, wish, answer);
 **     if (keeper_refusal(answer) == KEEPER_ANSWER_DIFFERS)
 **         printf("another step came between: ask again\n");
@@ -112,10 +112,11 @@ extern "C" {
 
 /*
 ** The memory of a cell. It is plain data: a host may copy it, keep it in a file for the same kind of machine and the same KEEPER_MAJOR, and
-** read its fields. A cell that a host of version 4 kept is one of version 5 too. A host that writes the fields itself can make the table
-** unsound; keeper_check tells. Fields of numbers that are not in use mean nothing; but every place number stands in `order`. Nor does the
-** byte between an action's kind and its name: no answer depends on it, and what it holds after a call, a refused one too, is not promised.
-** A host that compares cells compares their fields.
+** read its fields. A host that takes a kept cell back asks keeper_check first. A cell that a host of version 4 kept is one of version 5 too.
+** Those of versions 1, 2 and 3 have 4816, 5328 and 5392 bytes and have to be loaded again; read into a cell, they are refused with 10. A host
+** that writes the fields itself can make the table unsound; keeper_check tells. Fields of numbers that are not in use mean nothing; but every
+** place number stands in `order`. Nor does the byte between an action's kind and its name: no answer depends on it, and what it holds after a
+** call, a refused one too, is not promised. A host that compares cells compares their fields.
 */
 
 /* A name with its three keys, which say who may enter, leave and open the place: `enter n` acts on a place whose `entering` is n, `exit n`
