@@ -113,7 +113,7 @@ extern "C" {
 /*
 ** The memory of a cell. It is plain data: a host may copy it, keep it in a file for the same kind of machine and the same KEEPER_MAJOR, and
 ** read its fields. A host that takes a kept cell back asks keeper_check first. A cell that a host of version 4 kept is one of version 5 too.
-** Those of versions 1, 2 and 3 have 4816, 5328 and 5392 bytes and have to be loaded again; read into a cell, they are refused with 10. A host
+** Those of versions 1, 2 and 3 have 4816, 5328 and 5392 bytes, by which a host knows them, and have to be loaded again. A host
 ** that writes the fields itself can make the table unsound; keeper_check tells. Fields of numbers that are not in use mean nothing; but every
 ** place number stands in `order`. Nor does the byte between an action's kind and its name: no answer depends on it, and what it holds after a
 ** call, a refused one too, is not promised. A host that compares cells compares their fields.
