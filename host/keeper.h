@@ -40,6 +40,9 @@
 **     answer = keeper_touch(&cell, place, touches);
 **     if (keeper_refusal(answer) == 0)
 **         printf("%llu touches\n", (unsigned long long)keeper_count(answer));
+**     answer = keeper_nearest(&cell, holder, name_of_bonders);
+**     if (keeper_refusal(answer) == 0 && keeper_found(answer) != KEEPER_NOWHERE)
+**         printf("the holder is in place %u\n", keeper_found(answer));
 **     answer = keeper_list(&cell, text, sizeof text);
 **     if (keeper_refusal(answer) == 0)
 **         printf("%.*s\n", (int)keeper_length(answer), (const char *)text);
@@ -53,8 +56,8 @@
 **     every bit pattern, and refuses one that is not a sound table with 10, but it does read it.
 **   - A file or text lent together with a cell does not overlap it.
 **   - During the call no other thread writes what is lent, nor reads what the call may write. So calls on different cells may run at the same
-**     time; and on one cell those that only read it (keeper_ask, keeper_list, keeper_check, keeper_idle, keeper_touches), each with a text of its
-**     own.
+**     time; and on one cell those that only read it (keeper_ask, keeper_list, keeper_check, keeper_idle, keeper_touches, keeper_nearest,
+**     keeper_common), each with a text of its own.
 **   - The stack has room for KEEPER_STACK bytes.
 */
 #ifndef KEEPER_H
@@ -76,7 +79,7 @@ extern "C" {
 ** call, a word, a refusal. The patch number changes with anything else.
 */
 #define KEEPER_MAJOR 5
-#define KEEPER_MINOR 2
+#define KEEPER_MINOR 3
 #define KEEPER_PATCH 0
 #define KEEPER_VERSION (KEEPER_MAJOR * 65536 + KEEPER_MINOR * 256 + KEEPER_PATCH)
 
@@ -90,6 +93,9 @@ extern "C" {
 
 /* What keeper_ask tells where there is no chosen place. */
 #define KEEPER_NONE_CHOSEN 255
+
+/* What keeper_nearest answers where no place around the given one has the name. */
+#define KEEPER_NOWHERE 255
 
 /* The touches that the places in use may have together, at most. */
 #define KEEPER_TOUCHES_MOST 1000000000000
@@ -188,16 +194,17 @@ KEEPER_ASSERT(offsetof(keeper_cell, touches) == 5200 && offsetof(keeper_cell, or
 /* The numbers with which a call is refused, and what to do about each (more on it: docs/MEANING.md, section 7). Of a cell file, 3 is for
 ** the number that a place record gives, 13 for a parent (of a place) or home (of an agent), 14 for the number of an agent, in an agent or
 ** an action record; of the three the earlier byte in the record decides. A step, an ask or a commit for an agent above 63 is 11. Of
-** touches, in a record and in a call, 3 is for a place above 63, and 5 for one that is not there. A place record with keys (kind 6) is
-** tested as one without (kind 1); 6 is for its name alone, and its keys may be any numbers. 16 and 17 are keeper_read's, and it has no
-** others. 18 is keeper_commit's. */
+** touches, in a record and in a call, and of the places that keeper_nearest and keeper_common are asked about, 3 is for one above 63, and 5
+** for one that is not there. A place record with keys (kind 6) is tested as one without (kind 1); 6 is for its name alone, and its keys may
+** be any numbers. 16 and 17 are keeper_read's, and it has no others. 18 is keeper_commit's. */
 enum {
     KEEPER_CUT_SHORT = 1,           /* copy the file anew; put the byte 4 at its end */
     KEEPER_UNKNOWN_KIND = 2,        /* look at the record before it too: a byte too many or too few there shifts all that follows */
     KEEPER_TOO_LARGE = 3,           /* number places 1 to 63 and do not give the floor; in a call, correct the place's number */
     KEEPER_GIVEN_TWICE = 4,         /* give each number once, and each place's touches once, also where they are 0 */
     KEEPER_NOT_YET_GIVEN = 5,       /* put parents before what stands in them, agents before their actions, places before their touches; in a
-                                       call: if the place was opened, its touches are now those of the opener's place, add further ones there */
+                                       call: if the place was opened, what stood in it stands in the opener's place now, which has its touches
+                                       too: add further ones there */
     KEEPER_NAME_ZERO = 6,           /* use 1 to 65,535, and mind the low byte first */
     KEEPER_ACTION_KIND = 7,         /* 1 is enter, 2 exit, 3 open */
     KEEPER_SEVENTEENTH_ACTION = 8,  /* give an agent sixteen at most; a second agent of the same place can take the rest */
@@ -231,8 +238,8 @@ enum {
 ** What a call answers, in one number: bits 0 to 7 are 0, or the number with which the call was refused. The bits above are, for
 ** keeper_load and keeper_read, the offset of a refusal; for keeper_step and keeper_commit, the word (bits 8 to 15) and the number woken (bits
 ** 16 to 23); for keeper_ask, these two and the chosen place (bits 24 to 31); for keeper_list, the length; for keeper_idle, 1 if all agents
-** are asleep or done; for keeper_touch and keeper_touches, the place's touch count. Where nothing is named, a bit is 0. The functions at the
-** end of this file take it apart.
+** are asleep or done; for keeper_touch and keeper_touches, the place's touch count; for keeper_nearest and keeper_common, the place that was
+** found (bits 8 to 15). Where nothing is named, a bit is 0. The functions at the end of this file take it apart.
 */
 typedef uint64_t keeper_answer;
 
@@ -434,6 +441,39 @@ keeper_answer keeper_touch(keeper_cell *cell, uint8_t place, uint32_t number);
 */
 keeper_answer keeper_touches(const keeper_cell *cell, uint8_t place);
 
+/*
+** keeper_nearest: which place of this name a place is in, such as in which bonder a holder is. It is the nearest of the places around it,
+** at any depth, that have the name; the place itself does not count. A place on its way is read at its destination, as the listing has it.
+** `name` is compared with names and never with keys. The floor's name is 0, so 0 finds the floor from every place but the floor, which
+** nothing is around.
+**
+**     keeper_answer answer = keeper_nearest(&cell, holder, name_of_bonders);
+**     if keeper_refusal(answer) is not 0                           there is no such place, or the table is unsound
+**     else if keeper_found(answer) is KEEPER_NOWHERE               the holder is in no bonder
+**     else                                                         keeper_found(answer) is the number of the bonder that it is in
+**
+** Answers the place in keeper_found(answer): KEEPER_NOWHERE exactly if no place around the given one has the name, which is an answer and
+** no refusal. The number as a whole is
+**
+**     bits 0 to 7      0, or the refusal
+**     bits 8 to 15     the place, or KEEPER_NOWHERE
+**
+** and 0 above. Refused with 10 where the table is unsound, else with 3 for a place above 63, else with 5 for one that is not in use. The
+** cell is only read.
+*/
+keeper_answer keeper_nearest(const keeper_cell *cell, uint8_t place, uint16_t name);
+
+/*
+** keeper_common: the innermost place that holds or is both of two places, such as the bonder or the magazine that two holders are both in.
+** A place holds what stands in it, at any depth, and a place on its way is read at its destination. So where one of the two stands in the
+** other it is that other, and of a place and itself it is that place. Which of the two is named first does not matter.
+**
+** Answers the place in keeper_found(answer), in the bits in which keeper_nearest has it. There always is one, the floor if nothing deeper,
+** so it is never KEEPER_NOWHERE. Refused with 10 where the table is unsound, else with 3 where one of the two is above 63, else with 5
+** where one of them is not in use. The cell is only read.
+*/
+keeper_answer keeper_common(const keeper_cell *cell, uint8_t place, uint8_t other);
+
 /* The number with which the call was refused, or 0. */
 static inline unsigned keeper_refusal(keeper_answer answer) { return (unsigned)(answer & 255); }
 
@@ -457,6 +497,9 @@ static inline int keeper_all_rest(keeper_answer answer) { return (int)(answer >>
 
 /* The touch count that keeper_touch or keeper_touches answers. */
 static inline uint64_t keeper_count(keeper_answer answer) { return answer >> 8; }
+
+/* The place that keeper_nearest or keeper_common found; of keeper_nearest also KEEPER_NOWHERE. */
+static inline unsigned keeper_found(keeper_answer answer) { return (unsigned)(answer >> 8 & 255); }
 
 /* The word's name, as `walk` prints it; "unknown" for a number that is no word. */
 static inline const char *keeper_word_name(unsigned word)

@@ -198,17 +198,23 @@ def draw_box(svg, box, x, y, h=0):
 
 
 def panels(name, title, description, rows, arrows=True):
-    """A picture of boxes side by side, each under a heading and over a listing, with arrows between them where one comes from the other."""
-    margin, between, top = 20, 56, 44
-    sizes = [size_of(box) for _, box, _ in rows]
-    widths = [max(w, width_of(head, 15, True), width_of(listing, 13)) for (w, _), (head, _, listing) in zip(sizes, rows)]
+    """A picture of boxes side by side, each under a heading and over a listing, with questions and their answers under that where there are any,
+    and with arrows between them where one comes from the other."""
+    margin, between, top, line = 20, 56, 44, 24
+    sizes = [size_of(box) for _, box, *_ in rows]
+    widths = [max(w, width_of(head, 15, True), width_of(listing, 13), *(width_of(asked + told, 14, True) for asked, told in questions))
+              for (w, _), (head, _, listing, *questions) in zip(sizes, rows)]
     tall = max(h for _, h in sizes)
-    svg = Svg(2 * margin + sum(widths) + between * (len(rows) - 1), top + tall + 48, title, description)
+    under = 48 + line * max(len(questions) for _, _, _, *questions in rows)
+    svg = Svg(2 * margin + sum(widths) + between * (len(rows) - 1), top + tall + under, title, description)
     x = margin
-    for i, (head, box, listing) in enumerate(rows):
+    for i, (head, box, listing, *questions) in enumerate(rows):
         svg.text(x, 28, head, 15, bold=True)
         draw_box(svg, box, x, top, h=tall)
         svg.text(x, top + tall + 28, listing, 13, mono=True)
+        for j, (asked, told) in enumerate(questions):
+            svg.text(x, top + tall + 28 + line * (j + 1), asked, 14, SOFT)
+            svg.text(x + max(width_of(other, 14) for other, _ in questions), top + tall + 28 + line * (j + 1), told, 14, bold=True)
         if arrows and i + 1 < len(rows):
             svg.path([(x + max(widths[i], sizes[i][0]) + 10, top + tall / 2), (x + widths[i] + between - 10, top + tall / 2)],
                      thick=2.4)

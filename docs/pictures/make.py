@@ -10,6 +10,7 @@ sys.dont_write_bytecode = True
 from drawing import (EDGE, FILL, INK, LINE, LOCK_0, LOCK_1, SOFT, WAY_EDGE, WAY_FILL, Svg, agent, panels, place, spent)
 from railroad import Again, Box, Either, Row, Skip, tracks
 from timeline import asking
+from where import where
 
 
 def cell():
@@ -285,5 +286,5 @@ def language():
 
 if __name__ == "__main__":
     for draw in (cell, stages, enter, exit_, open_, touches, served, layouts, language, rights, example_trees, example_held, example_locks, slips,
-                 asking):
+                 asking, where):
         draw()

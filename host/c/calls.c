@@ -148,6 +148,7 @@ static void unsound(keeper_cell *cell)
     HOLDS(keeper_step(cell, 64, 0) == KEEPER_UNSOUND);
     HOLDS(keeper_ask(cell, 64, 0) == KEEPER_UNSOUND && keeper_commit(cell, 64, 0, UINT64_MAX) == KEEPER_UNSOUND);
     HOLDS(keeper_touch(cell, 64, 1) == KEEPER_UNSOUND && keeper_touches(cell, 64) == KEEPER_UNSOUND);
+    HOLDS(keeper_nearest(cell, 64, 0) == KEEPER_UNSOUND && keeper_common(cell, 64, 64) == KEEPER_UNSOUND);
     HOLDS(keeper_list(cell, text, 0) == KEEPER_UNSOUND && keeper_list(cell, text, 2) == KEEPER_UNSOUND);
     HOLDS(memcmp(cell, &before, sizeof before) == 0 && text[0] == 1 && text[1] == 2);
     HOLDS(keeper_bare(cell) == 0 && keeper_check(cell) == 0);

@@ -36,6 +36,10 @@ int main()
         return 1;
     if (keeper_refusal(keeper_commit(&cell, 0, 255, asked)) != KEEPER_ANSWER_DIFFERS)
         return 1;
+    if (keeper_read(&cell, reinterpret_cast<const uint8_t *>("9[7[]]"), 6) != 0 || keeper_found(keeper_nearest(&cell, 2, 9)) != 1)
+        return 1;
+    if (keeper_found(keeper_nearest(&cell, 2, 7)) != KEEPER_NOWHERE || keeper_found(keeper_common(&cell, 1, 2)) != 1)
+        return 1;
     std::puts("1 passed, 0 failed");
     return 0;
 }

@@ -23,3 +23,5 @@ keeper_answer keeper_check(const keeper_cell *cell) { (void)cell, abort(); }
 keeper_answer keeper_idle(const keeper_cell *cell) { (void)cell, abort(); }
 keeper_answer keeper_touch(keeper_cell *cell, uint8_t place, uint32_t number) { (void)cell, (void)place, (void)number, abort(); }
 keeper_answer keeper_touches(const keeper_cell *cell, uint8_t place) { (void)cell, (void)place, abort(); }
+keeper_answer keeper_nearest(const keeper_cell *cell, uint8_t place, uint16_t name) { (void)cell, (void)place, (void)name, abort(); }
+keeper_answer keeper_common(const keeper_cell *cell, uint8_t place, uint8_t other) { (void)cell, (void)place, (void)other, abort(); }

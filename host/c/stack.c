@@ -2,7 +2,8 @@
 ** How much stack the calls use: each runs in a thread whose stack was filled with a pattern, and what has lost it below the caller was
 ** used. The cells are full: all places in each other, side by side, or in a chain with one beside each, numbered against the order in
 ** which they are listed; all agents with sixteen actions. All agents step, many times; each step is also asked for before, and committed on
-** a copy. A listing is also made in a room that not every listing fits, and each listing is read back.
+** a copy. A listing is also made in a room that not every listing fits, and each listing is read back. Where a place is, is asked of the
+** last one, which in a chain has all others around it.
 */
 #define _POSIX_C_SOURCE 200809L
 #include "../keeper.h"
@@ -14,7 +15,7 @@
 
 #define ROOM (1024 * 1024)
 #define PATTERN 0xA5
-#define CALLS 12
+#define CALLS 14
 #define STEPPING 3 /* the last ones: ask, commit and step */
 
 static keeper_cell cell;
@@ -22,7 +23,7 @@ static uint8_t file[KEEPER_FILE_LONGEST];
 static size_t file_length;
 static uint8_t text[KEEPER_LISTING_LONGEST];
 static size_t text_length;
-static uint8_t agent; /* or the place of a touch call */
+static uint8_t agent; /* or the place of a call for a place */
 static keeper_answer asked;
 
 static void bare(void) { keeper_bare(&cell); }
@@ -37,6 +38,8 @@ static void check(void) { keeper_check(&cell); }
 static void idle(void) { keeper_idle(&cell); }
 static void touch(void) { keeper_touch(&cell, agent, 1); }
 static void touches(void) { keeper_touches(&cell, agent); }
+static void nearest(void) { keeper_nearest(&cell, agent, 0); }
+static void common(void) { keeper_common(&cell, agent, 1); }
 
 /* A call to measure, the stack that it runs on, and what it used. */
 typedef struct measured {
@@ -107,9 +110,10 @@ static void make_file(int shape, uint8_t kind)
 int main(void)
 {
     size_t used[CALLS] = {0};
-    void (*const calls[CALLS])(void) = {bare, load, check, idle, list, list_short, read, touch, touches, ask, commit, step};
-    const char *const names[CALLS] = {"bare", "load",  "check",   "idle", "list",   "list in a short room",
-                                      "read", "touch", "touches", "ask",  "commit", "step"};
+    void (*const calls[CALLS])(void) = {bare,  load,    check,   idle,   list, list_short, read,
+                                        touch, touches, nearest, common, ask,  commit,     step};
+    const char *const names[CALLS] = {"bare",  "load",    "check",   "idle",   "list", "list in a short room", "read",
+                                      "touch", "touches", "nearest", "common", "ask",  "commit",               "step"};
     size_t most = 0;
 
     if (!keeper_fits())

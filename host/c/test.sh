@@ -156,7 +156,7 @@ if [ "$status" -ne 1 ] || [ -s "$folder/printed" ]; then
 fi
 passed=$((passed + 1))
 
-for program in calls calls-sanitized ask ask-sanitized served served-sanitized keys keys-sanitized layouts layouts-sanitized texts texts-sanitized header; do
+for program in calls calls-sanitized ask ask-sanitized served served-sanitized keys keys-sanitized layouts layouts-sanitized texts texts-sanitized where where-sanitized header; do
     printf '%s: ' "$program"
     "target/$program"
     passed=$((passed + 1))

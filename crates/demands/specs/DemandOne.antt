@@ -1,8 +1,9 @@
 -- Demand 1: on every table, file, text, agent, wish and buffer, each call is refused only with its numbers, each exactly under its condition, and a
 -- refusal changes nothing.
 -- Idea: a call on a table is a row of tests with a refusal in one arm each; a load is
--- refused by the fault in its file (FileFaultLaws), the reading of a text as RefusedReading says, an ask and a commit as RefusedAsking says.
-use mathlib.Core.Path.{_≡_, refl, ap, subst}
+-- refused by the fault in its file (FileFaultLaws), the reading of a text as RefusedReading says, an ask and a commit as RefusedAsking says, a
+-- question where a place is as RefusedWhere says.
+use mathlib.Core.Path.{_≡_, refl, ap}
 use mathlib.Core.Bool.{true}
 use mathlib.Core.List.{[]}
 use Prim.Native.Nat.{ℕ, _+_, _≤_, zero-le}
@@ -32,6 +33,7 @@ use Rattle.meaning.specs.Touch.{counted, untouched, touchOf, touchesOf}
 use Rattle.meaning.specs.Listing.{listing, listAnswer, listBuffer}
 use Rattle.meaning.specs.Codes.{checkOf, idleOf}
 use Rattle.meaning.specs.AskLaws.{ask-unsound, ask-unknown, commit-unsound, commit-unknown}
+use Rattle.meaning.specs.WhereLaws.{nearest-unsound, nearest-large, nearest-unused, common-unsound, common-large, common-unused}
 use Rattle.language.specs.Read.{readText, readOf}
 use Rattle.language.specs.Answers.{read-outside}
 use Rattle.demands.specs.Refusals.{KeeperCall, step-call, list-call, touch-call, touches-call, check-call, idle-call, mayAnswer, Lent, before, after, RefusedRightly}
@@ -39,14 +41,13 @@ use Rattle.demands.specs.Refusals.{Refuses, load-refused, read-refused, 
 use Rattle.demands.specs.Refusals.{Grounds, in-the-file, read-16, read-17, step-10, step-11, list-10, list-12, check-10, idle-10}
 use Rattle.demands.specs.Refusals.{ask-refused, commit-refused, ask-10, ask-11, commit-10, commit-11, commit-18}
 use Rattle.demands.specs.Refusals.{touch-10, touch-3, touch-5, touch-15, touches-10, touches-3, touches-5}
+use Rattle.demands.specs.Refusals.{nearest-refused, common-refused, nearest-10, nearest-3, nearest-5, common-10, common-3, common-5}
+use Rattle.demands.specs.RefusedLaws.{never, of}
 use Rattle.demands.specs.FileFaultLaws.{refused-by-fault}
 use Rattle.demands.specs.RefusedLoads.{fault-number, fault-within}
 use Rattle.demands.specs.RefusedReading.{reading-grounds, overfull-text}
 use Rattle.demands.specs.RefusedAsking.{ask-grounds, commit-different, commit-grounds}
-
--- two answers of different kinds are not equal: `cc` finds this equation then
-never : {A : Type 0} → _≡_ {A = ℕ} 0 1 → A
-never e = absurd (omega arith)
+use Rattle.demands.specs.RefusedWhere.{nearest-grounds, common-grounds}
 
 -- ---- each number exactly under its condition
 
@@ -55,10 +56,6 @@ load-grounds : (t : Cell) (l : Load) (number offset : ℕ) → loaded t l .verdi
 unfolding loaded
 load-grounds t (accepted c) number offset e = never (cc)
 load-grounds t (refused n o) number offset e = cc
-
--- a condition of the number that is answered
-of : {k : KeeperCall} {m n : ℕ} → m ≡ n → Grounds k m 0 → Grounds k n 0
-of {k} e g = subst (λ (n : ℕ). Grounds k n 0) e g
 
 -- from the answer to the condition
 refused-grounds : {k : KeeperCall} {number offset : ℕ} → Refuses k number offset → Grounds k number offset
@@ -98,6 +95,8 @@ refused-grounds (touches-refused {t} {place} {number} e) = go (told (sound (cell
     go (yea s) (yea l) _ = let f = rw (s, l) at e in let z : placeTooLarge ≡ number = cc in of z (touches-3 s (leb-true 64 place l))
     go (yea s) (nay l) (nay u) = let f = rw (s, l, u) at e in let z : notYetGiven ≡ number = cc in of z (touches-5 s (leb-false 64 place l) u)
     go (yea s) (nay l) (yea u) = let f = rw (s, l, u) at e in never (cc)
+refused-grounds (nearest-refused {t} {place} {name} {number} e) = nearest-grounds t place name number e
+refused-grounds (common-refused {t} {place} {other} {number} e) = common-grounds t place other number e
 refused-grounds (check-refused {t} {number} e) = go (told (sound (cellOf t)))
   where
     go : Told (sound (cellOf t)) → Grounds (check-call t) number 0
@@ -146,6 +145,12 @@ grounds-refused (touches-10 {t} {place} s) = let e : touchesOf t place ≡ Untou
 grounds-refused (touches-3 {t} {place} s l) = let e : touchesOf t place ≡ Untouched placeTooLarge = rw (s, le-leb 64 place l) in touches-refused e
 grounds-refused (touches-5 {t} {place} s l u) =
     let e : touchesOf t place ≡ Untouched notYetGiven = rw (s, lt-leb 64 place l, u) in touches-refused e
+grounds-refused (nearest-10 {t} {place} {name} s) = nearest-refused (nearest-unsound t place name s)
+grounds-refused (nearest-3 {t} {place} {name} s l) = nearest-refused (nearest-large t place name s l)
+grounds-refused (nearest-5 {t} {place} {name} s l u) = nearest-refused (nearest-unused t place name s l u)
+grounds-refused (common-10 {t} {place} {other} s) = common-refused (common-unsound t place other s)
+grounds-refused (common-3 {t} {place} {other} s l) = common-refused (common-large t place other s l)
+grounds-refused (common-5 {t} {place} {other} s l m u) = common-refused (common-unused t place other s l m u)
 grounds-refused (check-10 {t} s) = let e : checkOf t ≡ Unsound unsoundTable = rw s in check-refused e
 grounds-refused (idle-10 {t} s) = let e : idleOf t ≡ Unknown unsoundTable = rw s in idle-refused e
 
@@ -171,6 +176,12 @@ grounds-number (touch-15 s l u m) = refl
 grounds-number (touches-10 s) = refl
 grounds-number (touches-3 s l) = refl
 grounds-number (touches-5 s l u) = refl
+grounds-number (nearest-10 s) = refl
+grounds-number (nearest-3 s l) = refl
+grounds-number (nearest-5 s l u) = refl
+grounds-number (common-10 s) = refl
+grounds-number (common-3 s l) = refl
+grounds-number (common-5 s l m u) = refl
 grounds-number (check-10 s) = refl
 grounds-number (idle-10 s) = refl
 
@@ -194,6 +205,12 @@ grounds-within (touch-15 s l u m) = zero-le
 grounds-within (touches-10 s) = zero-le
 grounds-within (touches-3 s l) = zero-le
 grounds-within (touches-5 s l u) = zero-le
+grounds-within (nearest-10 s) = zero-le
+grounds-within (nearest-3 s l) = zero-le
+grounds-within (nearest-5 s l u) = zero-le
+grounds-within (common-10 s) = zero-le
+grounds-within (common-3 s l) = zero-le
+grounds-within (common-5 s l m u) = zero-le
 grounds-within (check-10 s) = zero-le
 grounds-within (idle-10 s) = zero-le
 
@@ -218,6 +235,12 @@ grounds-keep (touch-15 {t} {place} {touches} s l u m) = rw (s, lt-leb 64 place l
 grounds-keep (touches-10 s) = refl
 grounds-keep (touches-3 s l) = refl
 grounds-keep (touches-5 s l u) = refl
+grounds-keep (nearest-10 s) = refl
+grounds-keep (nearest-3 s l) = refl
+grounds-keep (nearest-5 s l u) = refl
+grounds-keep (common-10 s) = refl
+grounds-keep (common-3 s l) = refl
+grounds-keep (common-5 s l m u) = refl
 grounds-keep (check-10 s) = refl
 grounds-keep (idle-10 s) = refl
 

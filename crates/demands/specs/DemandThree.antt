@@ -51,7 +51,7 @@ fresh-same c f = record {
 }
 
 -- a cell equals its own tree
-equals-tree : (c : State) → EqualsPlain c (treeOf c)
+pub equals-tree : (c : State) → EqualsPlain c (treeOf c)
 unfolding treeOf
 equals-tree c = record {
   used = λ q. refl;

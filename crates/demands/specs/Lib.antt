@@ -11,6 +11,7 @@ pub mod FirstCome
 pub mod FileTree
 pub mod SameListings
 pub mod Asking
+pub mod Where
 -- the theorems
 pub mod DemandOne
 pub mod DemandTwo
@@ -25,12 +26,15 @@ pub mod FileTreeLaws
 pub mod SameListingsLaws
 pub mod AskingLaws
 pub mod HandedLaws
--- the refusals of a load, of the reading of a text, of an ask and of a commit
+pub mod WhereLaws
+-- the refusals of a load, of the reading of a text, of an ask and of a commit, of a question where a place is
+pub mod RefusedLaws
 pub mod RecordFaultLaws
 pub mod FileFaultLaws
 pub mod RefusedLoads
 pub mod RefusedReading
 pub mod RefusedAsking
+pub mod RefusedWhere
 -- the invariant and the ways a step can go
 pub mod Reading
 pub mod ReadingLaws
@@ -90,6 +94,8 @@ pub mod MovesMade
 pub mod AtRest
 pub mod RunKeeps
 pub mod Resting
+-- walks outwards
+pub mod OutwardsLaws
 -- the log of arrivals beside the row
 pub mod ArrivalLaws
 pub mod Arrivals

@@ -1,7 +1,7 @@
--- What demand 1 claims of every call of the keeper (document 01, "Turned-away calls"; document 02, W8, W9): which numbers it may be refused with,
+-- What demand 1 claims of every call of the keeper (document 01, "Turned-away calls"; document 02, W8, W9, W10): which numbers it may be refused with,
 -- when, and that a refusal changes nothing. A call more is one line more in each of these definitions. Definitions only.
 use mathlib.Core.Path.{_≡_}
-use mathlib.Core.Logic.{_≢_, _↔_}
+use mathlib.Core.Logic.{_≢_, _⊎_, _↔_}
 use mathlib.Core.Bool.{Bool, true, false, _&&_, _||_}
 use mathlib.Core.List.{List, []}
 use Prim.Native.Nat.{ℕ, _+_, _≤_, _<_}
@@ -16,6 +16,7 @@ use Rattle.meaning.specs.declared.Asked.the-variants.{Would, Unasked}
 use Rattle.meaning.specs.declared.Word.{Word}
 use Rattle.meaning.specs.declared.Listed.the-variants.{Unlisted}
 use Rattle.meaning.specs.declared.Touching.the-variants.{Untouched}
+use Rattle.meaning.specs.declared.Found.the-variants.{Unfound}
 use Rattle.meaning.specs.declared.Checked.the-variants.{Unsound}
 use Rattle.meaning.specs.declared.Idled.the-variants.{Unknown}
 use Rattle.meaning.specs.Refusals.{cutShort, afterEnd, placeTooLarge, notYetGiven, parentTooLarge, agentTooLarge, unsoundTable, noSuchAgent, tooLong, tooManyTouches}
@@ -26,6 +27,7 @@ use Rattle.meaning.specs.Touch.{touchOf, touchesOf}
 use Rattle.meaning.specs.Listing.{listing, listAnswer, listBuffer}
 use Rattle.meaning.specs.Codes.{checkOf, idleOf, wordNumber}
 use Rattle.meaning.specs.Ask.{askOf, commitOf}
+use Rattle.meaning.specs.Where.{nearestOf, commonOf}
 use Rattle.language.specs.Grammar.{Text, Contents, floorTyped, Belongs}
 use Rattle.language.specs.Layout.{fits}
 use Rattle.language.specs.Prefixes.{LongestViable}
@@ -35,7 +37,7 @@ use Rattle.demands.specs.FileFaults.{Fault}
 -- ---- the calls
 
 -- a call with what it is given: a table with anything in it; a file, a text, an agent and a wish, with or without word, number woken and place, a
--- buffer, a place and a number, or a place
+-- buffer, a place and a number, a place and a name, two places, or a place
 pub data KeeperCall : Type 0 where
   load-call : Cell → List ℕ → KeeperCall
   read-call : Cell → Text → KeeperCall
@@ -45,6 +47,8 @@ pub data KeeperCall : Type 0 where
   list-call : Cell → List ℕ → KeeperCall
   touch-call : Cell → ℕ → ℕ → KeeperCall
   touches-call : Cell → ℕ → KeeperCall
+  nearest-call : Cell → ℕ → ℕ → KeeperCall
+  common-call : Cell → ℕ → ℕ → KeeperCall
   check-call : Cell → KeeperCall
   idle-call : Cell → KeeperCall
 
@@ -63,6 +67,8 @@ pub data Refuses : KeeperCall → ℕ → ℕ → Type 0 where
   touch-refused : {t : Cell} {place touches number : ℕ} → touchOf t place touches .answer ≡ Untouched number
       → Refuses (touch-call t place touches) number 0
   touches-refused : {t : Cell} {place number : ℕ} → touchesOf t place ≡ Untouched number → Refuses (touches-call t place) number 0
+  nearest-refused : {t : Cell} {place name number : ℕ} → nearestOf t place name ≡ Unfound number → Refuses (nearest-call t place name) number 0
+  common-refused : {t : Cell} {place other number : ℕ} → commonOf t place other ≡ Unfound number → Refuses (common-call t place other) number 0
   check-refused : {t : Cell} {number : ℕ} → checkOf t ≡ Unsound number → Refuses (check-call t) number 0
   idle-refused : {t : Cell} {number : ℕ} → idleOf t ≡ Unknown number → Refuses (idle-call t) number 0
 
@@ -72,7 +78,7 @@ pub data Refuses : KeeperCall → ℕ → ℕ → Type 0 where
 abbrev pub ofFile : ℕ → Bool
 ofFile number = (leb cutShort number && leb number afterEnd) || (eqb number parentTooLarge || eqb number agentTooLarge)
 
--- the numbers of a call on one place: 10, 3 and 5
+-- the numbers of a call on one place or on two: 10, 3 and 5
 abbrev pub ofPlace : ℕ → Bool
 ofPlace number = eqb number unsoundTable || (eqb number placeTooLarge || eqb number notYetGiven)
 
@@ -87,6 +93,8 @@ mayAnswer (commit-call t agent wish word woken place) number = eqb number unsoun
 mayAnswer (list-call t buffer) number = eqb number unsoundTable || eqb number tooLong
 mayAnswer (touch-call t place touches) number = ofPlace number || eqb number tooManyTouches
 mayAnswer (touches-call t place) number = ofPlace number
+mayAnswer (nearest-call t place name) number = ofPlace number
+mayAnswer (common-call t place other) number = ofPlace number
 mayAnswer (check-call t) number = eqb number unsoundTable
 mayAnswer (idle-call t) number = eqb number unsoundTable
 
@@ -127,6 +135,15 @@ pub data Grounds : KeeperCall → ℕ → ℕ → Type 0 where
   touches-3 : {t : Cell} {place : ℕ} → sound (cellOf t) ≡ true → 64 ≤ place → Grounds (touches-call t place) placeTooLarge 0
   touches-5 : {t : Cell} {place : ℕ} → sound (cellOf t) ≡ true → place < 64 → cellOf t .land .used place ≡ false
       → Grounds (touches-call t place) notYetGiven 0
+  -- "After 10, a place number above 63 is 3, then an unused one is 5" (document 02, W10): of two places, either
+  nearest-10 : {t : Cell} {place name : ℕ} → sound (cellOf t) ≡ false → Grounds (nearest-call t place name) unsoundTable 0
+  nearest-3 : {t : Cell} {place name : ℕ} → sound (cellOf t) ≡ true → 64 ≤ place → Grounds (nearest-call t place name) placeTooLarge 0
+  nearest-5 : {t : Cell} {place name : ℕ} → sound (cellOf t) ≡ true → place < 64 → cellOf t .land .used place ≡ false
+      → Grounds (nearest-call t place name) notYetGiven 0
+  common-10 : {t : Cell} {place other : ℕ} → sound (cellOf t) ≡ false → Grounds (common-call t place other) unsoundTable 0
+  common-3 : {t : Cell} {place other : ℕ} → sound (cellOf t) ≡ true → (64 ≤ place) ⊎ (64 ≤ other) → Grounds (common-call t place other) placeTooLarge 0
+  common-5 : {t : Cell} {place other : ℕ} → sound (cellOf t) ≡ true → place < 64 → other < 64
+      → (cellOf t .land .used place ≡ false) ⊎ (cellOf t .land .used other ≡ false) → Grounds (common-call t place other) notYetGiven 0
   check-10 : {t : Cell} → sound (cellOf t) ≡ false → Grounds (check-call t) unsoundTable 0
   idle-10 : {t : Cell} → sound (cellOf t) ≡ false → Grounds (idle-call t) unsoundTable 0
 
@@ -147,10 +164,12 @@ before (commit-call t agent wish word woken place) = record { table = t; bytes =
 before (list-call t buffer) = record { table = t; bytes = buffer }
 before (touch-call t place touches) = record { table = t; bytes = [] }
 before (touches-call t place) = record { table = t; bytes = [] }
+before (nearest-call t place name) = record { table = t; bytes = [] }
+before (common-call t place other) = record { table = t; bytes = [] }
 before (check-call t) = record { table = t; bytes = [] }
 before (idle-call t) = record { table = t; bytes = [] }
 
--- and what it has of it afterwards; an ask changes nothing
+-- and what it has of it afterwards; an ask changes nothing, nor does a question where a place is
 abbrev pub after : KeeperCall → Lent
 after (load-call t file) = record { table = loadOf t file .cell; bytes = file }
 after (read-call t text) = record { table = readOf t text .cell; bytes = text }
@@ -160,6 +179,8 @@ after (commit-call t agent wish word woken place) = record { table = commitOf t 
 after (list-call t buffer) = record { table = t; bytes = listBuffer (cellOf t) buffer }
 after (touch-call t place touches) = record { table = touchOf t place touches .cell; bytes = [] }
 after (touches-call t place) = record { table = t; bytes = [] }
+after (nearest-call t place name) = record { table = t; bytes = [] }
+after (common-call t place other) = record { table = t; bytes = [] }
 after (check-call t) = record { table = t; bytes = [] }
 after (idle-call t) = record { table = t; bytes = [] }
 

@@ -4,7 +4,6 @@ use mathlib.Core.Path.{_≡_, refl, sym, ap, ap₂, _∙_, subst}
 use mathlib.Core.Logic.{_≢_}
 use mathlib.Core.Bool.{true}
 use Prim.Native.Nat.{ℕ}
-use native.Mathlib.Omega.{arith}
 use Rattle.table.specs.BaseLaws.{Told, yea, nay, told, clash}
 use Rattle.table.specs.Cell.{cellOf}
 use Rattle.table.specs.Sound.{sound}
@@ -21,15 +20,8 @@ use Rattle.meaning.specs.Codes.{wordNumber}
 use Rattle.meaning.specs.Ask.{toldPlace, would, askOf, agrees, commitOf}
 use Rattle.meaning.specs.AskLaws.{same-agrees, other-differs, ask-unsound, ask-unknown, ask-given, step-given}
 use Rattle.meaning.specs.AskLaws.{commit-through, commit-stopped, commit-unsound, commit-unknown}
-use Rattle.demands.specs.Refusals.{KeeperCall, ask-call, commit-call, Grounds, ask-10, ask-11, commit-10, commit-11, commit-18}
-
--- two answers of different kinds are not equal: `cc` finds this equation then
-never : {A : Type 0} → _≡_ {A = ℕ} 0 1 → A
-never e = absurd (omega arith)
-
--- a condition of the number that is answered
-of : {k : KeeperCall} {m n : ℕ} → m ≡ n → Grounds k m 0 → Grounds k n 0
-of {k} e g = subst (λ (n : ℕ). Grounds k n 0) e g
+use Rattle.demands.specs.Refusals.{ask-call, commit-call, Grounds, ask-10, ask-11, commit-10, commit-11, commit-18}
+use Rattle.demands.specs.RefusedLaws.{never, of}
 
 module _ (t : Cell) (x wish : ℕ) where
   -- from an ask's answer to the condition

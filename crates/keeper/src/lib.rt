@@ -10,8 +10,9 @@ use touch::TouchDecision;
 ghost use mathlib.Core.Path.{_≡_};
 ghost use mathlib.Core.Bool.{cond};
 ghost use Rattle.table.specs.Cell.{cellOf};
-ghost use Rattle.meaning.specs.Codes.{checkOf, idleOf, loadNumber, touchNumber, listNumber};
+ghost use Rattle.meaning.specs.Codes.{checkOf, idleOf, loadNumber, touchNumber, foundNumber, listNumber};
 ghost use Rattle.touch.specs.Known.{knownTouch, knownTouches};
+ghost use Rattle.locating.specs.Known.{knownNearest, knownCommon};
 ghost use Rattle.listing.specs.Known.{knownAnswer, knownBuffer};
 ghost use Rattle.keeper.specs.Known.{knownIdle};
 
@@ -36,12 +37,17 @@ pub use asking::handed;
 pub use touch::touch;
 pub use touch::touches;
 
+// Where a place is: the nearest enclosing place of a name, `nearestOf`, and the innermost place that holds or is both of two, `commonOf`.
+pub use locating::common;
+pub use locating::nearest;
+
 // The listing in a lent text, or the refusal and the text as it was: `listAnswer` and `listBuffer`.
 pub use listing::list;
 
 // Every answer as a number.
 pub use numbers::ask_number;
 pub use numbers::check_number;
+pub use numbers::found_number;
 pub use numbers::idle_number;
 pub use numbers::list_number;
 pub use numbers::load_number;
@@ -76,6 +82,20 @@ fn numbered_touches(known: bool, c: Cell, place: u8) -> u64
     ensures { λ r. ⌜ r ≡ touchNumber (knownTouches known c place) ⌝ }
 {
     touch_number(touch::touches_known(known, c, place))
+}
+
+// The number that a question for the nearest enclosing place of a name answers, told whether the cell is sound.
+fn numbered_nearest(known: bool, c: Cell, place: u8, name: u16) -> u64
+    ensures { λ r. ⌜ r ≡ foundNumber (knownNearest known c place name) ⌝ }
+{
+    found_number(locating::nearest_known(known, c, place, name))
+}
+
+// The number that a question for the innermost place of two answers, told whether the cell is sound.
+fn numbered_common(known: bool, c: Cell, place: u8, other: u8) -> u64
+    ensures { λ r. ⌜ r ≡ foundNumber (knownCommon known c place other) ⌝ }
+{
+    found_number(locating::common_known(known, c, place, other))
 }
 
 // What a check answers: 10 is its one refusal.

@@ -13,12 +13,10 @@ use Rattle.meaning.specs.Codes.{wordNumber, askNumber}
 use Rattle.meaning.specs.Refusals.{unsoundTable, noSuchAgent, answerDiffers}
 use Rattle.meaning.specs.Step.{Outcome, choice, fires, stays, step}
 use Rattle.meaning.specs.StepCall.{turnedAway, stepOf}
+-- the number for no place, handed on
+pub use Rattle.meaning.specs.Codes.{noneTold}
 
 -- ---- the chosen place
-
--- "else 255": what is told where no place is
-abbrev pub noneTold : ℕ
-noneTold = 255
 
 -- a choice as it is told; 64 is that of an action that can't fire
 abbrev pub choiceTold : ℕ → ℕ

@@ -15,6 +15,8 @@ use Rattle.meaning.specs.declared.Verdict.{Verdict}
 use Rattle.meaning.specs.declared.Verdict.the-variants.{Accepted, Rejected}
 use Rattle.meaning.specs.declared.Touching.{Touching}
 use Rattle.meaning.specs.declared.Touching.the-variants.{Count, Untouched}
+use Rattle.meaning.specs.declared.Found.{Found}
+use Rattle.meaning.specs.declared.Found.the-variants.{At, Nowhere, Unfound}
 use Rattle.meaning.specs.declared.Listed.{Listed}
 use Rattle.meaning.specs.declared.Listed.the-variants.{Length, Unlisted}
 use Rattle.meaning.specs.declared.Checked.{Checked}
@@ -52,6 +54,10 @@ wordNumber Done = 10
 abbrev pub above : ℕ → ℕ → ℕ
 above number low = number % 2 ^ 56 * 256 + low
 
+-- "else 255" (document 02, W9): no place, where an answer has bits for one
+abbrev pub noneTold : ℕ
+noneTold = 255
+
 -- a step's answer: the word in bits 8 to 15 and the number woken in bits 16 to 23, or the refusal's number
 abbrev pub stepNumber : Answer → ℕ
 stepNumber (Did word woken) = above (woken * 256 + wordNumber word) 0
@@ -75,6 +81,12 @@ loadNumber (Rejected number offset) = above offset number
 abbrev pub touchNumber : Touching → ℕ
 touchNumber (Count n) = above n 0
 touchNumber (Untouched number) = number
+
+-- where a place is: the place above 0, 255 for none, or the refusal's number
+abbrev pub foundNumber : Found → ℕ
+foundNumber (At p) = above p 0
+foundNumber Nowhere = above noneTold 0
+foundNumber (Unfound number) = number
 
 -- a listing's answer: the length above 0, or the refusal's number
 abbrev pub listNumber : Listed → ℕ

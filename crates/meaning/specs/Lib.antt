@@ -14,6 +14,7 @@ pub mod TreeListing
 pub mod Report
 pub mod Codes
 pub mod Ask
+pub mod Where
 pub mod BenchRow
 pub mod BenchPaper
 pub mod BenchFiles
@@ -25,6 +26,7 @@ pub mod BenchCalls
 pub mod BenchAfter
 pub mod BenchTouch
 pub mod BenchAsk
+pub mod BenchWhere
 pub mod BenchOrder
 pub mod BenchKeys
 pub mod BenchPlain
@@ -32,6 +34,7 @@ pub mod Bench
 pub mod FileLaws
 pub mod OrderLaws
 pub mod AskLaws
+pub mod WhereLaws
 pub mod Every
 pub mod SortedLaws
 pub mod InsertLaws

@@ -11,8 +11,8 @@ cutShort = 1
 abbrev pub unknownKind : ℕ
 unknownKind = 2
 
--- "number too large, or place number 0": "for a place record's own number" (document 02, W2), and for
--- the place of a touch record or call (W3)
+-- "number too large, or place number 0": "for a place record's own number" (document 02, W2), for
+-- the place of a touch record or call (W3), and for one asked about (W10)
 abbrev pub placeTooLarge : ℕ
 placeTooLarge = 3
 

@@ -72,6 +72,13 @@ pub struct Touched {
     pub answer: Touching,
 }
 
+// Where a place is: in or at this place, in none of that name, or a refusal's number.
+pub enum Found {
+    At(u8),
+    Nowhere,
+    Unfound(u8),
+}
+
 // What a listing call answers: the length, or a refusal's number.
 pub enum Listed {
     Length(usize),

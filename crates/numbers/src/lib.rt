@@ -2,6 +2,7 @@
 use meaning::Answer;
 use meaning::Asked;
 use meaning::Checked;
+use meaning::Found;
 use meaning::Idled;
 use meaning::Listed;
 use meaning::Touching;
@@ -81,6 +82,17 @@ pub fn touch_number(answer: Touching) -> u64
     match answer {
         Touching::Count(count) => above(count, 0),
         Touching::Untouched(number) => number as u64,
+    }
+}
+
+// Where a place is: the place in bits 8 to 15, 255 for none.
+pub fn found_number(found: Found) -> u64
+    ensures { λ r. ⌜ r ≡ codes.foundNumber found ⌝ }
+{
+    match found {
+        Found::At(place) => above(place as u64, 0),
+        Found::Nowhere => above(255, 0),
+        Found::Unfound(number) => number as u64,
     }
 }
 

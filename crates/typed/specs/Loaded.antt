@@ -18,13 +18,14 @@ use Rattle.calculus.specs.Terms.{_≅_}
 use Rattle.calculus.specs.TermListing.{listed}
 use Rattle.calculus.specs.TreeNumbers.{Numbers16}
 use Rattle.demands.specs.Fresh.{Fresh}
-use Rattle.demands.specs.AfterCalls.{reached, answered, AfterCalls}
+use Rattle.demands.specs.AfterCalls.{reached, answered, plainAfter, AfterCalls}
 use Rattle.demands.specs.TwoSteps.{MovesReached}
 use Rattle.demands.specs.Agrees.{termAfter, Agrees}
 use Rattle.demands.specs.Printed.{pairCalls, printedOf}
 use Rattle.demands.specs.TouchTotal.{added}
 use Rattle.demands.specs.FirstCome.{arrivals, TakesUnwished, FirstCome}
 use Rattle.demands.specs.SameListings.{termOf, OfBytes}
+use Rattle.demands.specs.Where.{WhereExact}
 use Rattle.language.specs.Grammar.{Text, Contents, floorTyped}
 use Rattle.language.specs.Layout.{placesIn, fits, layout}
 use Rattle.language.specs.Read.{readText}
@@ -66,6 +67,8 @@ pub record CountsAsLoaded (log : List ℕ) (touches : ℕ) (c : State) : Type 0 
   -- first in, first served
   pub first-come : (calls : List Call) (x wish : ℕ) → TakesUnwished (reached c calls) x wish
       → FirstCome (reached c calls) (arrivals (tableOf c) log calls) x wish
+  -- where a place is, in words of the plain tree
+  pub whereabouts : (calls : List Call) → WhereExact (reached c calls) (plainAfter c calls .tree)
   -- what `walk` prints of it: the loaded tree, a line for each call, and the plain tree after the calls
   pub printed : (pairs : List Pair) → reportOf (accepted c) pairs ≡ printedOf c (pairCalls pairs)
 

@@ -45,6 +45,7 @@ use Rattle.demands.specs.DemandTwo.{fresh-two}
 use Rattle.demands.specs.DemandThree.{reached-inv, fresh-three, fresh-any-wish, fresh-idle}
 use Rattle.demands.specs.TouchTotalLaws.{fresh-total}
 use Rattle.demands.specs.FirstComeLaws.{fresh-first}
+use Rattle.demands.specs.WhereLaws.{fresh-where}
 use Rattle.demands.specs.SameListings.{termOf, AlikeExactly, OfBytes}
 use Rattle.demands.specs.SameListingsLaws.{cells-alike, fresh-term, fresh16, fresh-after, accepted-numbers}
 use Rattle.language.specs.Grammar.{Text, Contents}
@@ -88,6 +89,7 @@ fresh-loaded c f s log m n e = record {
   idles = fresh-idle c f;
   total = λ calls. fresh-total c f calls ∙ ap (λ (k : ℕ). k + added calls (answered c calls)) e;
   first-come = fresh-first c f log m;
+  whereabouts = fresh-where c f;
   printed = fresh-printed c f;
 }
 

@@ -242,3 +242,15 @@ pub fn touching(cell: &Cell, calls: usize) -> Vec<(u8, u32)> {
     let places: Vec<u8> = members(cell.used).collect();
     (0..calls).map(|_| (random.one_of(&places), random.below(10_000) as u32)).collect()
 }
+
+/// Places in use, each with another one, to ask for what holds both.
+pub fn pairs(cell: &Cell, calls: usize) -> Vec<(u8, u8)> {
+    let mut random = Random(23);
+    let places: Vec<u8> = members(cell.used).collect();
+    (0..calls).map(|_| (random.one_of(&places), random.one_of(&places))).collect()
+}
+
+/// Places in use, each with the name of another one, to ask which place of that name it is in.
+pub fn named(cell: &Cell, calls: usize) -> Vec<(u8, u16)> {
+    pairs(cell, calls).into_iter().map(|(place, other)| (place, cell.places[other as usize].name.name)).collect()
+}

@@ -53,6 +53,14 @@ fn job(job: &Job) -> Result<usize, String> {
             order.iter().try_for_each(|&(place, number)| touch(&mut cells, place, number))?;
             Ok(order.len())
         }
+        Job::Nearest { cell, order } => {
+            order.iter().try_for_each(|&(place, name)| nearest(cell, place, name))?;
+            Ok(order.len())
+        }
+        Job::Common { cell, order } => {
+            order.iter().try_for_each(|&(place, other)| common(cell, place, other))?;
+            Ok(order.len())
+        }
         Job::Load { file } => {
             (0..=file.len()).try_for_each(|length| load(&file[..length]).map(|_| ()))?;
             Ok(file.len() + 1)
@@ -114,6 +122,26 @@ fn touch(cells: &mut [Cell; 3], place: u8, number: u32) -> Result<(), String> {
     same(&format!("cells after {number} touches of place {place}, answered {:x}", answers[0]), *cells)?;
     let [one, two, three] = cells;
     same("answers of a place's touches", [Plain::touches(one, place), Tuned::touches(two, place), Proved::touches(three, place)])
+}
+
+fn nearest(cell: &Cell, place: u8, name: u16) -> Result<(), String> {
+    let answers = [Plain::nearest(cell, place, name), Tuned::nearest(cell, place, name), Proved::nearest(cell, place, name)];
+    same(&format!("answers {answers:x?} for the nearest {name} around place {place}"), answers)
+}
+
+fn common(cell: &Cell, place: u8, other: u8) -> Result<(), String> {
+    let answers = [Plain::common(cell, place, other), Tuned::common(cell, place, other), Proved::common(cell, place, other)];
+    same(&format!("answers {answers:x?} for what holds places {place} and {other}"), answers)
+}
+
+/// Where places are, in use or not, with a name of some place or 0.
+fn questions(numbers: &mut Random, cell: &Cell) -> Result<usize, String> {
+    for _ in 0..20 {
+        let [place, other] = [(); 2].map(|()| numbers.below(66) as u8);
+        nearest(cell, place, cell.places[other as usize % 64].name.name)?;
+        common(cell, place, other)?;
+    }
+    Ok(40)
 }
 
 /// A load of a file into a bare floor by each; answers the cells.
@@ -204,6 +232,7 @@ fn one_random(numbers: &mut Random, damaged: bool) -> Result<usize, String> {
             asks(&cells[0])?;
             listed += lists(&cells[0])?;
             listed += reads(numbers, &cells[0])?;
+            listed += questions(numbers, &cells[0])?;
         }
     }
     let at = numbers.below(file.len());

@@ -18,6 +18,10 @@ pub enum Job {
     Commit { start: Box<Cell>, order: Vec<(u8, u8, u64)> },
     /// Touch calls on a cell, which is set back before each lap.
     Touch { start: Box<Cell>, order: Vec<(u8, u32)> },
+    /// Questions which place of a name a place of the cell is in.
+    Nearest { cell: Box<Cell>, order: Vec<(u8, u16)> },
+    /// Questions which place of the cell holds or is both of two.
+    Common { cell: Box<Cell>, order: Vec<(u8, u8)> },
     /// The load of a file.
     Load { file: Vec<u8> },
     /// The reading of a text.
@@ -77,6 +81,8 @@ impl Job {
             Job::Ask { order, .. } => order.len(),
             Job::Commit { order, .. } => order.len(),
             Job::Touch { order, .. } => order.len(),
+            Job::Nearest { order, .. } => order.len(),
+            Job::Common { order, .. } => order.len(),
             _ => 1,
         }
     }
@@ -110,6 +116,8 @@ impl Job {
                 room.cell = **start;
                 order.iter().fold(0, |sum, &(place, number)| sum + K::touch(&mut room.cell, place, number))
             }
+            Job::Nearest { cell, order } => order.iter().fold(0, |sum, &(place, name)| sum + K::nearest(cell, place, name)),
+            Job::Common { cell, order } => order.iter().fold(0, |sum, &(place, other)| sum + K::common(cell, place, other)),
             Job::Load { file } => K::load(&mut room.cell, file),
             Job::Read { text } => K::read(&mut room.cell, text),
             Job::List { cell, room: size } => K::list(cell, &mut room.text[..*size]),
@@ -192,6 +200,8 @@ pub fn workloads() -> Vec<Workload> {
     let check = |sketch: Sketch| Job::Check { cell: boxed(&sketch) };
     let idle = |sketch: Sketch| Job::Idle { cell: boxed(&sketch) };
     let touch = |sketch: Sketch| Job::Touch { order: cells::touching(&sketch.cell(), 400), start: boxed(&sketch) };
+    let nearest = |sketch: Sketch| Job::Nearest { order: cells::named(&sketch.cell(), 400), cell: boxed(&sketch) };
+    let common = |sketch: Sketch| Job::Common { order: cells::pairs(&sketch.cell(), 400), cell: boxed(&sketch) };
     let whole = |sketch: Sketch| {
         let mut random = Random(31);
         let agents = sketch.agents.len();
@@ -218,6 +228,12 @@ pub fn workloads() -> Vec<Workload> {
         of("commit, full, busy", None, commits(busy(cells::full(), 300))),
         of("touch, typical", None, touch(cells::typical())),
         of("touch, full", None, touch(cells::full())),
+        of("nearest, typical", None, nearest(cells::typical())),
+        of("nearest, full", None, nearest(cells::full())),
+        of("nearest, chain", None, nearest(cells::chain())),
+        of("common, typical", None, common(cells::typical())),
+        of("common, full", None, common(cells::full())),
+        of("common, chain", None, common(cells::chain())),
         of("check, typical", None, check(cells::typical())),
         of("check, full", None, check(cells::full())),
         of("idle, typical", None, idle(cells::typical())),

@@ -15,6 +15,8 @@ pub trait Keeper {
     fn idle(cell: &Cell) -> u64;
     fn touch(cell: &mut Cell, place: u8, number: u32) -> u64;
     fn touches(cell: &Cell, place: u8) -> u64;
+    fn nearest(cell: &Cell, place: u8, name: u16) -> u64;
+    fn common(cell: &Cell, place: u8, other: u8) -> u64;
 }
 
 extern "C" {
@@ -29,6 +31,8 @@ extern "C" {
     fn keeper_idle(cell: *const Cell) -> u64;
     fn keeper_touch(cell: *mut Cell, place: u8, number: u32) -> u64;
     fn keeper_touches(cell: *const Cell, place: u8) -> u64;
+    fn keeper_nearest(cell: *const Cell, place: u8, name: u16) -> u64;
+    fn keeper_common(cell: *const Cell, place: u8, other: u8) -> u64;
 }
 
 /// The proved keeper, as libkeeper.a exports it.
@@ -67,5 +71,11 @@ impl Keeper for Proved {
     }
     fn touches(cell: &Cell, place: u8) -> u64 {
         unsafe { keeper_touches(cell, place) }
+    }
+    fn nearest(cell: &Cell, place: u8, name: u16) -> u64 {
+        unsafe { keeper_nearest(cell, place, name) }
+    }
+    fn common(cell: &Cell, place: u8, other: u8) -> u64 {
+        unsafe { keeper_common(cell, place, other) }
     }
 }

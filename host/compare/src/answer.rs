@@ -61,6 +61,23 @@ pub fn of_count(count: Result<u64, u8>) -> u64 {
     }
 }
 
+/// No place that was found.
+const NOWHERE: u8 = 255;
+
+/// The answer of a question where a place is: the refusal's number, or the place that was found above it.
+pub fn of_found(found: Result<Option<u8>, u8>) -> u64 {
+    of_count(found.map(|place| place.unwrap_or(NOWHERE) as u64))
+}
+
+/// Such an answer in words.
+pub fn found_text(answer: u64) -> String {
+    match (answer & 255, answer >> 8) {
+        (0, 255) => "none".to_string(),
+        (0, place) => format!("place {place}"),
+        _ => value_text(answer),
+    }
+}
+
 /// A step's answer in words.
 pub fn step_text(answer: u64) -> String {
     match (answer & 255, WORDS.iter().find(|entry| entry.1 == (answer >> 8 & 255))) {

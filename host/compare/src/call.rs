@@ -32,6 +32,18 @@ pub enum Call {
         place: u8,
         number: u32,
     },
+    /// The nearest place of this name around a place.
+    Nearest {
+        place: u8,
+        name: u16,
+    },
+    /// The innermost place that holds or is both of two.
+    Common {
+        place: u8,
+        other: u8,
+    },
+    /// Both questions of every place.
+    Everywhere,
     List {
         room: usize,
     },
@@ -66,6 +78,9 @@ impl fmt::Display for Call {
                 write!(out, "commits of agent {agent}, wish {wish}, of numbers that differ in a byte from an ask's")
             }
             Call::Touch { place, number } => write!(out, "touch of place {place}, {number}"),
+            Call::Nearest { place, name } => write!(out, "nearest of place {place}, name {name}"),
+            Call::Common { place, other } => write!(out, "common of places {place} and {other}"),
+            Call::Everywhere => write!(out, "nearest and common of every place"),
             Call::List { room } => write!(out, "list with room for {room} bytes"),
             Call::Renumber { seed } => write!(out, "list, and list under other numbers, seed {seed}"),
             Call::Write { at, byte } => write!(out, "the host writes {byte:02X} at byte {at} of the cell ({})", field(*at)),

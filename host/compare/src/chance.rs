@@ -5,7 +5,7 @@ use crate::orders::Order;
 use crate::pair::Pair;
 use crate::random::Random;
 
-/// An example of one file, steps, asks, commits and touch calls, with fewer of them than this one, if some tries find one.
+/// An example of one file and calls of an order, with fewer of them than this one, if some tries find one.
 pub fn shorter(calls: &[Call], thorough: bool) -> Option<Vec<Call>> {
     let (load, steps) = calls.split_first()?;
     if !matches!(load, Call::Load(_) | Call::Read(_)) || !steps.iter().all(in_orders) {
@@ -17,7 +17,8 @@ pub fn shorter(calls: &[Call], thorough: bool) -> Option<Vec<Call>> {
 
 /// Whether orders are made of such calls.
 fn in_orders(call: &Call) -> bool {
-    matches!(call, Call::Step { .. } | Call::Ask { .. } | Call::Commit { .. } | Call::Touch { .. })
+    let steps = matches!(call, Call::Step { .. } | Call::Ask { .. } | Call::Commit { .. } | Call::Touch { .. });
+    steps || matches!(call, Call::Nearest { .. } | Call::Common { .. } | Call::Everywhere)
 }
 
 /// A random order of so many calls at most, if library and model differ in it.

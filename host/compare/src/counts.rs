@@ -23,6 +23,12 @@ pub struct Counts {
     pub pooled: u64,
     pub touches: u64,
     pub touches_refused: BTreeMap<u8, u64>,
+    pub nearest: u64,
+    pub nowhere: u64,
+    pub common: u64,
+    pub at_the_floor: u64,
+    pub by_way: u64,
+    pub questions_refused: BTreeMap<u8, u64>,
     pub sums: u64,
     pub accepted: u64,
     pub refused: BTreeMap<u8, u64>,
@@ -76,6 +82,18 @@ impl fmt::Display for Counts {
         let refused: u64 = self.touches_refused.values().sum();
         write!(out, "touch calls     {:>9}   ({} refused:", self.touches, refused)?;
         self.touches_refused.iter().try_for_each(|(number, count)| write!(out, " {count} with {number}"))?;
+        writeln!(out, ")")?;
+        writeln!(out, "nearest         {:>9}   ({} found none)", self.nearest, self.nowhere)?;
+        writeln!(out, "common          {:>9}   ({} the floor)", self.common, self.at_the_floor)?;
+        let refused: u64 = self.questions_refused.values().sum();
+        write!(
+            out,
+            "where, in all   {:>9}   ({} with something on its way, {} refused:",
+            self.nearest + self.common,
+            self.by_way,
+            refused
+        )?;
+        self.questions_refused.iter().try_for_each(|(number, count)| write!(out, " {count} with {number}"))?;
         writeln!(out, ")")?;
         writeln!(out, "sums of touches {:>9}   ({} openings pooled some)", self.sums, self.pooled)?;
         let refused: u64 = self.refused.values().sum();

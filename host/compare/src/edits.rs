@@ -26,7 +26,8 @@ pub enum Edit {
     Byte(usize, usize, u8),
     /// So many bytes of a text taken out from one on.
     Piece(usize, usize, usize),
-    /// A step, ask or commit without a wish, a step in place of an ask or a commit, fewer touches, a listing into less room, a lower byte written.
+    /// A step, ask or commit without a wish, a step in place of an ask or a commit, fewer touches, a lower name or place in a question, a listing
+    /// into less room, a lower byte written.
     Plainer(usize),
 }
 

@@ -2,12 +2,13 @@
 //!
 //!     compare [--quick] [--seconds N] [--seed S] [--walk PROGRAM] [--typed-walk PROGRAM]..
 //!
-//! First document 01's cases, by steps and by asks and commits, touches up to the most there may be, listings of full cells, every single-byte change and truncation of good
-//! files and of texts, and texts at and past each limit; then rounds of random files, random orders of steps, asks, commits and touch calls on random
-//! cells, random texts, damaged ones and orders on cells that were read, and cells with bytes changed, those of keys and of the row of places too: a
-//! fixed number of rounds, or as many as fit in N seconds. Listings are read back. Cells are also listed under other numbers, which must
-//! give the same bytes. The same seed gives the same rounds. With a program `walk`, what it writes is compared too; with programs that run typed
-//! layouts (PROGRAM --text TEXT ORDER), what those write. At a difference the smallest example found is printed and the exit status is 1.
+//! First document 01's cases, by steps and by asks and commits, where every place is after each of their calls, touches up to the most there may
+//! be, listings of full cells, every single-byte change and truncation of good files and of texts, and texts at and past each limit; then rounds
+//! of random files, random orders of steps, asks, commits, touch calls and questions where a place is on random cells, random texts, damaged ones
+//! and orders on cells that were read, and cells with bytes changed, those of keys and of the row of places too: a fixed number of rounds, or as
+//! many as fit in N seconds. Listings are read back. Cells are also listed under other numbers, which must give the same bytes. The same seed gives
+//! the same rounds. With a program `walk`, what it writes is compared too; with programs that run typed layouts (PROGRAM --text TEXT ORDER), what
+//! those write. At a difference the smallest example found is printed and the exit status is 1.
 
 mod answer;
 mod bench;
@@ -33,6 +34,7 @@ mod steps;
 mod texts;
 mod touches;
 mod walks;
+mod whereabouts;
 
 use call::Call;
 use rounds::Session;
@@ -76,6 +78,7 @@ fn run(session: &mut Session, options: &Options) -> Result<(), Vec<Call>> {
     let start = Instant::now();
     session.cases()?;
     session.every_number(if options.quick { &[255] } else { &[255, 2, 3] })?;
+    session.every_place()?;
     session.most_touches()?;
     session.full_listings()?;
     session.changed_files(if options.quick { 64 } else { 4 })?;

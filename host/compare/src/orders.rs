@@ -1,8 +1,9 @@
-//! Orders: which agent steps next and what it wishes, with touch calls, asks and commits among the steps.
+//! Orders: which agent steps next and what it wishes, with touch calls, asks, commits and questions where a place is among the steps.
 
 use crate::answer;
 use crate::call::Call;
 use crate::random::Random;
+use crate::whereabouts::question;
 use model::{ask, Cell};
 
 /// How agents are chosen.
@@ -23,11 +24,12 @@ enum Manner {
 /// How many asks are kept to be committed later.
 const KEPT: usize = 12;
 
-/// The manner of an order, how many of a hundred calls touch, and how many of the others ask or commit, the agent of the step before, the stage
-/// it was at before that, and asks that were made and not committed yet: agent, wish and number.
+/// The manner of an order, how many of a hundred calls touch, how many ask where a place is, and how many of the others ask or commit, the agent
+/// of the step before, the stage it was at before that, and asks that were made and not committed yet: agent, wish and number.
 pub struct Order {
     manner: Manner,
     touching: usize,
+    questions: usize,
     asking: usize,
     agent: u8,
     stage: u8,
@@ -40,13 +42,18 @@ impl Order {
         use Manner::*;
         let manner = random.pick(&[Any, Same, Same, InTurn, Awake, Awake, WholeMoves, WholeMoves]);
         let (touching, asking) = (random.pick(&[0, 3, 10, 40]), random.pick(&[0, 10, 50, 100]));
-        Order { manner, touching, asking, agent: random.below(64) as u8, stage: 0, asks: Vec::new() }
+        let questions = random.pick(&[0, 2, 10]);
+        Order { manner, touching, questions, asking, agent: random.below(64) as u8, stage: 0, asks: Vec::new() }
     }
 
-    /// The next call: a touch call now and then, else a step call, an ask or a commit, which sometimes names no agent of the cell.
+    /// The next call: a touch call or a question where a place is now and then, else a step call, an ask or a commit, which sometimes names no
+    /// agent of the cell.
     pub fn next(&mut self, random: &mut Random, cell: &Cell) -> Call {
         if random.percent(self.touching) {
             return touch(random, cell);
+        }
+        if random.percent(self.questions) {
+            return question(random, cell);
         }
         let (agent, wish) = (self.agent(random, cell), wish(random, cell));
         if random.percent(self.asking) {
@@ -154,24 +161,30 @@ fn place(random: &mut Random, cell: &Cell) -> u8 {
     random.pick(&numbers)
 }
 
-/// A step, an ask or a commit of any agent, on an unsound table.
+/// A step, an ask or a commit of any agent, or a question about any place, on an unsound table.
 pub fn unsound(random: &mut Random) -> Call {
     let (agent, wish, any) = (random.byte() % 80, random.byte(), random.next());
-    match random.below(3) {
+    match random.below(5) {
         0 => Call::Step { agent, wish },
         1 => Call::Ask { agent, wish },
+        2 => Call::Nearest { place: agent, name: random.below(80) as u16 },
+        3 => Call::Common { place: agent, other: wish },
         _ => Call::Commit { agent, wish, asked: random.pick(&[0, 10, 11, 18, 255 << 24, 1 << 8 | 255 << 24, any]) },
+    }
+}
+
+/// A place that a call names: mostly one in use.
+pub fn any_place(random: &mut Random, cell: &Cell) -> u8 {
+    match random.below(20) {
+        0 => random.byte(),
+        1 => random.below(66) as u8,
+        _ => place(random, cell),
     }
 }
 
 /// A touch call: mostly of a place in use, with a number that is small, at a limit of its bytes, or any.
 pub fn touch(random: &mut Random, cell: &Cell) -> Call {
-    let place = match random.below(20) {
-        0 => random.byte(),
-        1 => random.below(66) as u8,
-        _ => place(random, cell),
-    };
-    Call::Touch { place, number: count(random) }
+    Call::Touch { place: any_place(random, cell), number: count(random) }
 }
 
 /// A four-byte count.

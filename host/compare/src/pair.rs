@@ -84,6 +84,9 @@ impl Pair {
             Call::Commit { agent, wish, asked } => self.commit(agent, wish, asked),
             Call::Invent { agent, wish } => self.invent(agent, wish),
             Call::Touch { place, number } => self.touch(place, number),
+            Call::Nearest { place, name } => self.nearest(place, name),
+            Call::Common { place, other } => self.common(place, other),
+            Call::Everywhere => self.everywhere(),
             Call::List { room } => self.list(room),
             Call::Renumber { seed } => match &self.cell {
                 Some(cell) => renumber::compare(&mut Random::new(seed), &self.lent, cell, &mut self.counts),

@@ -203,7 +203,8 @@ impl Session {
         Ok(())
     }
 
-    /// A random order on the cell, with touch calls, asks and commits, listings into small buffers and listings under other numbers among the steps.
+    /// A random order on the cell, with touch calls, asks, commits, questions where a place is, listings into small buffers and listings under other
+    /// numbers among the steps.
     pub fn order(&mut self, random: &mut Random) -> Outcome {
         let mut order = Order::new(random);
         let agents = self.pair.cell.as_ref().map_or(0, |cell| cell.agents.len());

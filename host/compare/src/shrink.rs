@@ -95,6 +95,9 @@ fn weight(calls: &[Call]) -> (usize, usize, usize) {
         Call::Invent { agent, wish } => 1_000 + *agent as usize + far(*wish),
         Call::Commit { agent, wish, asked } => 1_000 + *agent as usize + far(*wish) + asked.count_ones() as usize,
         Call::Touch { place, number } => *place as usize + *number as usize,
+        Call::Nearest { place, name } => *place as usize + *name as usize,
+        Call::Common { place, other } => *place as usize + *other as usize,
+        Call::Everywhere => 1_000,
         Call::List { room } => *room,
         Call::Renumber { seed } => *seed as usize,
         Call::Write { byte, .. } => *byte as usize,
@@ -107,6 +110,15 @@ fn agent_of(call: &Call) -> Option<u8> {
     match *call {
         Call::Step { agent, .. } | Call::Ask { agent, .. } | Call::Commit { agent, .. } | Call::Invent { agent, .. } => Some(agent),
         _ => None,
+    }
+}
+
+/// The places that a call names.
+fn places_of(call: &mut Call) -> Vec<&mut u8> {
+    match call {
+        Call::Touch { place, .. } | Call::Nearest { place, .. } => vec![place],
+        Call::Common { place, other } => vec![place, other],
+        _ => vec![],
     }
 }
 
@@ -149,20 +161,25 @@ fn edited(calls: &[Call], edit: Edit) -> Option<Vec<Call>> {
                 })
             });
             for call in &mut other {
-                if let Call::Touch { place, .. } = call {
-                    *place = if *place == from { to } else { *place };
+                places_of(call).into_iter().filter(|place| **place == from).for_each(|place| *place = to);
+            }
+        }
+        Edit::Name(from, to) => {
+            each_file(&mut other, |rows| {
+                for row in rows.iter_mut() {
+                    names(row)
+                        .filter(|&at| row[at..at + 2] == from)
+                        .collect::<Vec<_>>()
+                        .iter()
+                        .for_each(|&at| row[at..at + 2].copy_from_slice(&to));
+                }
+            });
+            for call in &mut other {
+                if let Call::Nearest { name, .. } = call {
+                    *name = if name.to_le_bytes() == from { u16::from_le_bytes(to) } else { *name };
                 }
             }
         }
-        Edit::Name(from, to) => each_file(&mut other, |rows| {
-            for row in rows.iter_mut() {
-                names(row)
-                    .filter(|&at| row[at..at + 2] == from)
-                    .collect::<Vec<_>>()
-                    .iter()
-                    .for_each(|&at| row[at..at + 2].copy_from_slice(&to));
-            }
-        }),
         Edit::Keyless(at, row) => {
             let mut only = vec![other.get(at)?.clone()];
             each_file(&mut only, |rows| {
@@ -188,6 +205,9 @@ fn edited(calls: &[Call], edit: Edit) -> Option<Vec<Call>> {
             Call::Invent { agent, wish } => other[at] = Call::Ask { agent: *agent, wish: *wish },
             Call::Ask { agent, wish } | Call::Commit { agent, wish, .. } => other[at] = Call::Step { agent: *agent, wish: *wish },
             Call::Touch { number, .. } => *number /= 2,
+            Call::Nearest { name, .. } => *name /= 2,
+            Call::Common { other: second, .. } => *second /= 2,
+            Call::Everywhere => return None,
             Call::List { room } => *room /= 2,
             Call::Renumber { seed } => *seed /= 2,
             Call::Write { byte, .. } => *byte /= 2,

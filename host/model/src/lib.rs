@@ -20,6 +20,7 @@ mod table;
 mod term;
 mod touch;
 mod walk;
+mod whereabouts;
 
 pub use alike::alike;
 pub use ask::{ask, commit, Asked, NONE_CHOSEN};
@@ -37,17 +38,18 @@ pub use table::{ActionRecord, AgentRecord, PlaceRecord, Table, SIZE};
 pub use term::file_of;
 pub use touch::{touch, touch_sum, touches, MOST_TOUCHES};
 pub use walk::{typed_walk, walk};
+pub use whereabouts::{common, nearest};
 
 /// "cut short: a body incomplete, or no end record"
 pub const CUT_SHORT: u8 = 1;
 /// "unknown kind, not 1 to 4"; document 02, W3: "Kind 5 leaves the unknown kinds"; W6: "Kind 6 leaves the unknown kinds"
 pub const UNKNOWN_KIND: u8 = 2;
 /// "number too large, or place number 0"; document 02, W2: "for a place record's own number"; W3: for "a place above 63" in kind 5 and in a
-/// touch call
+/// touch call; W10: for "a place number above 63" in a question
 pub const TOO_LARGE: u8 = 3;
 /// "number given twice"; document 02, W3: "a second record for a place"
 pub const GIVEN_TWICE: u8 = 4;
-/// "not yet given"; document 02, W3: "a place not given", and in a touch call "an unused one"
+/// "not yet given"; document 02, W3: "a place not given", and in a touch call "an unused one"; W10: in a question "an unused one"
 pub const NOT_YET_GIVEN: u8 = 5;
 /// "name 0 in a place or action"; a key may be 0 (document 02, W6: "0 means nobody may")
 pub const NAME_ZERO: u8 = 6;

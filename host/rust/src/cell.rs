@@ -1,6 +1,7 @@
 //! A cell, and where it comes from: a file, a text, or memory that a host kept. Its other calls stand in the modules.
 
 mod listing;
+mod places;
 mod steps;
 mod touches;
 

@@ -128,6 +128,8 @@ extern "C" {
     fn keeper_idle(cell: *const Lent) -> u64;
     fn keeper_touch(cell: *mut Lent, place: u8, number: u32) -> u64;
     fn keeper_touches(cell: *const Lent, place: u8) -> u64;
+    fn keeper_nearest(cell: *const Lent, place: u8, name: u16) -> u64;
+    fn keeper_common(cell: *const Lent, place: u8, other: u8) -> u64;
 }
 
 /// The version of the linked library: the major number from bit 16 on, the minor one in bits 8 to 15, the patch in bits 0 to 7.
@@ -229,6 +231,16 @@ impl Lent {
     /// The touch count of a place, if the table is sound and the place in use; the field `touches` holds the counts of all places.
     pub fn touches(&self, place: u8) -> u64 {
         answered(|| unsafe { keeper_touches(self, place) })
+    }
+
+    /// The nearest place of this name around a place, which is not counted itself.
+    pub fn nearest(&self, place: u8, name: u16) -> u64 {
+        answered(|| unsafe { keeper_nearest(self, place, name) })
+    }
+
+    /// The innermost place that holds or is both of two.
+    pub fn common(&self, place: u8, other: u8) -> u64 {
+        answered(|| unsafe { keeper_common(self, place, other) })
     }
 
     /// The bytes of the cell.

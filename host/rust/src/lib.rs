@@ -73,6 +73,12 @@
 //! let length = cell.list(&mut text)?;
 //! assert_eq!(&text[..length], b"9[7[]]");
 //!
+//! // Which bonder is it in: the nearest place named 20 around the capillary, place 3; and the place that holds both holders, 2 and 4.
+//! let cell = Cell::read("20[30[60[]] | 31[]] | 20[]")?;
+//! assert_eq!(cell.nearest(3, 20)?, Some(1));
+//! assert_eq!(cell.nearest(3, 40)?, None);
+//! assert_eq!(cell.common(3, 4)?, 1);
+//!
 //! // A file of length 0 is a bare floor: a line with nothing on it yet.
 //! let cell = Cell::load(&[])?;
 //! let length = cell.list(&mut text)?;
@@ -109,7 +115,7 @@ pub use refusal::{Refusal, Refused};
 
 /// The version of the library that this crate was made for: the major number from bit 16 on, the minor one in bits 8 to 15, the patch in
 /// bits 0 to 7.
-pub const VERSION: u64 = 328_192;
+pub const VERSION: u64 = 328_448;
 
 /// The longest cell file that can be accepted.
 pub const FILE_LONGEST: usize = 6_390;

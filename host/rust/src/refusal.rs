@@ -13,13 +13,14 @@ pub enum Refusal {
     CutShort,
     /// 2: a record of unknown kind, not 1 to 6. Look at the record before it too: a byte too many or too few there shifts all that follows.
     UnknownKind,
-    /// 3: a place record's own number is above 63, or 0; or the place of a touch record or of a touch call is above 63. Number places 1 to 63 and do
-    /// not give the floor.
+    /// 3: a place record's own number is above 63, or 0; or the place of a touch record, or one that a call names, is above 63. Number places 1 to
+    /// 63 and do not give the floor.
     TooLarge,
     /// 4: a number, or a place's touches, given twice. Give each once, touches also where they are 0.
     GivenTwice,
     /// 5: a parent, home, agent or touched place not yet given: put parents before what stands in them, agents before their actions, places before
-    /// their touches. Of a touch call, a place that is not in use: if it was opened, its touches are now those of the opener's place.
+    /// their touches. Of a call, a place that is not in use: if it was opened, what stood in it stands in the opener's place now, which has its
+    /// touches too.
     NotYetGiven,
     /// 6: name 0 in a place or action; a key may be 0. Use 1 to 65,535, and mind the low byte first.
     NameZero,

@@ -125,6 +125,7 @@ fn an_unsound_table() {
     assert_eq!((cell.ask(64, 0), cell.commit(Asked::new(64, 0, Word::Looked, 0, None))), (Err(unsound), Err(unsound)));
     assert_eq!(cell.list(&mut []), Err(unsound));
     assert_eq!((cell.touch(64, 0), cell.touches(64)), (Err(unsound), Err(unsound)));
+    assert_eq!((cell.nearest(64, 0), cell.common(64, 64)), (Err(unsound), Err(unsound)));
     assert!(*cell.lent() == Lent::zeros());
     assert_eq!(cell.reload(&FILE), Ok(()));
     assert_eq!(cell.listing().unwrap(), "7[enter 9] | 9[exit 7]");

@@ -7,10 +7,11 @@ mod list;
 mod read;
 mod sound;
 mod step;
+mod whereabouts;
 
 use crate::cell::{has, Cell};
 use crate::keeper::Keeper;
-use crate::tuned::{take, Tuned, ANSWER_DIFFERS, NOT_GIVEN, NO_SUCH_AGENT, TOO_LARGE, TOO_LONG, TOO_MANY_TOUCHES, UNSOUND};
+use crate::tuned::{take, Tuned, ANSWER_DIFFERS, NOT_GIVEN, NOWHERE, NO_SUCH_AGENT, TOO_LARGE, TOO_LONG, TOO_MANY_TOUCHES, UNSOUND};
 use sound::{few_touches, sound};
 
 /// The plain Rust keeper.
@@ -97,7 +98,7 @@ impl Keeper for Plain {
 
     #[inline(never)]
     fn touch(cell: &mut Cell, place: u8, number: u32) -> u64 {
-        let refused = refused_place(cell, place);
+        let refused = refused_places(cell, &[place]);
         if refused != 0 {
             return refused;
         }
@@ -110,8 +111,24 @@ impl Keeper for Plain {
 
     #[inline(never)]
     fn touches(cell: &Cell, place: u8) -> u64 {
-        match refused_place(cell, place) {
+        match refused_places(cell, &[place]) {
             0 => cell.touches[place as usize] << 8,
+            refused => refused,
+        }
+    }
+
+    #[inline(never)]
+    fn nearest(cell: &Cell, place: u8, name: u16) -> u64 {
+        match refused_places(cell, &[place]) {
+            0 => (whereabouts::nearest(cell, place, name).unwrap_or(NOWHERE) as u64) << 8,
+            refused => refused,
+        }
+    }
+
+    #[inline(never)]
+    fn common(cell: &Cell, place: u8, other: u8) -> u64 {
+        match refused_places(cell, &[place, other]) {
+            0 => (whereabouts::common(cell, place, other) as u64) << 8,
             refused => refused,
         }
     }
@@ -126,13 +143,13 @@ fn told(cell: &Cell, agent: u8, wish: u8) -> Result<(Cell, u64), u64> {
     }
 }
 
-/// The refusal of a call for a place, or 0.
-fn refused_place(cell: &Cell, place: u8) -> u64 {
+/// The refusal of a call for these places, or 0.
+fn refused_places(cell: &Cell, places: &[u8]) -> u64 {
     if !sound(cell) {
         UNSOUND
-    } else if place > 63 {
+    } else if places.iter().any(|&place| place > 63) {
         TOO_LARGE
-    } else if !has(cell.used, place) {
+    } else if places.iter().any(|&place| !has(cell.used, place)) {
         NOT_GIVEN
     } else {
         0

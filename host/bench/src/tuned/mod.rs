@@ -9,6 +9,7 @@ mod load;
 mod read;
 mod sound;
 mod step;
+mod whereabouts;
 
 use crate::cell::{has, members, Cell, MOST_TOUCHES};
 use crate::keeper::Keeper;
@@ -33,6 +34,9 @@ pub const ANSWER_DIFFERS: u64 = 18;
 pub const OUTSIDE_LANGUAGE: u8 = 16;
 /// Refusal: a text with too many of anything.
 pub const TOO_MANY: u8 = 17;
+
+/// What is answered for a place where there is none of the name.
+pub const NOWHERE: u8 = 255;
 
 /// The tuned Rust keeper.
 pub struct Tuned;
@@ -153,6 +157,26 @@ impl Keeper for Tuned {
             _ if place > 63 => TOO_LARGE,
             _ if !has(cell.used, place) => NOT_GIVEN,
             _ => cell.touches[place as usize] << 8,
+        }
+    }
+
+    #[inline(never)]
+    fn nearest(cell: &Cell, place: u8, name: u16) -> u64 {
+        match () {
+            _ if !sound(cell) => UNSOUND,
+            _ if place > 63 => TOO_LARGE,
+            _ if !has(cell.used, place) => NOT_GIVEN,
+            _ => (whereabouts::nearest(cell, place, name) as u64) << 8,
+        }
+    }
+
+    #[inline(never)]
+    fn common(cell: &Cell, place: u8, other: u8) -> u64 {
+        match () {
+            _ if !sound(cell) => UNSOUND,
+            _ if place > 63 || other > 63 => TOO_LARGE,
+            _ if !has(cell.used, place) || !has(cell.used, other) => NOT_GIVEN,
+            _ => (whereabouts::common(cell, place, other) as u64) << 8,
         }
     }
 }

@@ -1,0 +1,4 @@
+pub mod Outwards
+pub mod OutwardsLaws
+pub mod Known
+pub mod KnownLaws
