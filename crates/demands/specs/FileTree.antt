@@ -7,10 +7,10 @@ use lib.Dec.{eqb}
 use lib.ListN.{length}
 use Rattle.order.specs.Row.{loadedRow}
 use Rattle.table.specs.Base.{upd}
-use Rattle.table.specs.Cell.{none, noName}
+use Rattle.table.specs.Cell.{none, noName, plainName}
 use Rattle.table.specs.declared.Name.{Name}
 use Rattle.table.specs.declared.Action.{Action}
-use Rattle.meaning.specs.File.{byteAt, nameAt, plainName, keyedName}
+use Rattle.meaning.specs.File.{byteAt, nameAt, keyedName}
 use Rattle.meaning.specs.Calculus.{Tree, withTreeUsed, withTreeNames, withTreeParents, withTreeHomes, withTreeUnused}
 use Rattle.meaning.specs.Plain.{Plain}
 use Rattle.demands.specs.FirstCome.{placesIn, lasts}

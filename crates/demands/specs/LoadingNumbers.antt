@@ -12,7 +12,7 @@ use borrow.Author.Tests.{ltb-true, ltb-false}
 use Rattle.table.specs.Base.{upd, tab}
 use Rattle.table.specs.BaseLaws.{Told, yea, nay, told, eq?, upd-all}
 use Rattle.table.specs.Bounds.{Name16, Names16}
-use Rattle.table.specs.Cell.{State, noName, noAction, cellOf, bareTable, unused}
+use Rattle.table.specs.Cell.{State, noName, plainName, noAction, cellOf, bareTable, unused}
 use Rattle.table.specs.declared.Name.{Name}
 use Rattle.table.specs.declared.Place.{Place}
 use Rattle.table.specs.declared.Action.{Action}
@@ -22,7 +22,7 @@ use Rattle.meaning.specs.declared.Record.{Record}
 use Rattle.meaning.specs.declared.Record.the-variants.{PlaceRecord, AgentRecord, ActionRecord, EndRecord, TouchRecord, Faulty}
 use Rattle.meaning.specs.Refusals.{afterEnd}
 use Rattle.meaning.specs.Every.{every-none, every-more}
-use Rattle.meaning.specs.File.{twoBytes, byteAt, nameAt, plainName, keyedName, nameGiven, recordAt, addPlace, addAgent, addAction, giveTouches}
+use Rattle.meaning.specs.File.{twoBytes, byteAt, nameAt, keyedName, nameGiven, recordAt, addPlace, addAgent, addAction, giveTouches}
 use Rattle.meaning.specs.File.{Progress, knownIn, bareProgress, Load, accepted, refused, loadRecord, loadFrom, load}
 use Rattle.meaning.specs.FileLaws.{bare-bounded, bare-agent, bare-place, load-either}
 use Rattle.meaning.specs.Plain.{treeOf}

@@ -4,10 +4,9 @@ use mathlib.Core.Path.{_≡_}
 use mathlib.Core.List.{List, [], _∷_, _++_}
 use Prim.Native.Nat.{ℕ, _≤_}
 use Rattle.table.specs.Base.{tab}
-use Rattle.table.specs.Cell.{lastKind}
+use Rattle.table.specs.Cell.{plainName, lastKind}
 use Rattle.table.specs.declared.Name.{Name}
 use Rattle.table.specs.declared.Action.{Action}
-use Rattle.meaning.specs.File.{plainName}
 use Rattle.meaning.specs.Text.{ascii, decimal}
 use Rattle.meaning.specs.Listing.{actionText, slashed}
 

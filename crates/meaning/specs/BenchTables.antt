@@ -5,11 +5,11 @@ use Prim.Native.Nat.{ℕ}
 use lib.ListN.{set}
 use Rattle.sets.specs.Word.{bit}
 use Rattle.table.specs.Base.{upd}
-use Rattle.table.specs.Cell.{State, bareTable, cellOf, tableOf}
+use Rattle.table.specs.Cell.{State, plainName, bareTable, cellOf, tableOf}
 use Rattle.table.specs.declared.Name.{Name}
 use Rattle.table.specs.declared.Cell.{Cell}
 use Rattle.meaning.specs.Update.{atStage, withNext, withCount, withHome, withActions, withPlaces, withUsed, withLand, withLocks, withAgent, withTouches}
-use Rattle.meaning.specs.File.{plainName, loadOf}
+use Rattle.meaning.specs.File.{loadOf}
 use Rattle.meaning.specs.Codes.{checkOf, checkNumber}
 use Rattle.meaning.specs.BenchRow.{file, place, agent, enters, exits, opens}
 

@@ -6,7 +6,7 @@ use lib.Dec.{ltb, leb, eqb}
 use lib.ListN.{length, getD, set}
 use Rattle.order.specs.Row.{later, latest}
 use Rattle.table.specs.Base.{upd}
-use Rattle.table.specs.Cell.{State, cellOf, tableOf, bareTable, looking, lastKind}
+use Rattle.table.specs.Cell.{State, cellOf, tableOf, bareTable, looking, plainName, lastKind}
 use Rattle.table.specs.declared.Name.{Name}
 use Rattle.table.specs.declared.Agent.{Agent}
 use Rattle.table.specs.declared.Cell.{Cell}
@@ -78,10 +78,6 @@ complete s at n r = cond (ltb (length s - at) n) (Faulty cutShort) r
 -- the name in a place or action record
 abbrev pub nameAt : List ℕ → ℕ → ℕ
 nameAt s at = twoBytes (byteAt s (at + 3)) (byteAt s (at + 4))
-
--- "Kind 1 sets all three to the name" (document 02, W6)
-abbrev pub plainName : ℕ → Name
-plainName n = record { name = n; entering = n; exiting = n; opening = n }
 
 -- "Record kind 6 is number, parent, name, then the three keys"; "three two-byte keys: enter, exit, open"
 abbrev pub keyedName : List ℕ → ℕ → Name

@@ -5,8 +5,9 @@ use table::Name;
 ghost use mathlib.Core.Path.{_≡_};
 ghost use Prim.Native.Nat.{_+_, _<_, _≤_};
 ghost use lib.ListN.{length};
+ghost use Rattle.table.specs.Cell.{plainName};
 ghost use Rattle.reader.specs.KnownSets.{knownBy, placeNamed};
-ghost use Rattle.meaning.specs.File.{twoBytes, fourBytes, plainName, keyedName, placeLength};
+ghost use Rattle.meaning.specs.File.{twoBytes, fourBytes, keyedName, placeLength};
 ghost use Rattle.meaning.specs.File.{placeRecord, agentRecord, actionRecord, touchRecord, recordAt};
 
 // A byte as a number of two.

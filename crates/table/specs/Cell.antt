@@ -52,11 +52,15 @@ asleep = 7
 abbrev pub done : ℕ
 done = 8
 
--- ---- empty values
+-- ---- names and empty values
 
 -- no name and no keys: "0 means nobody may" (document 02, W6)
 abbrev pub noName : Name
 noName = record { name = 0; entering = 0; exiting = 0; opening = 0 }
+
+-- "Kind 1 sets all three to the name" (document 02, W6): a name without keys of its own
+abbrev pub plainName : ℕ → Name
+plainName n = record { name = n; entering = n; exiting = n; opening = n }
 
 -- a place that is not in use
 abbrev pub noPlace : Place
