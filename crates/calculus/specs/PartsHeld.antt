@@ -3,13 +3,14 @@
 use mathlib.Core.Path.{_≡_, refl, sym, ap, subst}
 use mathlib.Core.Logic.{_≢_, _⊎_, inl, inr}
 use mathlib.Core.List.{List, _∷_}
-use Prim.Native.Nat.{ℕ, zero, suc, _≤_, _<_}
+use Prim.Native.Nat.{ℕ, _≤_, _<_}
 use native.Mathlib.Omega.{arith}
 use lib.Dec.{eqb}
 use borrow.Author.Tests.{eqb-true}
 use Rattle.table.specs.Base.{upd}
 use Rattle.table.specs.BaseLaws.{Told, yea, nay, told, eq?, upd-at, upd-other}
 use Rattle.table.specs.Cell.{enterKind, exitKind, openKind, lastKind}
+use Rattle.table.specs.Kinds.{IsKind, enters, exits, opens, is-kind}
 use Rattle.table.specs.declared.Name.{Name}
 use Rattle.table.specs.declared.Action.{Action}
 use Rattle.meaning.specs.Calculus.{Tree, firstOf, restOf, standsAt}
@@ -53,14 +54,12 @@ pub data Acting (l : List Action) : Term → Type 0 where
 
 take-action : {x : Action} {l : List Action} {L Z : Term} → 1 ≤ x .kind → x .kind ≤ lastKind → Takes (row (x ∷ l)) L Z → Acting (x ∷ l) L × (Z ≡ nil)
 unfolding row prefix
-take-action {x} {l} {L} {Z} l₁ l₃ o = go (x .kind) refl (unfold row in o)
+take-action {x} {l} {L} {Z} low high o = go (is-kind (x .kind) low high) refl (unfold row in o)
   where
-    go : (k : ℕ) → x .kind ≡ k → {M W : Term} → Takes (prefix k (x .name) (row l)) M W → Acting (x ∷ l) M × (W ≡ nil)
-    go zero e q = absurd (omega arith)
-    go (suc zero) e take-enter = (act-enter e, refl)
-    go (suc (suc zero)) e take-exit = (act-exit e, refl)
-    go (suc (suc (suc zero))) e take-open = (act-open e, refl)
-    go (suc (suc (suc (suc k)))) e q = absurd (omega arith)
+    go : {k : ℕ} → IsKind k → x .kind ≡ k → {M W : Term} → Takes (prefix k (x .name) (row l)) M W → Acting (x ∷ l) M × (W ≡ nil)
+    go enters e take-enter = (act-enter e, refl)
+    go exits e take-exit = (act-exit e, refl)
+    go opens e take-open = (act-open e, refl)
 
 take-row : {l : List Action} → Good l → {L Z : Term} → Takes (row l) L Z → Acting l L × (Z ≡ nil)
 unfolding row

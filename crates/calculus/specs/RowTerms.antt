@@ -3,6 +3,7 @@ use mathlib.Core.Path.{_≡_, refl, ap, _∙_}
 use mathlib.Core.List.{List, [], _∷_}
 use Prim.Native.Nat.{ℕ}
 use Rattle.table.specs.Base.{tab}
+use Rattle.table.specs.Kinds.{IsKind, enters, exits, opens}
 use Rattle.table.specs.declared.Action.{Action}
 use Rattle.meaning.specs.Text.{gap, joinedAll}
 use Rattle.meaning.specs.Sorted.{insert, sorted}
@@ -13,7 +14,7 @@ use Rattle.calculus.specs.Terms.{Term}
 use Rattle.calculus.specs.TermOf.{prefix, row}
 use Rattle.calculus.specs.TermListing.{agentsOnly, write, prefixed, actionThen, texts, written}
 use Rattle.calculus.specs.TermParts.{agentParts, placeParts, partText}
-use Rattle.calculus.specs.RowTexts.{Kind, enters, exits, opens, Fine, fine-kind, actionsText}
+use Rattle.calculus.specs.RowTexts.{Fine, fine-kind, actionsText}
 
 -- one agent and nothing else is written as it is
 lone-written : (x : Text) → write (agentsOnly (x ∷ [])) ≡ x
@@ -28,7 +29,7 @@ none-written = refl
 -- ---- an action before a term
 
 -- it is an agent, which begins with the action
-prefix-texts : {k : ℕ} → Kind k → (n : ℕ) (P : Term) → texts (prefix k n P) ≡ actionThen k n (written P)
+prefix-texts : {k : ℕ} → IsKind k → (n : ℕ) (P : Term) → texts (prefix k n P) ≡ actionThen k n (written P)
 unfolding prefix texts
 prefix-texts enters n P = refl
 prefix-texts exits n P = refl
@@ -40,14 +41,14 @@ record OneAgent (P : Term) : Type 0 where
   places : placeParts P ≡ []
 
 -- an action before a term is one
-prefix-agent : {k : ℕ} → Kind k → (n : ℕ) (P : Term) → OneAgent (prefix k n P)
+prefix-agent : {k : ℕ} → IsKind k → (n : ℕ) (P : Term) → OneAgent (prefix k n P)
 unfolding prefix agentParts placeParts
 prefix-agent enters n P = record { agents = refl; places = refl }
 prefix-agent exits n P = record { agents = refl; places = refl }
 prefix-agent opens n P = record { agents = refl; places = refl }
 
 -- with the action in front of its text
-prefix-text : {k : ℕ} → Kind k → (n : ℕ) (P : Term) → partText (prefix k n P) ≡ prefixed (record { kind = k; name = n }) (written P)
+prefix-text : {k : ℕ} → IsKind k → (n : ℕ) (P : Term) → partText (prefix k n P) ≡ prefixed (record { kind = k; name = n }) (written P)
 unfolding prefix partText
 prefix-text enters n P = refl
 prefix-text exits n P = refl

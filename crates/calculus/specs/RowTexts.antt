@@ -3,12 +3,13 @@
 use mathlib.Core.Path.{_≡_, refl, sym, ap, ap₂, _∙_}
 use mathlib.Core.Bool.{cond}
 use mathlib.Core.List.{List, [], _∷_, _++_, append-assoc, append-cancel-left, tail-eq-of-cons-eq, nil≢cons, cons≢nil}
-use Prim.Native.Nat.{ℕ, zero, suc, _≤_, _<_}
+use Prim.Native.Nat.{ℕ, _≤_, _<_}
 use native.Mathlib.Omega.{arith}
 use lib.Dec.{eqb}
 use lib.ListN.{length, length-append}
 use Rattle.table.specs.Base.{tab}
 use Rattle.table.specs.Cell.{enterKind, exitKind, openKind, lastKind}
+use Rattle.table.specs.Kinds.{IsKind, enters, exits, opens, is-kind}
 use Rattle.table.specs.declared.Action.{Action}
 use Rattle.meaning.specs.Text.{decimal}
 use Rattle.meaning.specs.Listing.{kindText, actionText}
@@ -20,20 +21,6 @@ use Rattle.calculus.specs.Decimals.{Stop, stop-end, stop-byte, decimal-s
 
 -- ---- a kind
 
--- the three kinds
-pub data Kind : ℕ → Type 0 where
-  enters : Kind enterKind
-  exits : Kind exitKind
-  opens : Kind openKind
-
--- a kind in range is one of them
-kind-is : (k : ℕ) → 1 ≤ k → k ≤ lastKind → Kind k
-kind-is zero a b = absurd (omega arith)
-kind-is (suc zero) a b = enters
-kind-is (suc (suc zero)) a b = exits
-kind-is (suc (suc (suc zero))) a b = opens
-kind-is (suc (suc (suc (suc k)))) a b = absurd (omega arith)
-
 -- the kind that a text begins with, by its second byte: `n`, `x` or `p`
 kindAt : Text → ℕ
 kindAt [] = 0
@@ -41,27 +28,27 @@ kindAt (c ∷ []) = 0
 kindAt (c ∷ d ∷ x) = cond (eqb d 110) enterKind (cond (eqb d 120) exitKind openKind)
 
 -- it is the kind that was written
-kind-read : {k : ℕ} → Kind k → (x : Text) → kindAt (kindText k ++ x) ≡ k
+kind-read : {k : ℕ} → IsKind k → (x : Text) → kindAt (kindText k ++ x) ≡ k
 unfolding kindAt kindText tab
 kind-read enters x = refl
 kind-read exits x = refl
 kind-read opens x = refl
 
 -- a kind in front tells itself, and what follows it
-kind-split : {k j : ℕ} → Kind k → Kind j → (x y : Text) → kindText k ++ x ≡ kindText j ++ y → (k ≡ j) × (x ≡ y)
+kind-split : {k j : ℕ} → IsKind k → IsKind j → (x y : Text) → kindText k ++ x ≡ kindText j ++ y → (k ≡ j) × (x ≡ y)
 kind-split {k} {j} a b x y e =
     let g : k ≡ j = sym (kind-read a x) ∙ ap kindAt e ∙ kind-read b y in
     (g, append-cancel-left (kindText j) x y (ap (λ (i : ℕ). kindText i ++ x) (sym g) ∙ e))
 
 -- no bar and no bracket is in it
-kind-clear : {k : ℕ} → Kind k → Clear (kindText k)
+kind-clear : {k : ℕ} → IsKind k → Clear (kindText k)
 unfolding kindText tab
 kind-clear enters = clear-mild (every-more refl (every-more refl (every-more refl (every-more refl (every-more refl (every-more refl every-none))))))
 kind-clear exits = clear-mild (every-more refl (every-more refl (every-more refl (every-more refl (every-more refl every-none)))))
 kind-clear opens = clear-mild (every-more refl (every-more refl (every-more refl (every-more refl (every-more refl every-none)))))
 
 -- it begins with a small letter, and is long
-kind-lead : {k : ℕ} → Kind k → (x : Text) → (97 ≤ lead (kindText k ++ x)) × (5 ≤ length (kindText k))
+kind-lead : {k : ℕ} → IsKind k → (x : Text) → (97 ≤ lead (kindText k ++ x)) × (5 ≤ length (kindText k))
 unfolding kindText tab
 kind-lead enters x = (omega arith, omega arith)
 kind-lead exits x = (omega arith, omega arith)
@@ -76,8 +63,8 @@ pub record Fine (x : Action) : Type 0 where
   pub small : x .name < 65536
 
 -- its kind is one of the three
-pub fine-kind : {x : Action} → Fine x → Kind (x .kind)
-fine-kind {x} f = kind-is (x .kind) (f .first) (f .last)
+pub fine-kind : {x : Action} → Fine x → IsKind (x .kind)
+fine-kind {x} f = is-kind (x .kind) (f .first) (f .last)
 
 -- what follows an action ends the decimal before it
 after-stop : (x : Text) → Stop (after x)

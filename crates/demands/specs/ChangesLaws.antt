@@ -221,7 +221,7 @@ module _ (c : State) (i : Sound c) (x : ℕ) (g : c .given x ≡ true) where
       record { only = only-agent _ _; locks = refl },
     )
     way-changes (looks-home _ k) = (
-      goes Looked _ _ _ _ refl refl (looks-inside l wish a (omega (arith, kind-given c i x g))) refl,
+      goes Looked _ _ _ _ refl refl (looks-inside l wish a k (kind-given c i x g)) refl,
       record { only = only-agent _ _; locks = refl },
     )
     way-changes (sleeps-alone s _ _) = (

@@ -4,11 +4,10 @@ use mathlib.Core.Path.{_≡_, refl, sym, ap, _∙_}
 use mathlib.Core.Bool.{true, false, cond}
 use Prim.Native.Nat.{ℕ, _+_, _≤_}
 use native.Mathlib.Nat.{add-zero}
-use native.Mathlib.Omega.{arith}
 use lib.Dec.{eqb, leb}
-use borrow.Author.Tests.{eq-eqb, ne-eqb}
 use Rattle.table.specs.BaseLaws.{Told, yea, nay, told}
-use Rattle.table.specs.Cell.{Land, hasAction, kindOf, exitKind, openKind}
+use Rattle.table.specs.Cell.{Land, hasAction, kindOf, exitKind, openKind, lastKind}
+use Rattle.table.specs.Kinds.{kind-home, kind-around}
 use Rattle.table.specs.declared.Agent.{Agent}
 use Rattle.meaning.specs.declared.Word.{Word}
 use Rattle.meaning.specs.declared.Word.the-variants.{Looked, Took, Held, Slept, Asleep, Done}
@@ -56,10 +55,10 @@ module _ (l : Land) (wish : ℕ) (a : Agent) where
 
   -- what it remembers and chooses
   pub looks-around : kindOf a ≤ exitKind → rememberedBy Looked l a ≡ l .place (a .home) .parent
-  looks-around k = rw (ne-eqb (kindOf a) openKind (λ z. omega arith))
+  looks-around k = rw (kind-around (kindOf a) k)
 
-  pub looks-inside : kindOf a ≡ openKind → rememberedBy Looked l a ≡ a .home
-  looks-inside k = rw (eq-eqb (kindOf a) openKind k)
+  pub looks-inside : openKind ≤ kindOf a → kindOf a ≤ lastKind → rememberedBy Looked l a ≡ a .home
+  looks-inside k m = rw (kind-home (kindOf a) k m)
 
   pub sleeps-at-home : a .stage ≡ 0 → rememberedBy Slept l a ≡ a .home
   sleeps-at-home s = rw (ap (λ (n : ℕ). eqb n 0) s)

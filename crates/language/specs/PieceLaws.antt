@@ -9,7 +9,7 @@ use lib.Dec.{ltb, leb}
 use borrow.Author.Tests.{ltb-true, ltb-false, le-leb, ne-eqb}
 use Rattle.table.specs.Base.{tab}
 use Rattle.table.specs.BaseLaws.{Told, yea, nay, told}
-use Rattle.table.specs.Cell.{lastKind}
+use Rattle.table.specs.Kinds.{IsKind, enters, exits, opens, is-kind}
 use Rattle.meaning.specs.Text.{decimal}
 use Rattle.meaning.specs.Listing.{kindText, actionText}
 use Rattle.language.specs.declared.Field.{Field}
@@ -113,29 +113,25 @@ module _ {B : Type 0} (o : Builder B) where
   -- ---- words
 
   -- the first word of an agent, where a part may begin
-  word-run : {c : Control} → Opening c → (k d : ℕ) (x : B) → 1 ≤ k → k ≤ lastKind
+  word-run : {c : Control} {k : ℕ} → Opening c → IsKind k → (d : ℕ) (x : B)
       → run o (at c d x) (kindText k) ≡ at (Before (ActionNumber k)) d (o .new-agent x)
   unfolding kindText tab run step land apply next beginPart beginWord spelled
-  word-run h zero d x l m = absurd (omega arith)
-  word-run opening-begin (suc zero) d x l m = refl
-  word-run opening-part (suc zero) d x l m = refl
-  word-run opening-within (suc zero) d x l m = refl
-  word-run opening-begin (suc (suc zero)) d x l m = refl
-  word-run opening-part (suc (suc zero)) d x l m = refl
-  word-run opening-within (suc (suc zero)) d x l m = refl
-  word-run opening-begin (suc (suc (suc zero))) d x l m = refl
-  word-run opening-part (suc (suc (suc zero))) d x l m = refl
-  word-run opening-within (suc (suc (suc zero))) d x l m = refl
-  word-run h (suc (suc (suc (suc k)))) d x l m = absurd (omega arith)
+  word-run opening-begin enters d x = refl
+  word-run opening-part enters d x = refl
+  word-run opening-within enters d x = refl
+  word-run opening-begin exits d x = refl
+  word-run opening-part exits d x = refl
+  word-run opening-within exits d x = refl
+  word-run opening-begin opens d x = refl
+  word-run opening-part opens d x = refl
+  word-run opening-within opens d x = refl
 
   -- a further word, after a full stop
-  next-word-run : (k d : ℕ) (x : B) → 1 ≤ k → k ≤ lastKind → run o (at Dot d x) (kindText k) ≡ at (Before (ActionNumber k)) d x
+  next-word-run : {k : ℕ} → IsKind k → (d : ℕ) (x : B) → run o (at Dot d x) (kindText k) ≡ at (Before (ActionNumber k)) d x
   unfolding kindText tab run step land apply next beginWord spelled
-  next-word-run zero d x l m = absurd (omega arith)
-  next-word-run (suc zero) d x l m = refl
-  next-word-run (suc (suc zero)) d x l m = refl
-  next-word-run (suc (suc (suc zero))) d x l m = refl
-  next-word-run (suc (suc (suc (suc k)))) d x l m = absurd (omega arith)
+  next-word-run enters d x = refl
+  next-word-run exits d x = refl
+  next-word-run opens d x = refl
 
   -- ---- first digits
 
@@ -174,7 +170,7 @@ module _ {B : Type 0} (o : Builder B) where
       → run o (at c d x) (actionTyped a) ≡ at (Digits (ActionNumber (a .kind)) (a .number .value)) d (o .new-agent x)
   unfolding actionTyped actionText actionOf
   action-run h a d x = run-append (at _ d x) (kindText (a .kind)) (decimal (a .number .value))
-      ∙ ap (λ (z : Run B). run o z (decimal (a .number .value))) (word-run h (a .kind) d x (a .from-one) (a .to-last))
+      ∙ ap (λ (z : Run B). run o z (decimal (a .number .value))) (word-run h (is-kind (a .kind) (a .from-one) (a .to-last)) d x)
       ∙ action-number-run (a .kind) d (o .new-agent x) (a .number)
 
   -- a further one
@@ -182,7 +178,7 @@ module _ {B : Type 0} (o : Builder B) where
       → run o (at Dot d x) (actionTyped a) ≡ at (Digits (ActionNumber (a .kind)) (a .number .value)) d x
   unfolding actionTyped actionText actionOf
   next-action-run a d x = run-append (at Dot d x) (kindText (a .kind)) (decimal (a .number .value))
-      ∙ ap (λ (z : Run B). run o z (decimal (a .number .value))) (next-word-run (a .kind) d x (a .from-one) (a .to-last))
+      ∙ ap (λ (z : Run B). run o z (decimal (a .number .value))) (next-word-run (is-kind (a .kind) (a .from-one) (a .to-last)) d x)
       ∙ action-number-run (a .kind) d x (a .number)
 
   -- an action's number, where a part may end, reads on as a closed place does

@@ -6,19 +6,33 @@ use native.Mathlib.Omega.{arith}
 use borrow.Author.Tests.{eqb-true, eqb-false, eq-eqb, ne-eqb}
 use Rattle.table.specs.Cell.{enterKind, exitKind, openKind, lastKind, looksHome}
 
--- the kinds of document 01
+-- the kinds of document 01, each by its number
+pub data IsKind : ℕ → Type 0 where
+  enters : IsKind enterKind
+  exits : IsKind exitKind
+  opens : IsKind openKind
+
+-- a number in range is one of them: the only law that tells them apart by the form of the number
+pub is-kind : (kind : ℕ) → 1 ≤ kind → kind ≤ lastKind → IsKind kind
+is-kind zero a b = absurd (omega arith)
+is-kind (suc zero) a b = enters
+is-kind (suc (suc zero)) a b = exits
+is-kind (suc (suc (suc zero))) a b = opens
+is-kind (suc (suc (suc (suc k)))) a b = absurd (omega arith)
+
+-- the same with an equation for each
 pub data Kind (kind : ℕ) : Type 0 where
   is-enter : kind ≡ enterKind → Kind kind
   is-exit : kind ≡ exitKind → Kind kind
   is-open : kind ≡ openKind → Kind kind
 
--- a kind in range is one of them
+by-equation : {kind : ℕ} → IsKind kind → Kind kind
+by-equation enters = is-enter refl
+by-equation exits = is-exit refl
+by-equation opens = is-open refl
+
 pub kind-is : (kind : ℕ) → 1 ≤ kind → kind ≤ lastKind → Kind kind
-kind-is zero a b = absurd (omega arith)
-kind-is (suc zero) a b = is-enter refl
-kind-is (suc (suc zero)) a b = is-exit refl
-kind-is (suc (suc (suc zero))) a b = is-open refl
-kind-is (suc (suc (suc (suc k)))) a b = absurd (omega arith)
+kind-is kind a b = by-equation (is-kind kind a b)
 
 -- what looks at its own place comes from open on, what looks at the place around it before: the test and the order, both ways
 pub home-kind : (kind : ℕ) → looksHome kind ≡ true → openKind ≤ kind

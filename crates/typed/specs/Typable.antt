@@ -11,6 +11,7 @@ use borrow.Author.Tests.{eqb-true}
 use Rattle.table.specs.Base.{tab}
 use Rattle.table.specs.BaseLaws.{Told, yea, nay, told, and-left, and-right}
 use Rattle.table.specs.Bounds.{Name16}
+use Rattle.table.specs.Kinds.{IsKind, enters, exits, opens}
 use Rattle.table.specs.declared.Name.{Name}
 use Rattle.table.specs.declared.Action.{Action}
 use Rattle.meaning.specs.Text.{decimal}
@@ -24,7 +25,7 @@ use Rattle.calculus.specs.TermListing.{after, prefixed, written}
 use Rattle.calculus.specs.TermParts.{agentParts, placeParts, partText, map-append, agents-texts, places-texts, gather, gather-append, gathered}
 use Rattle.calculus.specs.TermParts.{arranged}
 use Rattle.calculus.specs.TextParts.{barred, beside, whole-some}
-use Rattle.calculus.specs.RowTexts.{Kind, enters, exits, opens, Fine, fine-kind, actionsText, row-whole}
+use Rattle.calculus.specs.RowTexts.{Fine, fine-kind, actionsText, row-whole}
 use Rattle.calculus.specs.RowTerms.{row-text}
 use Rattle.calculus.specs.TreeListed.{after-some}
 use Rattle.calculus.specs.ListedTerms.{Proper, proper-amb, proper-nil, proper-par, proper-row, legible, legible-write}
@@ -134,7 +135,7 @@ agent-typed {x} {l} a e = record {
     said = unfold agentTerm in ap row (row-back (every-more a e))
 
 -- it is one part
-one-agent : {k : ℕ} → Kind k → (n : ℕ) (P : Term) → Typed (prefix k n P)
+one-agent : {k : ℕ} → IsKind k → (n : ℕ) (P : Term) → Typed (prefix k n P)
     → Every Typed (agentParts (prefix k n P)) × Every Typed (placeParts (prefix k n P))
 unfolding prefix agentParts placeParts
 one-agent enters n P w = (every-more w every-none, every-none)

@@ -9,10 +9,10 @@ use lib.Dec.{leb}
 use lib.ListN.{length}
 use borrow.Author.Tests.{le-leb, lt-leb, leb-true, leb-false}
 use Rattle.table.specs.BaseLaws.{Told, yea, nay, told}
+use Rattle.table.specs.Kinds.{IsKind, enters, exits, opens, is-kind}
 use Rattle.calculus.specs.Terms.{Term, amb, nil, _∣_, enter, exit, «open», _≅_, struct-refl, struct-symm, struct-trans, struct-par-zero}
 use Rattle.calculus.specs.Terms.{struct-par-comm, struct-par-assoc, struct-amb, struct-par, struct-enter, struct-exit, struct-open}
 use Rattle.calculus.specs.TermOf.{prefix, row}
-use Rattle.calculus.specs.RowTexts.{Kind, enters, exits, opens, fine-kind}
 use Rattle.language.specs.Grammar.{TypedAction, TypedAgent, Contents, nothing, agent, place, actionOf}
 use Rattle.language.specs.Layout.{placesIn, agentsIn, rowsFit, fits}
 use Rattle.typed.specs.TermTyped.{actionsOf, agentTerm, termTyped}
@@ -94,16 +94,12 @@ short-same (suc k) (struct-open e) = short-same k e
 
 -- ---- of a tree
 
--- a typed action has one of the three kinds
-typed-kind : (a : TypedAction) → Kind (a .kind)
-typed-kind a = unfold actionOf in fine-kind {x = actionOf a} (record {
-  first = a .from-one;
-  last = a .to-last;
-  small = let l = a .number .high in omega arith;
-})
+-- a typed action has one of the kinds
+typed-kind : (a : TypedAction) → IsKind (a .kind)
+typed-kind a = is-kind (a .kind) (a .from-one) (a .to-last)
 
 -- an action before a term is an agent
-weigh-prefix : (A B : ℕ) {k : ℕ} → Kind k → (n : ℕ) (P : Term) → weigh A B (prefix k n P) ≡ A
+weigh-prefix : (A B : ℕ) {k : ℕ} → IsKind k → (n : ℕ) (P : Term) → weigh A B (prefix k n P) ≡ A
 unfolding weigh prefix
 weigh-prefix A B enters n P = refl
 weigh-prefix A B exits n P = refl
@@ -129,14 +125,14 @@ agents-weigh (agent r c) = omega (arith, agent-weighs 1 0 r, agents-weigh c)
 agents-weigh (place h c e) = omega (arith, agents-weigh c, agents-weigh e)
 
 -- an action more
-short-prefix : (j : ℕ) {k : ℕ} → Kind k → (n : ℕ) (P : Term) → short (suc j) (prefix k n P) ≡ short j P
+short-prefix : (j : ℕ) {k : ℕ} → IsKind k → (n : ℕ) (P : Term) → short (suc j) (prefix k n P) ≡ short j P
 unfolding short prefix
 short-prefix j enters n P = refl
 short-prefix j exits n P = refl
 short-prefix j opens n P = refl
 
 -- is one too many where none may be
-none-prefix : {k : ℕ} → Kind k → (n : ℕ) (P : Term) → short 0 (prefix k n P) ≡ false
+none-prefix : {k : ℕ} → IsKind k → (n : ℕ) (P : Term) → short 0 (prefix k n P) ≡ false
 unfolding short prefix
 none-prefix enters n P = refl
 none-prefix exits n P = refl
