@@ -3,7 +3,7 @@
 use mathlib.Core.Path.{_≡_, sym, ap, _∙_}
 use mathlib.Core.Logic.{_≢_}
 use mathlib.Core.Bool.{true, false, cond}
-use Prim.Native.Nat.{ℕ, _<_}
+use Prim.Native.Nat.{ℕ, _≤_, _<_}
 use lib.Dec.{eqb}
 use borrow.Author.Tests.{eq-eqb, ne-eqb, lt-ltb}
 use Rattle.table.specs.BaseLaws.{Told, yea, nay, told}
@@ -50,11 +50,11 @@ module _ (c : State) (x w : ℕ) where
   ahead-first s e = by-stage 1 _ s (taken _ _ _ _ e)
 
   -- stage 2, with the second place free
-  pub ahead-second : (q : ℕ) → own .stage ≡ 2 → stays (c .land) own ≡ true → choice (c .land) own w ≡ q → q < 64
+  pub ahead-second : (q : ℕ) → own .stage ≡ 2 → kindOf own ≤ openKind → stays (c .land) own ≡ true → choice (c .land) own w ≡ q → q < 64
       → c .lock (secondPlace (kindOf own) (own .home) q) ≡ none
       → step c x w .cell ≡ takesLock c x (secondPlace (kindOf own) (own .home) q) 3 (own .remembered) (cond (eqb (kindOf own) exitKind) 0 q)
   unfolding stepAt hold lockSecond
-  ahead-second q s st e l f = by-stage 2 _ s (rw (st, e, lt-ltb q 64 l) (taken _ _ _ _ f))
+  ahead-second q s k st e l f = by-stage 2 _ s (rw (st, e, lt-ltb q 64 l) (taken _ _ _ _ f))
 
   -- or with its place no longer linked to the remembered one
   pub ahead-back : own .stage ≡ 2 → stays (c .land) own ≡ false → step c x w .cell ≡ givesBack c x (own .remembered) (own .remembered) 0 0

@@ -43,7 +43,7 @@ module _ (c : State) (i : Sound c) (x : ℕ) (g : c .given x ≡ true) where
   way-keeps (is-done _) = same
   way-keeps (is-asleep _) = same
   way-keeps (held-first _ _) = same
-  way-keeps (held-second _ _ _ _) = same
+  way-keeps (held-second _ _ _ _ _) = same
   way-keeps (held-own _ _) = same
   way-keeps (held-destination _ _) = same
   way-keeps (looks-up s k _) = keep-look c i x g s k
@@ -51,8 +51,8 @@ module _ (c : State) (i : Sound c) (x : ℕ) (g : c .given x ≡ true) where
   way-keeps (sleeps-alone s k e) = keep-sleep-alone c i x g s k e
   way-keeps (takes-first s e) = keep-take-first c i x g s e
   way-keeps (goes-back s _) = keep-back c i x g s
-  way-keeps {wish} (sleeps-stuck s e l) = keep-sleep-stuck c i x g wish s e l
-  way-keeps {wish} (takes-second q s e f l h) = keep-take-second c i x g wish q s e f l h
+  way-keeps {wish} (sleeps-stuck s k e l) = keep-sleep-stuck c i x g wish s k e l
+  way-keeps {wish} (takes-second q s k e f l h) = keep-take-second c i x g wish q s k e f l h
   way-keeps (gives-up s _) = keep-give-up c i x g s
   way-keeps (enters s k e) = keep-enter c i x g s k e
   way-keeps (exits s k _) = keep-exit c i x g s k

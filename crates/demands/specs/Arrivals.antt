@@ -87,7 +87,7 @@ module _ (c : State) (i : Sound c) (x : ℕ) (g : c .given x ≡ true) (log : Li
   way-logged (is-done _) = none-came m
   way-logged (is-asleep _) = none-came m
   way-logged (held-first _ _) = none-came m
-  way-logged (held-second _ _ _ _) = none-came m
+  way-logged (held-second _ _ _ _ _) = none-came m
   way-logged (held-own _ _) = none-came m
   way-logged (held-destination _ _) = none-came m
   way-logged (looks-up _ _ _) = none-came m
@@ -95,8 +95,8 @@ module _ (c : State) (i : Sound c) (x : ℕ) (g : c .given x ≡ true) (log : Li
   way-logged (sleeps-alone _ _ _) = none-came m
   way-logged (takes-first _ _) = none-came m
   way-logged (goes-back _ _) = none-came m
-  way-logged (sleeps-stuck _ _ _) = none-came m
-  way-logged (takes-second _ _ _ _ _ _) = none-came m
+  way-logged (sleeps-stuck _ _ _ _) = none-came m
+  way-logged (takes-second _ _ _ _ _ _ _) = none-came m
   way-logged (gives-up _ _) = none-came m
   way-logged (enters _ _ _) = unfold leave in left-logged (a .chosen)
   way-logged (exits _ _ _) = unfold leave in left-logged (parentIn (c .land) (a .remembered))

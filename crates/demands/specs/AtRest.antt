@@ -5,7 +5,7 @@ use mathlib.Core.Bool.{true}
 use Prim.Native.Nat.{ℕ, _≤_}
 use native.Mathlib.Omega.{arith}
 use Rattle.table.specs.BaseLaws.{clash}
-use Rattle.table.specs.Cell.{State, kindOf, nameOf}
+use Rattle.table.specs.Cell.{State, kindOf, nameOf, openKind}
 use Rattle.table.specs.declared.Action.{Action}
 use Rattle.table.specs.declared.Agent.{Agent}
 use Rattle.meaning.specs.Step.{qualifies}
@@ -58,11 +58,11 @@ module _ (c : State) (i : Inv c) (whole : Whole c) (a : ℕ) (rest : 7 ≤ agent
       some : 1 ≤ kindOf b
       some = subst (λ (k : ℕ). 1 ≤ k) (given-kind c a g (i .sound .fit a)) (case-kind m)
 
-      fires : Target c (i .sound) a g whole u
-      fires = target c (i .sound) a g whole m
+      fires : kindOf b ≤ openKind → Target c (i .sound) a g whole u
+      fires k = target c (i .sound) a g whole k m
 
       go : Sleeper (c .land) b → ⊥
       go (alone k _ o) = clash (whole (b .home) (home-given c (i .sound) a g) (off-floor c (i .sound) a g m k)) o
-      go (stuck o s f) = clash
-          (subst (λ (p : ℕ). qualifies (c .land) (kindOf b) (nameOf b) (b .home) p (fires .place) ≡ true)
-          (sym (looks-same (c .land) b (kind-small b (fit-given c (i .sound) a g)) o s)) (fires .fits)) (f (fires .place))
+      go (stuck k o s f) = clash
+          (subst (λ (p : ℕ). qualifies (c .land) (kindOf b) (nameOf b) (b .home) p (fires k .place) ≡ true)
+          (sym (looks-same (c .land) b (kind-small b (fit-given c (i .sound) a g)) o s)) (fires k .fits)) (f (fires k .place))

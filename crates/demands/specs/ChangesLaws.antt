@@ -213,7 +213,7 @@ module _ (c : State) (i : Sound c) (x : ℕ) (g : c .given x ≡ true) where
     way-changes (is-done _) = (stepped-done l wish a, refl)
     way-changes (is-asleep _) = (stepped-asleep l wish a, refl)
     way-changes (held-first _ _) = (stepped-held l wish a, refl)
-    way-changes (held-second _ _ _ _) = (stepped-held l wish a, refl)
+    way-changes (held-second _ _ _ _ _) = (stepped-held l wish a, refl)
     way-changes (held-own _ _) = (stepped-held l wish a, refl)
     way-changes (held-destination _ _) = (stepped-held l wish a, refl)
     way-changes (looks-up _ k _) = (
@@ -233,11 +233,11 @@ module _ (c : State) (i : Sound c) (x : ℕ) (g : c .given x ≡ true) where
       taking _ _ _ _ f (needed-first l a 0 s),
     )
     way-changes (goes-back s _) = (goes Back _ _ _ _ refl refl refl refl, releasing _ _ _ _ (returned-two c i x g s))
-    way-changes (sleeps-stuck s _ _) = (
+    way-changes (sleeps-stuck s _ _ _) = (
       goes Slept _ _ _ _ refl refl (sleeps-around l wish a s) refl,
       releasing _ _ _ _ (returned-two c i x g s),
     )
-    way-changes (takes-second q s _ e _ f) = (
+    way-changes (takes-second q s _ _ e _ f) = (
       goes Took _ _ _ _ refl (omega arith) (took-near l wish a 2 refl s) (took-choice l wish a q s e),
       taking _ _ _ _ f (needed-second l a _ s ∙ second-kept (kindOf a) (a .home) q),
     )

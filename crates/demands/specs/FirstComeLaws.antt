@@ -65,7 +65,7 @@ unfolding still leave dissolve arrive isTook
 second-took (is-done s) e k w = clash w refl
 second-took (is-asleep s) e k w = clash w refl
 second-took (held-first s _) e k w = clash w refl
-second-took (held-second s _ _ _) e k w = clash w refl
+second-took (held-second s _ _ _ _) e k w = clash w refl
 second-took (held-own s _) e k w = clash w refl
 second-took (held-destination s _) e k w = clash w refl
 second-took (looks-up s _ _) e k w = clash w refl
@@ -73,8 +73,8 @@ second-took (looks-home s _) e k w = clash w refl
 second-took (sleeps-alone s _ _) e k w = clash w refl
 second-took (takes-first s _) e k w = absurd (omega arith)
 second-took (goes-back s _) e k w = clash w refl
-second-took (sleeps-stuck s _ _) e k w = clash w refl
-second-took {c} {x} {wish} (takes-second q s st ch l _) e k w =
+second-took (sleeps-stuck s _ _ _) e k w = clash w refl
+second-took {c} {x} {wish} (takes-second q s _ st ch l _) e k w =
     (subst (λ (n : ℕ). n < 64) (sym ch) l, ap (λ (a : Agent). a .chosen) (upd-same (c .agent) x _) ∙ rw (ne-eqb (kindOf (c .agent x)) exitKind k) (sym ch))
 second-took (gives-up s _) e k w = clash w refl
 second-took (enters s _ _) e k w = clash w refl

@@ -94,7 +94,7 @@ module _ (l l′ : Land) (a : Agent) (k : Kind (kindOf a)) (m : Calm l l′ a) w
   -- so it keeps its reason
   pub sleeper-frame : Sleeper l a → Sleeper l′ a
   sleeper-frame (alone s e o) = alone s e (m .loose o e)
-  sleeper-frame (stuck o s f) = stuck o (stays-frame k s) (λ q. not-yes _ (λ t. clash (fits-frame q k t) (f q)))
+  sleeper-frame (stuck b o s f) = stuck b o (stays-frame k s) (λ q. not-yes _ (λ t. clash (fits-frame q k t) (f q)))
 
 -- ---- waking
 

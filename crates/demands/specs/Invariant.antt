@@ -114,7 +114,7 @@ pub record Sound (c : State) : Type 0 where
 -- why an agent sleeps: its place has no linked parent, or its action does not fire where it would look now
 pub data Sleeper (l : Land) (a : Agent) : Type 0 where
   alone : kindOf a ≤ exitKind → a .remembered ≡ a .home → linked l (a .home) ≡ false → Sleeper l a
-  stuck : (openKind ≤ kindOf a → a .remembered ≡ a .home) → stays l a ≡ true
+  stuck : kindOf a ≤ openKind → (openKind ≤ kindOf a → a .remembered ≡ a .home) → stays l a ≡ true
       → ((q : ℕ) → qualifies l (kindOf a) (nameOf a) (a .home) (a .remembered) q ≡ false) → Sleeper l a
 
 -- each sleeper has a reason to sleep

@@ -26,7 +26,7 @@ use Rattle.demands.specs.Stages.{ok-at, rest-stage, not-between, holds-g
 use Rattle.demands.specs.Ways.{Way, is-done, is-asleep, held-first, held-second, held-own, held-destination, looks-up, looks-home}
 use Rattle.demands.specs.Ways.{sleeps-alone, takes-first, goes-back, sleeps-stuck, takes-second, gives-up, enters, exits, opens}
 use Rattle.demands.specs.Ways.{takes-own, takes-destination, comes}
-use Rattle.demands.specs.StepWays.{kind-given, step-way}
+use Rattle.demands.specs.StepWays.{step-way}
 
 -- an agent whose step changes its stage, whatever its wish
 pub record Goes (c : State) : Type 0 where
@@ -62,9 +62,9 @@ module _ (c : State) (i : Sound c) (x : ℕ) (g : c .given x ≡ true) where
   other-stage s k b f e d n z = n (sym e ∙ sym z ∙ ap (λ v. v .stage) (upd-same f x b) ∙ d)
 
   -- the second place is linked to the remembered one
-  pub second-under : (w : ℕ) → stays (c .land) (c .agent x) ≡ true → choice (c .land) (c .agent x) w < 64
+  pub second-under : (w : ℕ) → kindOf (c .agent x) ≤ openKind → stays (c .land) (c .agent x) ≡ true → choice (c .land) (c .agent x) w < 64
       → Under (c .land) (secondPlace (kindOf (c .agent x)) (c .agent x .home) (choice (c .land) (c .agent x) w)) (c .agent x .remembered)
-  second-under w st l = go (eq? (kindOf (c .agent x)) openKind)
+  second-under w b st l = go (eq? (kindOf (c .agent x)) openKind)
     where
       q : ℕ
       q = choice (c .land) (c .agent x) w
@@ -77,7 +77,7 @@ module _ (c : State) (i : Sound c) (x : ℕ) (g : c .given x ≡ true) where
           → Under (c .land) (secondPlace (kindOf (c .agent x)) (c .agent x .home) q) (c .agent x .remembered)
       go (inl k) = to q (second-open _ _ q k) (opens-fits (c .land) _ _ _ _ q k (choice-fits (c .land) (c .agent x) w q refl l) .0 .under)
       go (inr n) =
-          let k : kindOf (c .agent x) ≤ exitKind = omega (arith, kind-given c i x g) in
+          let k : kindOf (c .agent x) ≤ exitKind = omega arith in
           to (c .agent x .home) (second-move _ _ q k) (stays-under (c .land) (c .agent x) k st)
 
   -- a step changes the agent's stage, or the agent waits
@@ -86,7 +86,7 @@ module _ (c : State) (i : Sound c) (x : ℕ) (g : c .given x ≡ true) where
   change (is-done s) = inr (rests (omega arith))
   change (is-asleep s) = inr (rests (omega arith))
   change (held-first s n) = inr (waits _ 1 s refl n)
-  change {w} (held-second s st l n) = inr (waits _ 2 s (second-under w st l) n)
+  change {w} (held-second s b st l n) = inr (waits _ 2 s (second-under w b st l) n)
   change (held-own s n) = inr (waits _ 4 s refl n)
   change (held-destination s n) = inr (waits _ 5 s refl n)
   change (looks-up s k e) = inl (other-stage 0 1 _ _ s refl (omega arith))
@@ -94,8 +94,8 @@ module _ (c : State) (i : Sound c) (x : ℕ) (g : c .given x ≡ true) where
   change (sleeps-alone s k e) = inl (other-stage 0 7 _ _ s refl (omega arith))
   change (takes-first s e) = inl (other-stage 1 2 _ _ s refl (omega arith))
   change (goes-back s e) = inl (other-stage 2 0 _ _ s refl (omega arith))
-  change (sleeps-stuck s st l) = inl (other-stage 2 7 _ _ s refl (omega arith))
-  change (takes-second q s st e l f) = inl (other-stage 2 3 _ _ s refl (omega arith))
+  change (sleeps-stuck s b st l) = inl (other-stage 2 7 _ _ s refl (omega arith))
+  change (takes-second q s b st e l f) = inl (other-stage 2 3 _ _ s refl (omega arith))
   change (gives-up s e) = inl (other-stage 3 0 _ _ s refl (omega arith))
   change (enters s k e) = inl (other-stage 3 4 _ _ s refl (omega arith))
   change (exits s k e) = inl (other-stage 3 4 _ _ s refl (omega arith))

@@ -114,7 +114,7 @@ module _ (c : State) (i : Sound c) (x : ℕ) (g : c .given x ≡ true) (t : Plai
   way-follows (is-done _) = silent m
   way-follows (is-asleep _) = silent m
   way-follows (held-first _ _) = silent m
-  way-follows (held-second _ _ _ _) = silent m
+  way-follows (held-second _ _ _ _ _) = silent m
   way-follows (held-own _ _) = silent m
   way-follows (held-destination _ _) = silent m
   way-follows (looks-up _ _ _) = silent (plain-quiet c i x g t m (c .lock) 1 _ 0 (λ z. absurd (omega arith)))
@@ -122,10 +122,10 @@ module _ (c : State) (i : Sound c) (x : ℕ) (g : c .given x ≡ true) (t : Plai
   way-follows (sleeps-alone _ _ _) = silent (plain-quiet c i x g t m (c .lock) 7 _ 0 (λ z. absurd (omega arith)))
   way-follows {wish} (takes-first _ _) = record { same = plain-took c i x g t m _ 2 _ 0 wish (λ z. absurd (omega arith)); step = unmoved }
   way-follows (goes-back _ _) = silent (plain-quiet c i x g t m _ 0 0 0 (λ z. absurd (omega arith)))
-  way-follows (sleeps-stuck _ _ _) = silent (plain-quiet c i x g t m _ 7 _ 0 (λ z. absurd (omega arith)))
-  way-follows {wish} (takes-second q s st ch _ _) = record {
+  way-follows (sleeps-stuck _ _ _ _) = silent (plain-quiet c i x g t m _ 7 _ 0 (λ z. absurd (omega arith)))
+  way-follows {wish} (takes-second q s b st ch _ _) = record {
     same = plain-took c i x g t m _ 3 _ _ wish
-        (λ _ k. plain-choice c i x g t m wish s k (plain-held c i x g t m s st) ∙ ch ∙ sym (rw (ne-eqb (kindOf a) exitKind k)));
+        (λ _ k. plain-choice c i x g t m wish s b k (plain-held c i x g t m s st) ∙ ch ∙ sym (rw (ne-eqb (kindOf a) exitKind k)));
     step = unmoved;
   }
   way-follows (gives-up _ _) = silent (plain-quiet c i x g t m _ 0 0 0 (λ z. absurd (omega arith)))

@@ -88,17 +88,17 @@ module _ (c : State) (i : Sound c) (a : ℕ) (g : c .given a ≡ true) where
       result = r;
     }
 
-    -- every move that the calculus permits has one
-    pub target : {u : Tree} → MoveCase (treeOf c) a u → Target u
+    -- every move that the calculus permits by one of the keys has one
+    pub target : {u : Tree} → kindOf own ≤ openKind → MoveCase (treeOf c) a u → Target u
     unfolding treeOf parentIn nameIn
-    target (by-enter m k h s d n) =
+    target b (by-enter m k h s d n) =
         let e = own-kind k in
         let under : Under (c .land) m (parentIn (c .land) (own .home)) =
         record { link = whole m (s .used) (s .placed); parent = s .parent ∙ ap (parentIn (c .land)) home } in
         found (parentIn (c .land) (own .home)) m (omega arith) (rw (kind-around (kindOf own) (omega arith)))
         (enters-of (c .land) _ _ _ _ m e (record { under = under; name = own-name n }) (λ z. d (z ∙ sym home)))
         (sym (move-enter c a g (i .fit a) m e))
-    target (by-exit k h n) =
+    target b (by-exit k h n) =
         let e = own-kind k in
         let p = parentIn (c .land) (own .home) in
         let name : keyOf exitKind (nameIn (c .land) p) ≡ nameOf own =
@@ -107,7 +107,7 @@ module _ (c : State) (i : Sound c) (a : ℕ) (g : c .given a ≡ true) where
         let z : p ≢ 0 = λ z. let no : nameOf own ≡ 0 = sym name ∙ ap (keyOf exitKind) (ap (nameIn (c .land)) z ∙ i .places .floor-name) in omega arith in
         found p p (omega arith) (rw (kind-around (kindOf own) (omega arith)))
         (exits-of (c .land) _ _ _ p p e refl (whole p (i .places .parent-used _) z) name) (sym (move-exit c a g (i .fit a) p e))
-    target (by-open m k s n) =
+    target b (by-open m k s n) =
         let e = own-kind k in
         let under : Under (c .land) m (own .home) = record { link = whole m (s .used) (s .placed); parent = s .parent ∙ home } in
         found (own .home) m (omega arith) (rw (kind-home (kindOf own) (omega arith) (omega arith)))

@@ -8,7 +8,7 @@ use native.Mathlib.Omega.{arith}
 use lib.Dec.{eqb}
 use Rattle.table.specs.Base.{upd}
 use Rattle.table.specs.BaseLaws.{clash, eq?, upd-same, upd-other}
-use Rattle.table.specs.Cell.{State, none, linked, nextAction, kindOf, nameOf, enterKind, exitKind}
+use Rattle.table.specs.Cell.{State, none, linked, nextAction, kindOf, nameOf, enterKind, exitKind, openKind}
 use Rattle.table.specs.Kinds.{Kind, is-enter, is-exit, is-open}
 use Rattle.table.specs.Sound.{secondPlace}
 use Rattle.table.specs.declared.Agent.{Agent}
@@ -187,11 +187,12 @@ module _ (c : State) (i : Sound c) (x : ℕ) (g : c .given x ≡ true) where
       (stay 0 0 0 (omega arith) (inl (omega arith))) (λ z. absurd (omega arith))
 
   -- stage 2 when the action can't fire
-  pub keep-sleep-stuck : (wish : ℕ) → c .agent x .stage ≡ 2 → stays (c .land) (c .agent x) ≡ true → 64 ≤ choice (c .land) (c .agent x) wish
+  pub keep-sleep-stuck : (wish : ℕ) → c .agent x .stage ≡ 2 → kindOf (c .agent x) ≤ openKind → stays (c .land) (c .agent x) ≡ true
+      → 64 ≤ choice (c .land) (c .agent x) wish
       → Keeps c x (givesBack c x (c .agent x .remembered) (c .agent x .remembered) 7 (c .agent x .remembered))
   unfolding nextAction stays
-  keep-sleep-stuck wish e st ch = give-on _ _ 7 _ (r .known) (r .known) (returned-two c i x g e) (ok7 refl (r .some) (r .known))
-      (stay 7 _ 0 (omega arith) (inr refl)) (λ z. stuck (r .opener) st nothing)
+  keep-sleep-stuck wish e b st ch = give-on _ _ 7 _ (r .known) (r .known) (returned-two c i x g e) (ok7 refl (r .some) (r .known))
+      (stay 7 _ 0 (omega arith) (inr refl)) (λ z. stuck b (r .opener) st nothing)
     where
       r : Ready (c .land) (c .agent x)
       r = ok-at 2 e (ok-given c i x g) .0
@@ -201,12 +202,13 @@ module _ (c : State) (i : Sound c) (x : ℕ) (g : c .given x ≡ true) where
           (i .places .small q (link-used (c .land) q (fits-linked (c .land) _ _ _ _ q (kind-of _ (fit-given c i x g) (r .some)) t)))))
 
   -- stage 2 when it fires and the second lock is free
-  pub keep-take-second : (wish q : ℕ) → c .agent x .stage ≡ 2 → stays (c .land) (c .agent x) ≡ true → choice (c .land) (c .agent x) wish ≡ q → q < 64
+  pub keep-take-second : (wish q : ℕ) → c .agent x .stage ≡ 2 → kindOf (c .agent x) ≤ openKind → stays (c .land) (c .agent x) ≡ true
+      → choice (c .land) (c .agent x) wish ≡ q → q < 64
       → c .lock (secondPlace (kindOf (c .agent x)) (c .agent x .home) q) ≡ none
       → Keeps c x (takesLock c x (secondPlace (kindOf (c .agent x)) (c .agent x .home) q) 3 (c .agent x .remembered)
       (cond (eqb (kindOf (c .agent x)) exitKind) 0 q))
   unfolding nextAction
-  keep-take-second wish q e st ch l f = take-on _ 3 _ _ (in-use kind) f (λ has mine. ok kind has mine)
+  keep-take-second wish q e b st ch l f = take-on _ 3 _ _ (in-use kind) f (λ has mine. ok kind has mine)
       (λ r h. near (omega arith) (omega arith) (holds-two e h)) (far refl (second kind)) (stay 3 _ _ (omega arith) (inl (omega arith)))
       (λ z. omega arith)
     where

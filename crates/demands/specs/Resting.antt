@@ -30,7 +30,7 @@ module _ (c : State) (x : ℕ) where
   way-rests (is-done s) = sym (le-leb 7 (c .agent x .stage) (omega arith))
   way-rests (is-asleep s) = sym (le-leb 7 (c .agent x .stage) (omega arith))
   way-rests (held-first s _) = awake 1 s refl
-  way-rests (held-second s _ _ _) = awake 2 s refl
+  way-rests (held-second s _ _ _ _) = awake 2 s refl
   way-rests (held-own s _) = awake 4 s refl
   way-rests (held-destination s _) = awake 5 s refl
   way-rests (looks-up s _ _) = awake 0 s refl
@@ -38,8 +38,8 @@ module _ (c : State) (x : ℕ) where
   way-rests (sleeps-alone s _ _) = awake 0 s refl
   way-rests (takes-first s _) = awake 1 s refl
   way-rests (goes-back s _) = awake 2 s refl
-  way-rests (sleeps-stuck s _ _) = awake 2 s refl
-  way-rests (takes-second _ s _ _ _ _) = awake 2 s refl
+  way-rests (sleeps-stuck s _ _ _) = awake 2 s refl
+  way-rests (takes-second _ s _ _ _ _ _) = awake 2 s refl
   way-rests (gives-up s _) = awake 3 s refl
   way-rests (enters s _ _) = awake 3 s refl
   way-rests (exits s _ _) = awake 3 s refl

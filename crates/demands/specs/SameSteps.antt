@@ -3,7 +3,7 @@
 use mathlib.Core.Path.{_≡_, refl, sym, ap, ap₂, _∙_, subst, fun-ext}
 use mathlib.Core.Logic.{_≢_, inl}
 use mathlib.Core.Bool.{Bool, true, false}
-use Prim.Native.Nat.{ℕ}
+use Prim.Native.Nat.{ℕ, _≤_}
 use native.Mathlib.Omega.{arith}
 use lib.Dec.{eqb}
 use borrow.Author.Tests.{eqb-true, ne-eqb}
@@ -89,15 +89,16 @@ module _ (c : State) (i : Sound c) (x : ℕ) (g : c .given x ≡ true) (t : Plai
   kind = ap (λ v. v .kind) next
 
   -- an action that is left and no exit chooses
-  still-chooses : Kind (kindOf a) → kindOf a ≢ exitKind → chooses (nextOf (t .tree) x .kind) ≡ true
-  still-chooses (is-enter e) n = ap chooses (kind ∙ e)
-  still-chooses (is-exit e) n = absurd (n e)
-  still-chooses (is-open e) n = ap chooses (kind ∙ e)
+  still-chooses : Kind (kindOf a) → kindOf a ≤ openKind → kindOf a ≢ exitKind → chooses (nextOf (t .tree) x .kind) ≡ true
+  still-chooses (is-enter e) b n = ap chooses (kind ∙ e)
+  still-chooses (is-exit e) b n = absurd (n e)
+  still-chooses (is-open e) b n = ap chooses (kind ∙ e)
 
   -- where p is the place that the agent holds, the plain tree picks what the cell chooses for enter and open
-  pub plain-choice : (wish : ℕ) → a .stage ≡ 2 → kindOf a ≢ exitKind → heldIn (t .tree) x ≡ a .remembered → pickOf t x wish ≡ choice (c .land) a wish
+  pub plain-choice : (wish : ℕ) → a .stage ≡ 2 → kindOf a ≤ openKind → kindOf a ≢ exitKind → heldIn (t .tree) x ≡ a .remembered
+      → pickOf t x wish ≡ choice (c .land) a wish
   unfolding pickOf
-  plain-choice wish s n e = rw (still-chooses (kind-of a (fit-given c i x g) (ok-at 2 s (ok-given c i x g) .0 .some)) n)
+  plain-choice wish s b n e = rw (still-chooses (kind-of a (fit-given c i x g) (ok-at 2 s (ok-given c i x g) .0 .some)) b n)
       (choose-alike (landIn t) (c .land) (same-places c t (i .places) m) (nextOf (t .tree) x .kind) (nextOf (t .tree) x .name)
       (t .tree .home x) (heldIn (t .tree) x) wish
       ∙ ap (λ (v : Action). choose (c .land) (v .kind) (v .name) (t .tree .home x) (heldIn (t .tree) x) wish) next

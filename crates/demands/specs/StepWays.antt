@@ -2,7 +2,7 @@
 -- By the tests of the step, one after the other, each with its answer kept as an equation; soundness gives the kinds, and that homes and
 -- remembered places are in use, so that where they stand is read as it is.
 use mathlib.Core.Path.{_≡_, refl, sym, ap, subst}
-use mathlib.Core.Logic.{_≢_}
+use mathlib.Core.Logic.{_≢_, ⊎-elim}
 use mathlib.Core.Bool.{true, false}
 use Prim.Native.Nat.{ℕ, _≤_}
 use native.Mathlib.Omega.{arith}
@@ -24,12 +24,16 @@ use Rattle.demands.specs.Actions.{kind-small}
 use Rattle.demands.specs.Stages.{ok-at, ok-given, fit-given, home-given}
 
 module _ (c : State) (i : Sound c) (x : ℕ) (g : c .given x ≡ true) where
-  -- its kind is 3 at most, and before it moves it has an action
+  -- its kind is the last at most, and before it moves it has an action
   pub kind-given : kindOf (c .agent x) ≤ lastKind
   kind-given = kind-small (c .agent x) (fit-given c i x g)
 
   remembered-third : c .agent x .stage ≡ 3 → Ready (c .land) (c .agent x)
   remembered-third s = ok-at 3 s (ok-given c i x g) .0
+
+  -- at stage 3 it enters, exits or opens
+  third-kind : c .agent x .stage ≡ 3 → kindOf (c .agent x) ≤ openKind
+  third-kind s = ⊎-elim (λ m. omega (arith, m .kind)) (λ o. omega (arith, o .kind)) (ok-at 3 s (ok-given c i x g) .2)
 
   module _ (w : ℕ) where
     -- a lock is free and taken, or it is not
@@ -54,22 +58,22 @@ module _ (c : State) (i : Sound c) (x : ℕ) (g : c .given x ≡ true) where
         go (nay e) (yea k) = rw (e, k) (rw (← parent-read (c .land) (c .agent x .home) (home-given c i x g)) (looks-up s (two e) k))
         go (nay e) (nay k) = rw (e, k) (sleeps-alone s (two e) k)
 
-    second-way : c .agent x .stage ≡ 2 → stays (c .land) (c .agent x) ≡ true
+    second-way : c .agent x .stage ≡ 2 → kindOf (c .agent x) ≤ openKind → stays (c .land) (c .agent x) ≡ true
         → Way c x w (lockSecond c x (c .agent x) (choice (c .land) (c .agent x) w))
     unfolding lockSecond release
-    second-way s e = go (told (ltb (choice (c .land) (c .agent x) w) 64))
+    second-way s k e = go (told (ltb (choice (c .land) (c .agent x) w) 64))
       where
         go : Told (ltb (choice (c .land) (c .agent x) w) 64) → Way c x w (lockSecond c x (c .agent x) (choice (c .land) (c .agent x) w))
         go (yea l) = let small = ltb-true (choice (c .land) (c .agent x) w) 64 l in
-            rw l (take-way _ _ _ _ (λ f. takes-second _ s e refl small f) (λ h. held-second s e small h))
-        go (nay l) = rw l (sleeps-stuck s e (ltb-false (choice (c .land) (c .agent x) w) 64 l))
+            rw l (take-way _ _ _ _ (λ f. takes-second _ s k e refl small f) (λ h. held-second s k e small h))
+        go (nay l) = rw l (sleeps-stuck s k e (ltb-false (choice (c .land) (c .agent x) w) 64 l))
 
     hold-way : c .agent x .stage ≡ 2 → Way c x w (hold c x (c .agent x) w)
     unfolding hold release
     hold-way s = go (told (stays (c .land) (c .agent x)))
       where
         go : Told (stays (c .land) (c .agent x)) → Way c x w (hold c x (c .agent x) w)
-        go (yea e) = rw e (second-way s e)
+        go (yea e) = rw e (second-way s kind-given e)
         go (nay e) = rw e (goes-back s e)
 
     act-way : c .agent x .stage ≡ 3 → Way c x w (act c x (c .agent x))
@@ -79,7 +83,7 @@ module _ (c : State) (i : Sound c) (x : ℕ) (g : c .given x ≡ true) where
         two : eqb (kindOf (c .agent x)) openKind ≡ false → eqb (kindOf (c .agent x)) enterKind ≡ false → kindOf (c .agent x) ≡ exitKind
         two e d =
             let n = eqb-false (kindOf (c .agent x)) openKind e in let m = eqb-false (kindOf (c .agent x)) enterKind d in
-            omega (arith, kind-given, remembered-third s .some)
+            omega (arith, third-kind s, remembered-third s .some)
 
         go : Told (fires (c .land) (c .agent x)) → Told (eqb (kindOf (c .agent x)) openKind) → Told (eqb (kindOf (c .agent x)) enterKind)
             → Way c x w (act c x (c .agent x))

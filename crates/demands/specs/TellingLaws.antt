@@ -154,7 +154,7 @@ module _ (c : State) (i : Sound c) (x : ℕ) (g : c .given x ≡ true) where
   way-tells {wish} (is-done s) = elsewhere (c .land) a wish _ (λ z. omega arith) (λ z. omega arith)
   way-tells {wish} (is-asleep s) = elsewhere (c .land) a wish _ (λ z. omega arith) (λ z. omega arith)
   way-tells {wish} (held-first s _) = elsewhere (c .land) a wish _ (λ z. omega arith) (λ z. omega arith)
-  way-tells {wish} (held-second s e low _) = second (c .land) a wish Held (unlike-back Held refl) (at-second s) s e low
+  way-tells {wish} (held-second s _ e low _) = second (c .land) a wish Held (unlike-back Held refl) (at-second s) s e low
   way-tells {wish} (held-own s _) = elsewhere (c .land) a wish _ (λ z. omega arith) (λ z. omega arith)
   way-tells {wish} (held-destination s _) = elsewhere (c .land) a wish _ (λ z. omega arith) (λ z. omega arith)
   way-tells {wish} (looks-up s _ _) = elsewhere (c .land) a wish _ (λ z. omega arith) (λ z. omega arith)
@@ -162,12 +162,12 @@ module _ (c : State) (i : Sound c) (x : ℕ) (g : c .given x ≡ true) where
   way-tells {wish} (sleeps-alone s _ _) = elsewhere (c .land) a wish _ (λ z. omega arith) (λ z. omega arith)
   way-tells {wish} (takes-first s _) = elsewhere (c .land) a wish _ (λ z. omega arith) (λ z. omega arith)
   way-tells {wish} (goes-back s e) = none (c .land) a wish Back (told-back (c .land) a wish s e) (λ k. k .not-back refl)
-  way-tells {wish} (sleeps-stuck s e high) = none (c .land) a wish Slept (told-stuck (c .land) a wish s e high) (λ k. go (k .fires))
+  way-tells {wish} (sleeps-stuck s _ e high) = none (c .land) a wish Slept (told-stuck (c .land) a wish s e high) (λ k. go (k .fires))
     where
       go : Fires (c .land) a → ⊥
       go (on-some q low _ f) = clash f (choice-none (c .land) a wish (i .places .order) high q low)
       go (on-chosen z _) = omega arith
-  way-tells {wish} (takes-second q s e f low _) = second (c .land) a wish Took (unlike-back Took refl) (at-second s) s e (subst (λ (r : ℕ). r < 64) (sym f) low)
+  way-tells {wish} (takes-second q s _ e f low _) = second (c .land) a wish Took (unlike-back Took refl) (at-second s) s e (subst (λ (r : ℕ). r < 64) (sym f) low)
   way-tells {wish} (gives-up s e) = none (c .land) a wish Back (told-gone (c .land) a wish s e) (λ k. k .not-back refl)
   way-tells {wish} (enters s k e) =
       third (c .land) a wish Left (unlike-back Left refl) (inl k) (λ z. omega arith) s e (i .places .small (a .chosen) (enter-used s k))
@@ -184,7 +184,7 @@ module _ (c : State) (i : Sound c) (x : ℕ) (g : c .given x ≡ true) where
   way-then (is-done _) = tt
   way-then (is-asleep _) = tt
   way-then (held-first _ _) = tt
-  way-then (held-second _ _ _ _) = tt
+  way-then (held-second _ _ _ _ _) = tt
   way-then (held-own _ _) = tt
   way-then (held-destination _ _) = tt
   way-then (looks-up _ _ _) = tt
@@ -192,8 +192,8 @@ module _ (c : State) (i : Sound c) (x : ℕ) (g : c .given x ≡ true) where
   way-then (sleeps-alone _ _ _) = tt
   way-then (takes-first _ _) = tt
   way-then (goes-back _ _) = tt
-  way-then (sleeps-stuck _ _ _) = tt
-  way-then (takes-second _ _ _ _ _ _) = tt
+  way-then (sleeps-stuck _ _ _ _) = tt
+  way-then (takes-second _ _ _ _ _ _ _) = tt
   way-then (gives-up _ _) = tt
   way-then {wish} (enters s k e) = (
     λ _. ap (λ (p : Place). p .parent) (upd-same (c .land .place) (a .home) (withWay (withParent (c .land .place (a .home)) (a .chosen)) 1))

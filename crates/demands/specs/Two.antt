@@ -139,12 +139,14 @@ module _ (a : ℕ) where
       go (yea e) = rw e (sym (exits-fits l _ _ _ _ q (eqb-true _ _ e) f .0))
       go (nay e) = rw e
 
-  from-two : (t : Cell) {u : Tree} → Alone t a → MoveCase (tree t) a u → own t .stage ≡ 2 → stays (land t) (own t) ≡ true → Reaches 5 a t u
-  from-two t {u} p m s st = quiet-more 4 q t 3 _ _ _ (omega (arith, g .small)) p
-      (ahead-second (cellOf t) a q q s st wished (g .small) (free-at t p _ (link-used (land t) _ (under .link)) apart)) next
+  -- an agent that chooses a place wishes for the one that its move goes to
+  from-choice : (t : Cell) {u : Tree} → Alone t a → MoveCase (tree t) a u → own t .stage ≡ 2 → kindOf (own t) ≤ openKind → stays (land t) (own t) ≡ true
+      → Reaches 5 a t u
+  from-choice t {u} p m s k st = quiet-more 4 q t 3 _ _ _ (omega (arith, g .small)) p
+      (ahead-second (cellOf t) a q q s k st wished (g .small) (free-at t p _ (link-used (land t) _ (under .link)) apart)) next
     where
       g : Target (cellOf t) (sound t p) a (p .given) (whole t p (omega arith)) u
-      g = target (cellOf t) (sound t p) a (p .given) (whole t p (omega arith)) m
+      g = target (cellOf t) (sound t p) a (p .given) (whole t p (omega arith)) k m
 
       q : ℕ
       q = g .place
@@ -161,7 +163,7 @@ module _ (a : ℕ) where
 
       under : Under (land t) second (own t .remembered)
       under = subst (λ (r : ℕ). Under (land t) (secondPlace (kindOf (own t)) (own t .home) r) (own t .remembered)) wished
-          (second-under (cellOf t) (sound t p) a (p .given) q st (subst (λ (r : ℕ). r < 64) (sym wished) (g .small)))
+          (second-under (cellOf t) (sound t p) a (p .given) q k st (subst (λ (r : ℕ). r < 64) (sym wished) (g .small)))
 
       apart : Holds (land t) (own t) second → ⊥
       apart h = child-not-self (sound t p .places) under (sym (holds-two s h))
@@ -178,6 +180,10 @@ module _ (a : ℕ) where
           (ap (λ (w : Tree). move w a (targetOf (own v))) f ∙ ap (λ (w : Agent). move (tree t) a (targetOf w)) e
           ∙ ap (move (tree t) a) (target-is (land t) (own t) q fits) ∙ sym (g .result))
           (from-three v r (ap (λ w. w .stage) e) (ap (λ (k : Land). fires k (own v)) l ∙ ap (fires (land t)) e ∙ fire))
+
+  -- at stage 2 every kind chooses a place
+  from-two : (t : Cell) {u : Tree} → Alone t a → MoveCase (tree t) a u → own t .stage ≡ 2 → stays (land t) (own t) ≡ true → Reaches 5 a t u
+  from-two t p m s st = from-choice t p m s (kind-small (own t) (own-fit t p)) st
 
   -- a remembered place is free
   first-free : (t : Cell) (p : Alone t a) → own t .stage ≡ 1 → cellOf t .lock (own t .remembered) ≡ none

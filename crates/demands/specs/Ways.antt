@@ -31,7 +31,8 @@ pub data Way (c : State) (x wish : ℕ) : Outcome → Type 0 where
   is-asleep : c .agent x .stage ≡ asleep → Way c x wish (still c Asleep)
   -- held
   held-first : c .agent x .stage ≡ found → c .lock (c .agent x .remembered) ≢ none → Way c x wish (still c Held)
-  held-second : c .agent x .stage ≡ holding → stays (c .land) (c .agent x) ≡ true → choice (c .land) (c .agent x) wish < 64
+  held-second : c .agent x .stage ≡ holding → kindOf (c .agent x) ≤ openKind → stays (c .land) (c .agent x) ≡ true
+      → choice (c .land) (c .agent x) wish < 64
       → c .lock (secondPlace (kindOf (c .agent x)) (c .agent x .home) (choice (c .land) (c .agent x) wish)) ≢ none → Way c x wish (still c Held)
   held-own : c .agent x .stage ≡ onWay → c .lock (c .agent x .home) ≢ none → Way c x wish (still c Held)
   held-destination : c .agent x .stage ≡ onWayOwn → c .lock (parentIn (c .land) (c .agent x .home)) ≢ none → Way c x wish (still c Held)
@@ -47,9 +48,11 @@ pub data Way (c : State) (x wish : ℕ) : Outcome → Type 0 where
   -- stage 2
   goes-back : c .agent x .stage ≡ holding → stays (c .land) (c .agent x) ≡ false
       → Way c x wish (still (givesBack c x (c .agent x .remembered) (c .agent x .remembered) looking 0) Back)
-  sleeps-stuck : c .agent x .stage ≡ holding → stays (c .land) (c .agent x) ≡ true → 64 ≤ choice (c .land) (c .agent x) wish
+  sleeps-stuck : c .agent x .stage ≡ holding → kindOf (c .agent x) ≤ openKind → stays (c .land) (c .agent x) ≡ true
+      → 64 ≤ choice (c .land) (c .agent x) wish
       → Way c x wish (still (givesBack c x (c .agent x .remembered) (c .agent x .remembered) asleep (c .agent x .remembered)) Slept)
-  takes-second : (q : ℕ) → c .agent x .stage ≡ holding → stays (c .land) (c .agent x) ≡ true → choice (c .land) (c .agent x) wish ≡ q → q < 64
+  takes-second : (q : ℕ) → c .agent x .stage ≡ holding → kindOf (c .agent x) ≤ openKind → stays (c .land) (c .agent x) ≡ true
+      → choice (c .land) (c .agent x) wish ≡ q → q < 64
       → c .lock (secondPlace (kindOf (c .agent x)) (c .agent x .home) q) ≡ none
       → Way c x wish (still (takesLock c x (secondPlace (kindOf (c .agent x)) (c .agent x .home) q) holdingBoth (c .agent x .remembered)
       (cond (eqb (kindOf (c .agent x)) exitKind) 0 q)) Took)

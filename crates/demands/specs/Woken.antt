@@ -153,7 +153,7 @@ module _ (c : State) (x : ℕ) where
   way-counts (is-done _) = none-changes
   way-counts (is-asleep _) = none-changes
   way-counts (held-first _ _) = none-changes
-  way-counts (held-second _ _ _ _) = none-changes
+  way-counts (held-second _ _ _ _ _) = none-changes
   way-counts (held-own _ _) = none-changes
   way-counts (held-destination _ _) = none-changes
   way-counts (looks-up s _ _) = one-changes _ (awake-at 0 (λ e. absurd (omega arith)) s)
@@ -161,8 +161,8 @@ module _ (c : State) (x : ℕ) where
   way-counts (sleeps-alone s _ _) = one-changes _ (awake-at 0 (λ e. absurd (omega arith)) s)
   way-counts (takes-first s _) = one-changes _ (awake-at 1 (λ e. absurd (omega arith)) s)
   way-counts (goes-back s _) = one-changes _ (awake-at 2 (λ e. absurd (omega arith)) s)
-  way-counts (sleeps-stuck s _ _) = one-changes _ (awake-at 2 (λ e. absurd (omega arith)) s)
-  way-counts (takes-second _ s _ _ _ _) = one-changes _ (awake-at 2 (λ e. absurd (omega arith)) s)
+  way-counts (sleeps-stuck s _ _ _) = one-changes _ (awake-at 2 (λ e. absurd (omega arith)) s)
+  way-counts (takes-second _ s _ _ _ _ _) = one-changes _ (awake-at 2 (λ e. absurd (omega arith)) s)
   way-counts (gives-up s _) = one-changes _ (awake-at 3 (λ e. absurd (omega arith)) s)
   way-counts (enters s _ _) = leave-counts _ s
   way-counts (exits s _ _) = leave-counts _ s
