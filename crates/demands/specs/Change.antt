@@ -13,7 +13,7 @@ use Rattle.table.specs.Sound.{touchSum, mostTouches}
 use Rattle.table.specs.declared.Agent.{Agent}
 use Rattle.demands.specs.Reading.{parentIn, agentIn}
 use Rattle.demands.specs.ReadingLaws.{agent-given}
-use Rattle.demands.specs.Invariant.{Under, Places, Has, Fit, Away, Ok, ok0, Travels, Mover, Sleeper, Sound, Reasons, Inv}
+use Rattle.demands.specs.Invariant.{Under, Places, Has, Fit, Away, SleepsOn, Ok, ok0, Travels, Mover, Sleeper, Sound, Reasons, Inv}
 use Rattle.demands.specs.Invariant.{Holds, near, far, own, destination, Kept, free, kept}
 use Rattle.demands.specs.Actions.{fit-stage, kind-of}
 use Rattle.demands.specs.Stages.{SameOrReset, same-between, ok-at, travels-away, holds-between}
@@ -54,8 +54,8 @@ pub record Change (c c′ : State) (x : ℕ) (quiet : ℕ → Type 0) : Type 0 w
   pub home : new .home ≡ c .agent x .home
   pub fit : Fit new
   pub ok : Ok (c′ .land) (c′ .lock) x new
-  -- others keep their locks, what is linked under what they hold, and their way
-  pub has : (y q : ℕ) → y ≢ x → Has (c .lock) q y → Has (c′ .lock) q y
+  -- others keep their locks of places in use, what is linked under what they hold, and their way
+  pub has : (y q : ℕ) → y ≢ x → c .land .used q ≡ true → Has (c .lock) q y → Has (c′ .lock) q y
   pub under : (y : ℕ) → y ≢ x → (q p : ℕ) → Has (c .lock) p y → Under (c .land) q p → Under (c′ .land) q p
   pub way : (y : ℕ) → y ≢ x → Travels (agentIn c y) → Away (c .land) (agentIn c y)
       → (linked (c′ .land) (agentIn c y .home) ≡ false) × (parentIn (c′ .land) (agentIn c y .home) ≡ parentIn (c .land) (agentIn c y .home))
@@ -123,7 +123,7 @@ module _ {c c′ : State} {x : ℕ} {quiet : ℕ → Type 0} (i : Sound c) (m : 
   -- each fact of a sound cell, of the agents after
   others-ok : (y : ℕ) → y ≢ x → Ok (c′ .land) (c′ .lock) y (m .woke y)
   others-ok y n = roused-ok (m .roused y) (i .ok y)
-      (ok-frame (i .homes y) (i .places .parent-used _) (λ _ u. m .used _ u) (λ q _. m .has y q n) (m .under y n) (m .way y n) (i .ok y))
+      (ok-frame (i .homes y) (i .places .parent-used _) (λ _ u. m .used _ u) (λ q. m .has y q n) (m .under y n) (m .way y n) (i .ok y))
 
   locks-kept : (q : ℕ) → c′ .land .used q ≡ true → Kept (c′ .land) (c′ .lock) after q
   locks-kept q u = at-use (told (c .land .used q))
@@ -147,7 +147,7 @@ module _ {c c′ : State} {x : ℕ} {quiet : ℕ → Type 0} (i : Sound c) (m : 
           at : (y ≡ x) ⊎ (y ≢ x) → Kept (c′ .land) (c′ .lock) after q
           at (inl e) = mine (m .mine q v (is-mine (subst (Has (c .lock) q) e h)
               (subst (λ (a : Agent). Holds (c .land) a q) (ap (agentIn c) e ∙ before) k)))
-          at (inr n) = kept y (m .has y q n h) (subst (λ (b : Agent). Holds (c′ .land) b q)
+          at (inr n) = kept y (m .has y q n v h) (subst (λ (b : Agent). Holds (c′ .land) b q)
               (sym (kept-awake y n (λ e. omega (arith, holds-between k .1)))) (holds y n k))
 
       at-use : Told (c .land .used q) → Kept (c′ .land) (c′ .lock) after q
@@ -222,7 +222,8 @@ module _ {c c′ : State} {x : ℕ} {quiet : ℕ → Type 0} (i : Sound c) (m : 
 
   -- sleepers that are not woken keep their reason, and the agent has one if it sleeps now
   changed-sleep : (m .new .stage ≡ 7 → Sleeper (c′ .land) (m .new))
-      → ((a : Agent) → Kind (kindOf a) → quiet (a .remembered) → Sleeper (c .land) a → Sleeper (c′ .land) a)
+      → ((a : Agent) → Kind (kindOf a) → c .land .used (a .home) ≡ true → SleepsOn (c .land) a → quiet (a .remembered)
+      → Sleeper (c .land) a → Sleeper (c′ .land) a)
       → Reasons c → Reasons c′
   unfolding after
   changed-sleep mine calm old = read (λ f. (y : ℕ) → f y .stage ≡ 7 → Sleeper (c′ .land) (f y))
@@ -230,7 +231,9 @@ module _ {c c′ : State} {x : ℕ} {quiet : ℕ → Type 0} (i : Sound c) (m : 
     where
       go : (y : ℕ) → {b : Agent} → Roused quiet (agentIn c y) b → b .stage ≡ 7 → Sleeper (c′ .land) b
       go y (woken e) z = absurd (omega arith)
-      go y (unchanged q) z = calm (agentIn c y) (kind-of _ (i .fit y) (ok-at 7 z (i .ok y) .0)) (q z) (old y z)
+      go y (unchanged q) z =
+          let o = ok-at 7 z (i .ok y) in
+          calm (agentIn c y) (kind-of _ (i .fit y) (o .0)) (i .homes y) (o .1) (q z) (old y z)
 
   -- other agents are as they were, or woken
   changed-others : (y : ℕ) → y ≢ x → SameOrReset (agentIn c y) (agentIn c′ y)
@@ -254,7 +257,9 @@ keeps-inv k i = record { sound = k .sound; sleep = k .sleep (i .sleep) }
 
 -- a change keeps the cell, where the agent has a reason if it sleeps now and the others keep theirs on a quiet place
 pub keeps : {c c′ : State} {x : ℕ} {quiet : ℕ → Type 0} → Sound c → (m : Change c c′ x quiet) → (m .new .stage ≡ 7 → Sleeper (c′ .land) (m .new))
-    → ((a : Agent) → Kind (kindOf a) → quiet (a .remembered) → Sleeper (c .land) a → Sleeper (c′ .land) a) → Keeps c x c′
+    → ((a : Agent) → Kind (kindOf a) → c .land .used (a .home) ≡ true → SleepsOn (c .land) a → quiet (a .remembered)
+    → Sleeper (c .land) a → Sleeper (c′ .land) a)
+    → Keeps c x c′
 keeps i m mine calm = record {
   sound = changed-sound i m;
   sleep = changed-sleep i m mine calm;

@@ -80,7 +80,7 @@ module _ (c : State) (i : Sound c) (x : ℕ) (g : c .given x ≡ true) (e : c .a
     loose = λ o z. links (b .home) (λ k. w .first (z ∙ k)) ∙ o;
     keeps = kept-under (b .home) (b .remembered);
     child = under;
-    names = λ q _. ap (λ (f : ℕ → Name). f q) (name-linked l h);
+    names = λ q _ _. ap (λ (f : ℕ → Name). f q) (name-linked l h);
     up = λ k. sym (links (b .remembered) (w .first)) ∙ k;
     awaits = λ q u k. not-yes _ (λ t. clash (still q (under q u) (awaited-some l q t)) k);
   }
@@ -102,7 +102,7 @@ module _ (c : State) (i : Sound c) (x : ℕ) (g : c .given x ≡ true) (e : c .a
   -- stage 6: its place is linked to the destination
   pub keep-come : Keeps c x (arrive c x (c .agent x) (parentIn (c .land) (c .agent x .home)) .cell)
   unfolding arrive agentIn
-  keep-come = keeps i change (λ z. absurd (not-between (rest-stage a) (omega arith) (omega arith))) (λ b k w o. sleeper-frame l l′ b k (calm b w) o)
+  keep-come = keeps i change (λ z. absurd (not-between (rest-stage a) (omega arith) (omega arith))) (λ b k _ _ w o. sleeper-frame l l′ b k (calm b w) o)
     where
       -- others on their way are of other places
       apart : (y : ℕ) → y ≢ x → Travels (agentIn c y) → agentIn c y .home ≢ h
@@ -127,7 +127,7 @@ module _ (c : State) (i : Sound c) (x : ℕ) (g : c .given x ≡ true) (e : c .a
         home = refl;
         fit = fit-stage a (restStage a) 0 0 (fit-given c i x g);
         ok = rest-ok a (fit-given c i x g);
-        has = λ y q n k. returned-has (returned-six c i x g e) n k;
+        has = λ y q n _ k. returned-has (returned-six c i x g e) n k;
         under = λ y n q p k u. kept-under q p u;
         way = λ y n t v. (links (agentIn c y .home) (apart y n t) ∙ v .loose, stands (agentIn c y .home));
         mine = λ q u k. is-free (returned-free (returned-six c i x g e) (i .few x g) u k);

@@ -69,7 +69,7 @@ pub record Calm (l l′ : Land) (a : Agent) : Type 0 where
   pub loose : linked l (a .home) ≡ false → a .remembered ≡ a .home → linked l′ (a .home) ≡ false
   pub keeps : Under l (a .home) (a .remembered) → Under l′ (a .home) (a .remembered)
   pub child : (q : ℕ) → Under l′ q (a .remembered) → Under l q (a .remembered)
-  pub names : (q : ℕ) → linked l′ q ≡ true → nameIn l′ q ≡ nameIn l q
+  pub names : (q : ℕ) → linked l q ≡ true → linked l′ q ≡ true → nameIn l′ q ≡ nameIn l q
   pub up : linked l′ (a .remembered) ≡ true → linked l (a .remembered) ≡ true
   pub awaits : (q : ℕ) → Under l′ q (a .remembered) → awaited l′ q ≡ false → awaited l q ≡ false
 
@@ -82,12 +82,15 @@ module _ (l l′ : Land) (a : Agent) (k : Kind (kindOf a)) (m : Calm l l′ a) w
   stays-frame (is-open k) e = stays-home l′ a (rw k)
 
   child-frame : (k n q : ℕ) → Child k l′ (a .remembered) n q → Child k l (a .remembered) n q
-  child-frame k n q c = record { under = m .child q (c .under); name = ap (keyOf k) (sym (m .names q (c .under .link))) ∙ c .name }
+  child-frame k n q c =
+      let u = m .child q (c .under) in
+      record { under = u; name = ap (keyOf k) (sym (m .names q (u .link) (c .under .link))) ∙ c .name }
 
   fits-frame : (q : ℕ) → Kind (kindOf a) → qualifies l′ (kindOf a) (nameOf a) (a .home) (a .remembered) q ≡ true
       → qualifies l (kindOf a) (nameOf a) (a .home) (a .remembered) q ≡ true
   fits-frame q (is-enter k) e = let f = enters-fits l′ _ _ _ _ q k e in enters-of l _ _ _ _ q k (child-frame _ _ q (f .0)) (f .1)
-  fits-frame q (is-exit k) e = let f = exits-fits l′ _ _ _ _ q k e in exits-of l _ _ _ _ q k (f .0) (m .up (f .1)) (ap (keyOf exitKind) (sym (m .names _ (f .1))) ∙ f .2)
+  fits-frame q (is-exit k) e = let f = exits-fits l′ _ _ _ _ q k e in
+      exits-of l _ _ _ _ q k (f .0) (m .up (f .1)) (ap (keyOf exitKind) (sym (m .names _ (m .up (f .1)) (f .1))) ∙ f .2)
   fits-frame q (is-open k) e = let f = opens-fits l′ _ _ _ _ q k e in
       opens-of l _ _ _ _ q k (child-frame _ _ q (f .0)) (m .awaits q (f .0 .under) (f .1))
 

@@ -59,6 +59,10 @@ pub record Away (l : Land) (a : Agent) : Type 0 where
   pub loose : linked l (a .home) ≡ false
   pub placed : a .home ≢ 0
 
+-- an agent asleep remembers a place in use
+abbrev pub SleepsOn : Land → Agent → Type 0
+SleepsOn l a = l .used (a .remembered) ≡ true
+
 -- what its stage says of an agent, of the places and of the locks
 pub data Ok (l : Land) (lock : ℕ → ℕ) (x : ℕ) (a : Agent) : Type 0 where
   ok0 : a .stage ≡ looking → 1 ≤ kindOf a → Ok l lock x a
@@ -71,7 +75,7 @@ pub data Ok (l : Land) (lock : ℕ → ℕ) (x : ℕ) (a : Agent) : Type 0 where
   ok4 : a .stage ≡ onWay → Away l a → Ok l lock x a
   ok5 : a .stage ≡ onWayOwn → Away l a → Has lock (a .home) x → Ok l lock x a
   ok6 : a .stage ≡ onWayBoth → Away l a → Has lock (a .home) x → Has lock (parentIn l (a .home)) x → Ok l lock x a
-  ok7 : a .stage ≡ asleep → 1 ≤ kindOf a → l .used (a .remembered) ≡ true → Ok l lock x a
+  ok7 : a .stage ≡ asleep → 1 ≤ kindOf a → SleepsOn l a → Ok l lock x a
   ok8 : a .stage ≡ done → unused a ≡ [] → Ok l lock x a
 
 -- the places that an agent's stage says it holds

@@ -83,7 +83,7 @@ module _ (c : State) (i : Sound c) (x : ℕ) (g : c .given x ≡ true) (e : c .a
     keeps = λ u. kept-under (b .home) (b .remembered) (λ k. w .first (sym (u .parent) ∙ ap (parentIn l) k ∙ m .under .parent)) u;
     child = λ q u. let n : q ≢ h = λ k. clash (u .link) (loosened q k) in
         record { link = sym (links q n) ∙ u .link; parent = sym (stands q n) ∙ u .parent };
-    names = λ q _. ap (λ (f : ℕ → Name). f q) (name-sent l h d);
+    names = λ q _ _. ap (λ (f : ℕ → Name). f q) (name-sent l h d);
     up = λ k. sym (links (b .remembered) (w .second)) ∙ k;
     awaits = λ q u k. not-yes _ (λ t. clash (still q (awaited-some l q t)) k);
   }
@@ -101,7 +101,7 @@ module _ (c : State) (i : Sound c) (x : ℕ) (g : c .given x ≡ true) (e : c .a
 
   keep-leave : Keeps c x (leave c x (c .agent x) d .cell)
   unfolding leave agentIn
-  keep-leave = keeps i change (λ z. absurd (omega arith)) (λ b k w o. sleeper-frame l l′ b k (calm b w) o)
+  keep-leave = keeps i change (λ z. absurd (omega arith)) (λ b k _ _ w o. sleeper-frame l l′ b k (calm b w) o)
     where
       far-under : (y : ℕ) → y ≢ x → (q p : ℕ) → Has (c .lock) p y → Under l q p → Under l′ q p
       far-under y n q p has u = kept-under q p
@@ -126,7 +126,7 @@ module _ (c : State) (i : Sound c) (x : ℕ) (g : c .given x ≡ true) (e : c .a
         home = refl;
         fit = fit-stage (useUp a) 4 0 0 (fit-used a (fit-given c i x g) (has-some a (ok-at 3 e (ok-given c i x g) .0 .some)));
         ok = ok4 refl (record { loose = loosened h refl; placed = λ z. not-floor (sym z) });
-        has = λ y q n k. returned-has back n k;
+        has = λ y q n _ k. returned-has back n k;
         under = far-under;
         way = λ y n t v.
             let k = not-loose (agentIn c y .home) (v .loose) in

@@ -180,7 +180,7 @@ module _ (c : State) (i : Sound c) (x : ℕ) (g : c .given x ≡ true) (s : c .a
       parent = parent-same (i .places) (o .under) _ h (λ e. mt (sym (u .parent) ∙ e)) ∙ u .parent;
     };
     child = child;
-    names = λ q e. name-same (i .places) (o .under) q (linked-before (i .places) (o .under) q e);
+    names = λ q _ e. name-same (i .places) (o .under) q (linked-before (i .places) (o .under) q e);
     up = λ e. sym (linked-same (i .places) (o .under) _ mt) ∙ e;
     awaits = λ q u e. not-yes _ (λ b. clash (awaits q u (awaited-some before q b)) e);
   }

@@ -49,7 +49,7 @@ module _ (c : State) (i : Sound c) (x : ℕ) (g : c .given x ≡ true) where
       → (stage ≡ 7 → Sleeper (c .land) (next stage remembered chosen))
       → Keeps c x (withLocks (goesOn c x stage remembered chosen) lock′)
   unfolding agentIn
-  quiet stage remembered chosen lock′ same ok has mine pace asleep = keeps i change asleep (λ a _ _ r. r)
+  quiet stage remembered chosen lock′ same ok has mine pace asleep = keeps i change asleep (λ a _ _ _ _ r. r)
     where
       own-loose : Pace stage remembered chosen → linked (c .land) (c .agent x .home) ≡ false
           → Travels (next stage remembered chosen) ⊎ ((linked (c .land) (c .agent x .home) ≡ false) × (Travels (c .agent x) → ⊥))
@@ -78,7 +78,7 @@ module _ (c : State) (i : Sound c) (x : ℕ) (g : c .given x ≡ true) where
         home = refl;
         fit = fit-stage (c .agent x) stage remembered chosen (fit-given c i x g);
         ok = ok;
-        has = has;
+        has = λ y q n _. has y q n;
         under = λ y n q p h u. u;
         way = λ y n t v. (v .loose, refl);
         mine = mine;

@@ -14,7 +14,7 @@ use Rattle.meaning.specs.Update.{atStage, released}
 use Rattle.meaning.specs.Step.{restStage}
 use Rattle.demands.specs.Reading.{parentIn, agentIn}
 use Rattle.demands.specs.ReadingLaws.{agent-given}
-use Rattle.demands.specs.Invariant.{Under, Has, Fit, Ready, Away, Travels, Sound}
+use Rattle.demands.specs.Invariant.{Under, Has, Fit, Ready, Away, SleepsOn, Travels, Sound}
 use Rattle.demands.specs.Invariant.{Ok, ok0, ok1, ok2, ok3-move, ok3-open, ok4, ok5, ok6, ok7, ok8}
 use Rattle.demands.specs.Invariant.{Holds, near, far, own, destination, Kept, free, kept}
 use Rattle.demands.specs.NoMore.{Returned}
@@ -54,7 +54,7 @@ OkAt (suc (suc (suc (suc (suc zero))))) l lock x a = Away l a × Has lock (a .ho
 -- onWayBoth
 OkAt (suc (suc (suc (suc (suc (suc zero)))))) l lock x a = Away l a × Has lock (a .home) x × Has lock (parentIn l (a .home)) x
 -- asleep
-OkAt (suc (suc (suc (suc (suc (suc (suc zero))))))) l lock x a = (1 ≤ kindOf a) × (l .used (a .remembered) ≡ true)
+OkAt (suc (suc (suc (suc (suc (suc (suc zero))))))) l lock x a = (1 ≤ kindOf a) × SleepsOn l a
 -- done
 OkAt (suc (suc (suc (suc (suc (suc (suc (suc n)))))))) l lock x a = unused a ≡ []
 
