@@ -6,6 +6,7 @@ use mathlib.Core.Logic.{inl}
 use mathlib.Core.Bool.{true}
 use mathlib.Core.List.{List, [], _∷_}
 use Prim.Native.Nat.{ℕ}
+use native.Mathlib.Omega.{arith}
 use Rattle.table.specs.BaseLaws.{Told, yea, nay, told}
 use Rattle.table.specs.Bounds.{Sized, Bounded}
 use Rattle.table.specs.Cell.{State, cellOf, tableOf}
@@ -16,6 +17,7 @@ use Rattle.meaning.specs.Step.{Outcome, still, step}
 use Rattle.meaning.specs.Run.{Call, stepCall, touchCall, commitCall, stepOf, made, turnedAway, callOf, run}
 use Rattle.meaning.specs.AskLaws.{committed}
 use Rattle.demands.specs.Invariant.{Sound, Inv}
+use Rattle.demands.specs.Facts.{not-yes}
 use Rattle.demands.specs.Ways.{Way, is-done, is-asleep, held-first, held-second, held-own, held-destination, looks-up, looks-home}
 use Rattle.demands.specs.Ways.{sleeps-alone, takes-first, goes-back, sleeps-stuck, takes-second, gives-up, enters, exits, opens}
 use Rattle.demands.specs.Ways.{takes-own, takes-destination, comes}
@@ -90,7 +92,9 @@ stepped P t x wish old new = go (told (sound (cellOf t))) (told (cellOf t .given
 -- the table after a step has the cell that the step makes
 pub step-back : (t : Cell) → Sized t → Sound (cellOf t) → (x : ℕ) → cellOf t .given x ≡ true → (wish : ℕ)
     → cellOf (tableOf (step (cellOf t) x wish .cell)) ≡ step (cellOf t) x wish .cell
-step-back t z i x g wish = forth _ (untouched-bounded (step-keeps (cellOf t) i x g wish .untouched) (bounded t z))
+step-back t z i x g wish =
+    let k = step-keeps (cellOf t) i x g wish in
+    forth _ (untouched-bounded (k .untouched) (λ q l. not-yes _ (λ u. omega (arith, k .sound .places .small q u))) (bounded t z))
 
 -- the table after a call has the sizes of the struct
 pub sized-stepped : (t : Cell) (x wish : ℕ) → Sized t → Sized (stepOf t x wish .cell)

@@ -39,11 +39,12 @@ module _ {c : State} {x : ℕ} {lock′ : ℕ → ℕ} (r : Returned c x lock′
 pub record Change (c c′ : State) (x : ℕ) (quiet : ℕ → Type 0) : Type 0 where
   pub steps : c .given x ≡ true
   pub untouched : Untouched c c′
-  -- no place goes out of use, and one that comes into use is linked and free
+  -- no place goes out of use, and one that comes into use is linked and free, and has no touches
   pub used : (q : ℕ) → c .land .used q ≡ true → c′ .land .used q ≡ true
-  pub fresh : (q : ℕ) → c .land .used q ≡ false → c′ .land .used q ≡ true → (linked (c′ .land) q ≡ true) × (c′ .lock q ≡ none)
+  pub fresh : (q : ℕ) → c .land .used q ≡ false → c′ .land .used q ≡ true
+      → (linked (c′ .land) q ≡ true) × (c′ .lock q ≡ none) × (c′ .touches q ≡ 0)
   -- touches are as they were
-  pub touches : c′ .touches ≡ c .touches
+  pub touches : (q : ℕ) → c .land .used q ≡ true → c′ .touches q ≡ c .touches q
   pub new : Agent
   pub woke : ℕ → Agent
   pub reads : agentIn c′ ≡ upd woke x new
@@ -201,7 +202,7 @@ module _ {c c′ : State} {x : ℕ} {quiet : ℕ → Type 0} (i : Sound c) (m : 
 
   -- the sum of the touches stays
   changed-sum : touchSum c′ ≡ touchSum c
-  changed-sum = same-sum c c′ (m .untouched) (m .used) (m .touches)
+  changed-sum = same-sum c c′ (m .used) (m .touches) (λ q u v. m .fresh q u v .2)
 
   -- the cell stays sound
   changed-sound : Sound c′

@@ -118,7 +118,7 @@ module _ (c : State) (i : Sound c) (x : ℕ) (g : c .given x ≡ true) (e : c .a
             (released-outside (c .land .used) (c .lock) _ _ (home-given c i x g) (i .places .parent-used _));
         used = λ q u. u;
         fresh = λ q n u. clash u n;
-        touches = refl;
+        touches = λ q _. refl;
         new = atStage a (restStage a) 0 0;
         woke = λ y. wakeAgent h d (beyond l d) (agentIn c y);
         reads = agent-woken c h d (beyond l d) x (atStage a (restStage a) 0 0) g;

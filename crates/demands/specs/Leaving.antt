@@ -117,7 +117,7 @@ module _ (c : State) (i : Sound c) (x : ℕ) (g : c .given x ≡ true) (e : c .a
             (released-outside (c .land .used) (c .lock) _ _ (ok-at 3 e (ok-given c i x g) .0 .known) (home-given c i x g));
         used = λ q u. u;
         fresh = λ q n u. clash u n;
-        touches = refl;
+        touches = λ q _. refl;
         new = atStage (useUp a) 4 0 0;
         woke = λ y. wakeAgent (a .remembered) h h (agentIn c y);
         reads = agent-woken c (a .remembered) h h x (atStage (useUp a) 4 0 0) g;

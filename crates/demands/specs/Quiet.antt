@@ -69,7 +69,7 @@ module _ (c : State) (i : Sound c) (x : ℕ) (g : c .given x ≡ true) where
         untouched = turned-untouched c x g _ lock′ same;
         used = λ q u. u;
         fresh = λ q n u. clash u n;
-        touches = refl;
+        touches = λ q _. refl;
         new = next stage remembered chosen;
         woke = agentIn c;
         reads = agent-turned c x (next stage remembered chosen) g;

@@ -2,7 +2,7 @@
 -- Idea: a sum changes by what one of its parts changes; an opening changes two parts, and what one loses the other gains.
 use mathlib.Core.Path.{_≡_, ap, _∙_}
 use mathlib.Core.Logic.{_≢_, _⊎_, inl, inr}
-use mathlib.Core.Bool.{true, cond}
+use mathlib.Core.Bool.{true, false, cond}
 use Prim.Native.Nat.{ℕ, _+_, _%_, _^_, _<_, _≤_}
 use native.Mathlib.Omega.{arith}
 use lib.Dec.{eqb}
@@ -15,19 +15,21 @@ use Rattle.table.specs.Sound.{touchesAt, touchSum, mostTouches}
 use Rattle.table.specs.declared.Agent.{Agent}
 use Rattle.meaning.specs.Step.{pooled, dissolve}
 use Rattle.meaning.specs.Touch.{addTouches}
-use Rattle.demands.specs.NoMore.{Untouched}
 
 -- ---- the same touches
 
--- where the places in use and the touches are the same, the sum is
-pub same-sum : (c d : State) → Untouched c d → ((q : ℕ) → c .land .used q ≡ true → d .land .used q ≡ true) → d .touches ≡ c .touches
+-- where places in use stay so with the same touches, and those that come into use have none, the sum is the same
+pub same-sum : (c d : State) → ((q : ℕ) → c .land .used q ≡ true → d .land .used q ≡ true)
+    → ((q : ℕ) → c .land .used q ≡ true → d .touches q ≡ c .touches q)
+    → ((q : ℕ) → c .land .used q ≡ false → d .land .used q ≡ true → d .touches q ≡ 0)
     → touchSum d ≡ touchSum c
 unfolding touchSum
-same-sum c d m used e = sum-ext (touchesAt d) (touchesAt c) 64 (λ q _. go q (told (c .land .used q)))
+same-sum c d used same fresh = sum-ext (touchesAt d) (touchesAt c) 64 (λ q _. go q (told (c .land .used q)) (told (d .land .used q)))
   where
-    go : (q : ℕ) → Told (c .land .used q) → touchesAt d q ≡ touchesAt c q
-    go q (yea u) = rw (u, used q u) (ap (λ (f : ℕ → ℕ). f q) e)
-    go q (nay u) = rw (u, m .unused q u)
+    go : (q : ℕ) → Told (c .land .used q) → Told (d .land .used q) → touchesAt d q ≡ touchesAt c q
+    go q (yea u) _ = rw (u, used q u) (same q u)
+    go q (nay u) (yea v) = rw (u, v) (fresh q u v)
+    go q (nay u) (nay v) = rw (u, v)
 
 -- ---- a touch call
 

@@ -93,7 +93,7 @@ touched P t q n old new = go (told (sound (cellOf t))) (told (leb 64 q)) (told (
 module _ (t : Cell) (q n : ℕ) (z : Sized t) where
   -- the table after it has the cell with the touches more
   pub touch-back : cellOf t .land .used q ≡ true → cellOf (tableOf (addTouches (cellOf t) q n)) ≡ addTouches (cellOf t) q n
-  touch-back u = forth _ (untouched-bounded (touch-untouched (cellOf t) q n u) (bounded t z))
+  touch-back u = forth _ (untouched-bounded (touch-untouched (cellOf t) q n u) (bounded t z .used) (bounded t z))
 
   -- and the sizes of the struct
   pub sized-touched : Sized (touchOf t q n .cell)

@@ -3,7 +3,7 @@
 use mathlib.Core.Path.{_≡_, refl, ap, _∙_}
 use mathlib.Core.Bool.{Bool, true, false, not, and-false}
 use mathlib.Core.List.{List}
-use Prim.Native.Nat.{ℕ}
+use Prim.Native.Nat.{ℕ, _≤_}
 use lib.Dec.{eqb}
 use Rattle.table.specs.Base.{upd}
 use Rattle.table.specs.BaseLaws.{clash, upd-other}
@@ -40,11 +40,11 @@ untouched-more m n = record {
   touches = λ q u. n .touches q (m .unused q u) ∙ m .touches q u;
 }
 
--- what reads nothing at and past 64 reads nothing there after
-pub untouched-bounded : {c d : State} → Untouched c d → Bounded c → Bounded d
-untouched-bounded m b = record {
+-- what reads nothing at and past 64 reads nothing there after, where no number there comes into use
+pub untouched-bounded : {c d : State} → Untouched c d → ((q : ℕ) → 64 ≤ q → d .land .used q ≡ false) → Bounded c → Bounded d
+untouched-bounded m used b = record {
   place = λ q l. m .place q (b .used q l) ∙ b .place q l;
-  used = λ q l. m .unused q (b .used q l);
+  used = used;
   lock = λ q l. m .lock q (b .used q l) ∙ b .lock q l;
   agent = λ y l. m .agent y (b .given y l) ∙ b .agent y l;
   given = λ y l. ap (λ (f : ℕ → Bool). f y) (m .given) ∙ b .given y l;
