@@ -10,7 +10,7 @@ use borrow.Author.Tests.{eqb-true, eq-eqb, ne-eqb, lt-leb, not-true}
 use Rattle.table.specs.BaseLaws.{Told, yea, nay, told, clash, and-left, and-right}
 use Rattle.table.specs.Cell.{Land, State, none, hasAction, kindOf, linkedTo, enterKind, exitKind, looksHome}
 use Rattle.table.specs.Kinds.{Kind, is-enter, is-exit, is-open, home-kind, kind-home}
-use Rattle.table.specs.Sound.{actionsFit, ready, holdsBoth, stageFits, firstHeld, secondPlace, secondHeld, secondHeldIn, standsIn, lockIs, agentFits}
+use Rattle.table.specs.Sound.{actionsFit, remembers, ready, holdsBoth, stageFits, firstHeld, secondPlace, secondHeld, secondHeldIn, standsIn, lockIs, agentFits}
 use Rattle.table.specs.declared.Agent.{Agent}
 use Rattle.demands.specs.Reading.{parentIn}
 use Rattle.demands.specs.Invariant.{Places, Has, Fit, Ready, Away, Ok, ok0, ok1, ok2, ok3-move, ok3-open, ok4, ok5, ok6, ok7, ok8, Travels}
@@ -42,7 +42,7 @@ module _ (c : State) (x : ℕ) (a : Agent) where
   -- ---- an agent with an action left that remembers a place
 
   abbrev readyTest : Bool
-  readyTest = ready (hasAction a) (l .used (a .remembered)) (eqb (a .remembered) (a .home)) (kindOf a)
+  readyTest = ready (hasAction a) (remembers (l .used) a) (eqb (a .remembered) (a .home)) (kindOf a)
 
   ready-true : Ready l a → readyTest ≡ true
   unfolding ready
@@ -58,8 +58,8 @@ module _ (c : State) (x : ℕ) (a : Agent) where
       let rest = and-right (hasAction a) _ e in
       record {
         some = kind-some a f (and-left (hasAction a) _ e);
-        known = and-left (l .used (a .remembered)) _ rest;
-        opener = λ k. eqb-true _ _ (rw (kind-home (kindOf a) k (kind-small a f)) at (and-right (l .used (a .remembered)) _ rest));
+        known = and-left (remembers (l .used) a) _ rest;
+        opener = λ k. eqb-true _ _ (rw (kind-home (kindOf a) k (kind-small a f)) at (and-right (remembers (l .used) a) _ rest));
       }
 
   -- ---- the whole agent
@@ -71,7 +71,7 @@ module _ (c : State) (x : ℕ) (a : Agent) where
   there = linkedTo l (a .chosen) (a .remembered)
 
   abbrev stageTest : ℕ → Bool
-  stageTest n = stageFits n (hasAction a) (l .used (a .remembered)) (eqb (a .remembered) (a .home)) (kindOf a) here there
+  stageTest n = stageFits n (hasAction a) (remembers (l .used) a) (eqb (a .remembered) (a .home)) (kindOf a) here there
 
   -- the place that it takes second at stage n
   abbrev second : ℕ → ℕ

@@ -13,7 +13,7 @@ use Rattle.table.specs.BaseLaws.{Told, yea, nay, told, and-cong}
 use Rattle.table.specs.Cell.{none, noPlace, State, cellOf, linkedTo, hasAction, kindOf}
 use Rattle.table.specs.Bounds.{Sized}
 use Rattle.table.specs.CellLaws.{in-use}
-use Rattle.table.specs.Sound.{actionsFit, stageFits, firstHeld, secondHeld, secondHeldIn, lockIs, agentFits, goingFrom}
+use Rattle.table.specs.Sound.{actionsFit, remembers, stageFits, firstHeld, secondHeld, secondHeldIn, lockIs, agentFits, goingFrom}
 use Rattle.soundness.specs.Pass.{quiet, quietFits, lockIsAt, linkedAt, busyFits}
 use Rattle.table.specs.declared.Agent.{Agent}
 use Rattle.table.specs.declared.Cell.{Cell}
@@ -155,11 +155,11 @@ module _ (c : Cell) (z : Sized c) where
 
     -- at a quiet stage
     pub quiet-same : (k : ℕ) → k ≡ kindOf a → quiet (a .stage) ≡ true
-        → quietFits (a .stage) (hasAction a) (u (a .remembered)) (eqb (a .remembered) (a .home)) k ≡ agentFits (cellOf c) x a
+        → quietFits (a .stage) (hasAction a) (remembers u a) (eqb (a .remembered) (a .home)) k ≡ agentFits (cellOf c) x a
     unfolding agentFits cellOf lockIs
     quiet-same k ek e =
-        ap (quietFits (a .stage) (hasAction a) (u (a .remembered)) (eqb (a .remembered) (a .home))) ek
-        ∙ quiet-stage (a .stage) (hasAction a) (u (a .remembered)) (eqb (a .remembered) (a .home)) (kindOf a) (linkedTo (w .land) (a .home) (a .remembered)) (linkedTo (w .land) (a .chosen) (a .remembered)) e
+        ap (quietFits (a .stage) (hasAction a) (remembers u a) (eqb (a .remembered) (a .home))) ek
+        ∙ quiet-stage (a .stage) (hasAction a) (remembers u a) (eqb (a .remembered) (a .home)) (kindOf a) (linkedTo (w .land) (a .home) (a .remembered)) (linkedTo (w .land) (a .chosen) (a .remembered)) e
         ∙ sym (rw (quiet-first a e, quiet-second w a e, here, row) (and-true _))
       where
         and-true : (b : Bool) → (b && true) ≡ b

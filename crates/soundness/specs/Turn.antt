@@ -12,7 +12,7 @@ use Rattle.sets.specs.WalkLaws.{lowestIn}
 use Rattle.sets.specs.declared.Set.{Set}
 use Rattle.order.specs.Row.{rowFits}
 use Rattle.table.specs.Cell.{hasAction, kindOf, cellOf}
-use Rattle.table.specs.Sound.{actionsFit, firstHeld, secondHeld, goingFrom, coreSound}
+use Rattle.table.specs.Sound.{actionsFit, remembers, firstHeld, secondHeld, goingFrom, coreSound}
 use Rattle.table.specs.declared.Agent.{Agent}
 use Rattle.table.specs.declared.Place.{Place}
 use Rattle.table.specs.declared.Cell.{Cell}
@@ -47,7 +47,7 @@ unfoldable pub glanceOf : Set → Agent → Sight
 glanceOf used a =
     cond (member used (a .home))
     (cond (actionsFit a)
-    (cond (quiet (a .stage)) (stillWith (quietFits (a .stage) (hasAction a) (member used (a .remembered)) (eqb (a .remembered) (a .home)) (kindOf a))) (busyWith a))
+    (cond (quiet (a .stage)) (stillWith (quietFits (a .stage) (hasAction a) (remembers (member used) a) (eqb (a .remembered) (a .home)) (kindOf a))) (busyWith a))
     (stillWith false))
     (stillWith false)
 

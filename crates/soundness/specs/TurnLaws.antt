@@ -17,7 +17,7 @@ use Rattle.sets.specs.declared.Set.{Set}
 use Rattle.table.specs.BaseLaws.{Told, yea, nay, told, clash, eq?}
 use Rattle.table.specs.Bounds.{Sized}
 use Rattle.table.specs.Cell.{noPlace, noAgent, cellOf, hasAction, kindOf}
-use Rattle.table.specs.Sound.{actionsFit, firstHeld, secondHeld, secondHeldIn, goingFrom, agentFits, coreSound, booksSound, touchSum, sound}
+use Rattle.table.specs.Sound.{actionsFit, remembers, firstHeld, secondHeld, secondHeldIn, goingFrom, agentFits, coreSound, booksSound, touchSum, sound}
 use Rattle.table.specs.declared.Agent.{Agent}
 use Rattle.table.specs.declared.Place.{Place}
 use Rattle.table.specs.declared.Cell.{Cell}
@@ -45,7 +45,7 @@ module _ (used : Set) (a : Agent) where
     glance-row r = rw (h, r)
 
     module _ (r : actionsFit a ≡ true) where
-      pub glance-still : quiet (a .stage) ≡ true → glanceOf used a ≡ stillWith (quietFits (a .stage) (hasAction a) (member used (a .remembered)) (eqb (a .remembered) (a .home)) (kindOf a))
+      pub glance-still : quiet (a .stage) ≡ true → glanceOf used a ≡ stillWith (quietFits (a .stage) (hasAction a) (remembers (member used) a) (eqb (a .remembered) (a .home)) (kindOf a))
       unfolding glanceOf
       glance-still q = rw (h, r, q)
 
@@ -60,7 +60,7 @@ module _ (used : Set) (a : Agent) where
   by-glance P s b = go (member used (a .home)) (actionsFit a) (quiet (a .stage))
     where
       Q : Bool
-      Q = quietFits (a .stage) (hasAction a) (member used (a .remembered)) (eqb (a .remembered) (a .home)) (kindOf a)
+      Q = quietFits (a .stage) (hasAction a) (remembers (member used) a) (eqb (a .remembered) (a .home)) (kindOf a)
 
       go : (h r q : Bool) → P (cond h (cond r (cond q (stillWith Q) (busyWith a)) (stillWith false)) (stillWith false))
       go true true true = s Q

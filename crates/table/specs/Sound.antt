@@ -34,6 +34,10 @@ actionsFit a = leb (a .next) (a .count) && (leb (a .count) 16 && allBelow (actio
 
 -- ---- stages
 
+-- "every .. remembered place is in use": the place that the agent remembers is one of these
+abbrev pub remembers : (ℕ → Bool) → Agent → Bool
+remembers used a = used (a .remembered)
+
 -- an agent that remembers a place in use and has an action left; "an opener at stages 1 to 3 remembers its home"
 unfoldable pub ready : Bool → Bool → Bool → ℕ → Bool
 ready some known same kind = some && (known && cond (looksHome kind) same true)
@@ -91,7 +95,7 @@ claims c q x = c .given x && (eqb q (firstHeld (c .agent x)) || eqb q (secondHel
 
 -- its stage has what it asks
 abbrev pub stageSound : Land → Agent → Bool
-stageSound l a = stageFits (a .stage) (hasAction a) (l .used (a .remembered)) (eqb (a .remembered) (a .home)) (kindOf a)
+stageSound l a = stageFits (a .stage) (hasAction a) (remembers (l .used) a) (eqb (a .remembered) (a .home)) (kindOf a)
     (linkedTo l (a .home) (a .remembered)) (linkedTo l (a .chosen) (a .remembered))
 
 -- an agent with its number x: home in use, actions and stage as they should be, what its stage holds locked by it
