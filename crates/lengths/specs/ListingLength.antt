@@ -22,7 +22,7 @@ use Rattle.meaning.specs.Sorted.{sorted}
 use Rattle.meaning.specs.Listing.{kindText, actionText, isUnused, actionTurn, agentText, listsIn, textsOf, agentTexts, standsUnder, isPlain, slashed, nameText, bracketed, placeTexts}
 use Rattle.meaning.specs.Listing.{inOrder, contentsText, listing, listAnswer}
 use Rattle.meaning.specs.declared.Listed.the-variants.{Length, Unlisted}
-use Rattle.lengths.specs.Longest.{longestListing, longestAny}
+use Rattle.lengths.specs.Longest.{longestWord, longestListing, longestAny}
 use Rattle.lengths.specs.Sums.{pick, pick-le}
 use Rattle.lengths.specs.Parts.{digits-short, digits-most, room, room-none, length-room, room-length, room-turn, room-fold, weight, sorted-weight, append-weight, texts-weight, room-all}
 use Rattle.lengths.specs.Levels.{heap, heap-floor}
@@ -39,18 +39,27 @@ pub record Named (w : ℕ) (c : State) : Type 0 where
   pub place : (q : ℕ) → Short w (c .land .place q .name)
   pub action : (x j : ℕ) → length (decimal (getD (c .agent x .actions) j noAction .name)) ≤ w
 
-kind-length : (k : ℕ) → length (kindText k) ≤ 6
+-- no word of an action is longer than `enter `
+kind-length : (k : ℕ) → length (kindText k) ≤ longestWord
 unfolding kindText tab
 kind-length k = go (eqb k 1) (eqb k 2)
   where
-    go : (a b : Bool) → length (cond a (ascii "enter ") (cond b (ascii "exit ") (ascii "open "))) ≤ 6
-    go true b = le-refl 6
+    go : (a b : Bool) → length (cond a (ascii "enter ") (cond b (ascii "exit ") (ascii "open "))) ≤ longestWord
+    go true b = le-refl longestWord
     go false true = omega arith
     go false false = omega arith
 
--- what an agent of sixteen actions takes at most with the bar before it
+-- what an action takes at most with a full stop
+abbrev actionRoom : ℕ → ℕ
+actionRoom w = 1 + longestWord + w
+
+-- what an agent of sixteen actions takes at most: their words and numbers, and 15 full stops
+abbrev agentLength : ℕ → ℕ
+agentLength w = 15 + 16 * (longestWord + w)
+
+-- with the bar before it
 abbrev agentRoom : ℕ → ℕ
-agentRoom w = 114 + 16 * w
+agentRoom w = 3 + agentLength w
 
 -- and what a place with keys and without contents takes
 abbrev placeRoom : ℕ → ℕ
@@ -58,7 +67,7 @@ placeRoom w = 8 + 4 * w
 
 -- 64 such agents and 63 such places, and no bar before the first
 abbrev wholeRoom : ℕ → ℕ
-wholeRoom w = 7797 + 1276 * w
+wholeRoom w = agentLength w + 63 * agentRoom w + 63 * placeRoom w
 
 slashed-length : (key : ℕ) → length (slashed key) ≡ 1 + length (decimal key)
 unfolding slashed tab
@@ -101,22 +110,22 @@ roomy : (b : Bool) (n m : ℕ) → n ≤ m → cond b (cond (leb n m) (Length n)
 roomy b n m l = rw (le-leb n m l)
 
 module _ (w : ℕ) (c : State) (n : Named w c) where
-  action-length : (x j : ℕ) → length (actionText (getD (c .agent x .actions) j noAction)) ≤ 6 + w
+  action-length : (x j : ℕ) → length (actionText (getD (c .agent x .actions) j noAction)) ≤ longestWord + w
   unfolding actionText
   action-length x j = rw (length-append (kindText (getD (c .agent x .actions) j noAction .kind)) (decimal (getD (c .agent x .actions) j noAction .name)))
       (omega (arith, kind-length (getD (c .agent x .actions) j noAction .kind), n .action x j))
 
-  agent-length : (x : ℕ) → length (agentText (c .agent x)) ≤ 111 + 16 * w
+  agent-length : (x : ℕ) → length (agentText (c .agent x)) ≤ agentLength w
   unfolding agentText tab
-  agent-length x = room-length (ascii ".") (agentText (c .agent x)) (111 + 16 * w) (omega (
+  agent-length x = room-length (ascii ".") (agentText (c .agent x)) (agentLength w) (omega (
     arith,
     room-none (ascii "."),
-    sum-most (λ j. 7 + w) 16 (7 + w) (λ j l. le-refl (7 + w)),
-    room-fold (ascii ".") (actionTurn (c .agent x)) (λ j. 7 + w)
+    sum-most (λ j. actionRoom w) 16 (actionRoom w) (λ j l. le-refl (actionRoom w)),
+    room-fold (ascii ".") (actionTurn (c .agent x)) (λ j. actionRoom w)
         (λ j s. omega (
           arith,
-          pick-le (isUnused (c .agent x) j) (7 + w),
-          room-turn (ascii ".") (isUnused (c .agent x) j) s (actionText (getD (c .agent x .actions) j noAction)) (7 + w) (omega (arith, action-length x j)),
+          pick-le (isUnused (c .agent x) j) (actionRoom w),
+          room-turn (ascii ".") (isUnused (c .agent x) j) s (actionText (getD (c .agent x .actions) j noAction)) (actionRoom w) (omega (arith, action-length x j)),
         )) 16 [],
   ))
 

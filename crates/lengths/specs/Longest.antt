@@ -14,6 +14,10 @@ longestFile = 6390
 abbrev pub decidingBytes : ℕ
 decidingBytes = 6400
 
+-- the longest word of an action with the space after it: `enter `
+abbrev pub longestWord : ℕ
+longestWord = 6
+
 -- the longest listing where numbers have five digits. An agent has 16 * 11 + 15 bytes, sixteen actions such as `enter 65535` with full stops
 -- between them; a place has 25, `65535/65535/65535/65534[]`; a bar of 3 stands before each but one: 64 * 194 + 63 * 28 - 3
 abbrev pub longestListing : ℕ
