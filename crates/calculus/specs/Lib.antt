@@ -4,6 +4,7 @@ pub mod MoveCases
 pub mod Terms
 pub mod TermOf
 pub mod TermLaws
+pub mod Weights
 pub mod Equivalence
 pub mod Spots
 pub mod Parallel

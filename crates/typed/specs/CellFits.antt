@@ -7,7 +7,6 @@ use native.Mathlib.Omega.{arith}
 use lib.Dec.{eqb, ltb}
 use lib.ListN.{length, getD}
 use borrow.Author.Tests.{le-leb, lt-ltb}
-use Rattle.table.specs.Base.{sumBelow}
 use Rattle.table.specs.BaseLaws.{length-tab}
 use Rattle.table.specs.Cell.{State, noAction, rowEnd, unused}
 use Rattle.table.specs.declared.Name.{Name}
@@ -18,23 +17,18 @@ use Rattle.meaning.specs.Listing.{standsUnder}
 use Rattle.meaning.specs.TreeListing.{actsIn}
 use Rattle.calculus.specs.Terms.{Term, amb, nil}
 use Rattle.calculus.specs.TermOf.{prefix, row, parallel, agentAt, placeAt, level, contents, term}
+use Rattle.calculus.specs.Weights.{weigh, parallel-weighs}
 use Rattle.demands.specs.Actions.{end-most}
 use Rattle.demands.specs.Layouts.{agent-both, place-both}
 use Rattle.demands.specs.SameListings.{termOf}
 use Rattle.lengths.specs.Sums.{pick, sum-le}
 use Rattle.lengths.specs.Levels.{livesIn, standsIn, heap, heap-floor}
 use Rattle.language.specs.Grammar.{agent}
-use Rattle.typed.specs.Weighed.{weigh, short, termFits}
+use Rattle.typed.specs.Weighed.{short, termFits}
 
 -- ---- no more places and agents
 
 module _ (A B : ℕ) where
-  -- many in parallel
-  parallel-weighs : (f : ℕ → Term) (n : ℕ) → weigh A B (parallel f n) ≡ sumBelow (λ i. weigh A B (f i)) n
-  unfolding weigh parallel sumBelow
-  parallel-weighs f zero = refl
-  parallel-weighs f (suc n) = omega (arith, parallel-weighs f n)
-
   -- a row is one agent at most
   row-weighs : (l : List Action) → weigh A B (row l) ≤ A
   unfolding weigh row
@@ -79,8 +73,8 @@ module _ (A B : ℕ) where
     contents-most zero p = omega arith
     contents-most (suc k) p = omega (
       arith,
-      parallel-weighs (agentAt (treeOf c) p) 64,
-      parallel-weighs (placeAt (treeOf c) (contents (treeOf c) k) p) 64,
+      parallel-weighs A B (agentAt (treeOf c) p) 64,
+      parallel-weighs A B (placeAt (treeOf c) (contents (treeOf c) k) p) 64,
       sum-le (λ x. weigh A B (agentAt (treeOf c) p x)) (λ x. pick (livesIn c A B p x) A) 64 (agent-most p),
       sum-le (λ q. weigh A B (placeAt (treeOf c) (contents (treeOf c) k) p q)) (λ q. pick (standsIn c A B p q) (B + heap c A B k q)) 64
           (λ q. place-most k p q (contents-most k q)),

@@ -3,7 +3,7 @@
 use mathlib.Core.Path.{_≡_, refl, sym, ap, ap₂, _∙_}
 use mathlib.Core.Bool.{Bool, true, false, _&&_}
 use mathlib.Core.List.{List, [], _∷_}
-use Prim.Native.Nat.{ℕ, zero, suc, _+_}
+use Prim.Native.Nat.{ℕ, zero, suc}
 use native.Mathlib.Omega.{arith}
 use lib.Dec.{leb}
 use lib.ListN.{length}
@@ -13,35 +13,10 @@ use Rattle.table.specs.Kinds.{IsKind, enters, exits, opens, is-kind}
 use Rattle.calculus.specs.Terms.{Term, amb, nil, _∣_, enter, exit, «open», _≅_, struct-refl, struct-symm, struct-trans, struct-par-zero}
 use Rattle.calculus.specs.Terms.{struct-par-comm, struct-par-assoc, struct-amb, struct-par, struct-enter, struct-exit, struct-open}
 use Rattle.calculus.specs.TermOf.{prefix, row}
+use Rattle.calculus.specs.Weights.{weigh, weigh-same}
 use Rattle.language.specs.Grammar.{TypedAction, TypedAgent, Contents, nothing, agent, place, actionOf}
 use Rattle.language.specs.Layout.{placesIn, agentsIn, rowsFit, fits}
 use Rattle.typed.specs.TermTyped.{actionsOf, agentTerm, termTyped}
-
--- ---- places and agents
-
--- A for each agent with actions and B for each place of a term
-unfoldable pub weigh : ℕ → ℕ → Term → ℕ
-weigh A B (amb n P) = B + weigh A B P
-weigh A B nil = 0
-weigh A B (P ∣ Q) = weigh A B P + weigh A B Q
-weigh A B (enter n P) = A
-weigh A B (exit n P) = A
-weigh A B («open» n P) = A
-
--- equivalent terms have as many
-pub weigh-same : (A B : ℕ) {P Q : Term} → P ≅ Q → weigh A B P ≡ weigh A B Q
-unfolding weigh
-weigh-same A B struct-refl = refl
-weigh-same A B (struct-symm e) = sym (weigh-same A B e)
-weigh-same A B (struct-trans e f) = weigh-same A B e ∙ weigh-same A B f
-weigh-same A B struct-par-zero = omega arith
-weigh-same A B struct-par-comm = omega arith
-weigh-same A B struct-par-assoc = omega arith
-weigh-same A B (struct-amb e) = ap (λ (n : ℕ). B + n) (weigh-same A B e)
-weigh-same A B (struct-par {R = R} e) = ap (λ (n : ℕ). n + weigh A B R) (weigh-same A B e)
-weigh-same A B (struct-enter e) = refl
-weigh-same A B (struct-exit e) = refl
-weigh-same A B (struct-open e) = refl
 
 -- ---- rows
 
