@@ -1,5 +1,5 @@
 -- More of sums below a bound, and what is gathered from many places, each thing from one of them. Assumes nothing.
-use mathlib.Core.Path.{_≡_, refl, sym, ap, _∙_}
+use mathlib.Core.Path.{_≡_, refl, sym}
 use mathlib.Core.Bool.{Bool, true, false, cond}
 use Prim.Native.Nat.{ℕ, zero, suc, _+_, _≤_, zero-le}
 use native.Mathlib.Nat.{le-refl}
@@ -8,6 +8,7 @@ use lib.Dec.{eqb}
 use borrow.Author.Tests.{eqb-true, eq-eqb, ne-eqb}
 use Rattle.table.specs.Base.{sumBelow}
 use Rattle.table.specs.BaseLaws.{Told, yea, nay, told}
+use Rattle.table.specs.SumLaws.{sum-le, sum-add, sum-none, sum-swap}
 
 -- v where the test holds, else nothing
 abbrev pub pick : Bool → ℕ → ℕ
@@ -15,29 +16,9 @@ pick b v = cond b v 0
 
 -- ---- sums
 
-pub sum-le : (f g : ℕ → ℕ) (n : ℕ) → ((i : ℕ) → f i ≤ g i) → sumBelow f n ≤ sumBelow g n
-unfolding sumBelow
-sum-le f g zero h = zero-le
-sum-le f g (suc n) h = omega (arith, sum-le f g n h, h n)
-
-pub sum-add : (f g : ℕ → ℕ) (n : ℕ) → sumBelow (λ i. f i + g i) n ≡ sumBelow f n + sumBelow g n
-unfolding sumBelow
-sum-add f g zero = refl
-sum-add f g (suc n) = omega (arith, sum-add f g n)
-
 -- two sums are together at most a third, if they are so at each number
 pub sum-both : (f g h : ℕ → ℕ) (n : ℕ) → ((i : ℕ) → f i + g i ≤ h i) → sumBelow f n + sumBelow g n ≤ sumBelow h n
 sum-both f g h n l = omega (arith, sum-add f g n, sum-le (λ i. f i + g i) h n l)
-
-pub sum-none : (n : ℕ) → sumBelow (λ i. 0) n ≡ 0
-unfolding sumBelow
-sum-none zero = refl
-sum-none (suc n) = omega (arith, sum-none n)
-
-pub sum-swap : (f : ℕ → ℕ → ℕ) (m n : ℕ) → sumBelow (λ p. sumBelow (f p) m) n ≡ sumBelow (λ q. sumBelow (λ p. f p q) n) m
-unfolding sumBelow
-sum-swap f m zero = sym (sum-none m)
-sum-swap f m (suc n) = ap (λ (k : ℕ). k + sumBelow (f n) m) (sum-swap f m n) ∙ sym (sum-add (λ q. sumBelow (λ p. f p q) n) (f n) m)
 
 -- ---- sums of what passes a test
 

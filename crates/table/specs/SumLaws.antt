@@ -21,6 +21,28 @@ sum-most f zero m h = omega arith
 sum-most f (suc n) m h =
     omega (arith, sum-most f n m (λ j l. h j (omega arith)), h n (omega arith), suc-mul n m)
 
+-- smaller numbers give a smaller sum, zeros none
+pub sum-le : (f g : ℕ → ℕ) (n : ℕ) → ((i : ℕ) → f i ≤ g i) → sumBelow f n ≤ sumBelow g n
+unfolding sumBelow
+sum-le f g zero h = zero-le
+sum-le f g (suc n) h = omega (arith, sum-le f g n h, h n)
+
+pub sum-none : (n : ℕ) → sumBelow (λ i. 0) n ≡ 0
+unfolding sumBelow
+sum-none zero = refl
+sum-none (suc n) = omega (arith, sum-none n)
+
+-- two sums are the sum of both, and of sums of sums either may come first
+pub sum-add : (f g : ℕ → ℕ) (n : ℕ) → sumBelow (λ i. f i + g i) n ≡ sumBelow f n + sumBelow g n
+unfolding sumBelow
+sum-add f g zero = refl
+sum-add f g (suc n) = omega (arith, sum-add f g n)
+
+pub sum-swap : (f : ℕ → ℕ → ℕ) (m n : ℕ) → sumBelow (λ p. sumBelow (f p) m) n ≡ sumBelow (λ q. sumBelow (λ p. f p q) n) m
+unfolding sumBelow
+sum-swap f m zero = sym (sum-none m)
+sum-swap f m (suc n) = ap (λ (k : ℕ). k + sumBelow (f n) m) (sum-swap f m n) ∙ sym (sum-add (λ q. sumBelow (λ p. f p q) n) (f n) m)
+
 -- one more at i
 pub sum-more : (f g : ℕ → ℕ) (n i : ℕ) → i < n → g i ≡ f i + 1 → ((j : ℕ) → j ≢ i → g j ≡ f j) → sumBelow g n ≡ sumBelow f n + 1
 unfolding sumBelow

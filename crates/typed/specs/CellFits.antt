@@ -8,6 +8,7 @@ use lib.Dec.{eqb, ltb}
 use lib.ListN.{length, getD}
 use borrow.Author.Tests.{le-leb, lt-ltb}
 use Rattle.table.specs.BaseLaws.{length-tab}
+use Rattle.table.specs.SumLaws.{sum-le}
 use Rattle.table.specs.Cell.{State, noAction, rowEnd, unused}
 use Rattle.table.specs.declared.Name.{Name}
 use Rattle.table.specs.declared.Action.{Action}
@@ -21,7 +22,7 @@ use Rattle.calculus.specs.Weights.{weigh, parallel-weighs}
 use Rattle.demands.specs.Actions.{end-most}
 use Rattle.demands.specs.Layouts.{agent-both, place-both}
 use Rattle.demands.specs.SameListings.{termOf}
-use Rattle.lengths.specs.Sums.{pick, sum-le}
+use Rattle.lengths.specs.Sums.{pick}
 use Rattle.lengths.specs.Levels.{livesIn, standsIn, heap, heap-floor}
 use Rattle.language.specs.Grammar.{agent}
 use Rattle.typed.specs.Weighed.{short, termFits}
