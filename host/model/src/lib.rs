@@ -1,4 +1,5 @@
-//! The cell keeper once more, written from document 01 and the landed requests of document 02 alone, in plain vectors and maps.
+//! The cell keeper once more, written from document 01 and the landed requests of document 02 and not from the library, in plain vectors and
+//! maps.
 //!
 //! It serves one purpose: the library is compared with it, call by call. So it follows the papers' sentences one after another, is
 //! slow where slow is simpler, and shares nothing with the library. The sentence that a function stands for is quoted above it; one of
