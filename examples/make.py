@@ -7,7 +7,7 @@ What walk must print for each stands beside them in `expected` and is not writte
 import pathlib
 
 TOP = pathlib.Path(__file__).resolve().parent.parent
-ENTER, EXIT, OPEN = 1, 2, 3
+ENTER, EXIT, OPEN, RELEASE = 1, 2, 3, 4
 
 
 # ---- the cell file, record by record
@@ -89,6 +89,12 @@ EXAMPLES = {
     "one-layout-second-host": (
         place(9, 0, 40) + place(3, 9, 51) + place(7, 9, 50) + place(8, 0, 20) + place(2, 8, 31) + place(1, 8, 30) + agent(9, 0, (OPEN, 50))
         + agent(5, 3, (EXIT, 40)) + agent(8, 1, (EXIT, 20), (ENTER, 40)) + END, calls([8] * 14 + [5] * 7 + [9] * 3)),
+    # 20[9[] | 50[60[]] | 50[61[]] | open 9.open 50.release 9 | open 9.open 50.release 9]: source 000 section 4.1, the carrier 9 is a semaphore.
+    # Two agents of a bonder acquire it by opening it, empty a tray, and release it by putting out an empty one
+    "semaphore": (
+        place(1, 0, 20) + place(2, 1, 9) + place(3, 1, 50) + place(4, 3, 60) + place(5, 1, 50) + place(6, 5, 61)
+        + agent(0, 1, (OPEN, 9), (OPEN, 50), (RELEASE, 9)) + agent(1, 1, (OPEN, 9), (OPEN, 50), (RELEASE, 9)) + END,
+        calls([0, 1, 0, 1, 0, 0, 1, 1, 1] + [0] * 4 + [1] * 3 + [0] * 4 + [1] * 12)),
     # a line on which nothing is defined yet: a file of length 0, and a dispatcher that calls agents that are not there
     "empty-line": (
         b"",
@@ -119,6 +125,18 @@ def full_keys():
     return places + b"".join(agent(x, x, *row) for x, row in enumerate(rows)) + END
 
 
+def crowd(first, last, name=5):
+    """Empty places on the floor, with these numbers."""
+    return b"".join(place(q, 0, name) for q in range(first, last + 1))
+
+
+def crowded_cell():
+    """60 places in five bonders, so that three numbers are unused; ten agents in each bonder, most of which release and open carriers."""
+    places = b"".join(place(q, q % 5 * (q > 5), 1 + (q > 5)) for q in range(1, 61))
+    rows = [[(RELEASE, 2)] * 16, [(OPEN, 2), (RELEASE, 2)] * 8, [(RELEASE, 3), (OPEN, 3), (OPEN, 2)] * 5]
+    return places + b"".join(agent(x, 1 + x % 5, *rows[x // 5 % 3]) for x in range(50)) + END
+
+
 def deep_cell():
     """63 places, each in the one before, and an agent that walks the innermost one out."""
     places = b"".join(place(q, q - 1, q) for q in range(1, 64))
@@ -134,10 +152,10 @@ def mixed(seed, count):
     return row
 
 
-# 63 places and 64 agents with sixteen actions each on the floor, names and keys of five digits, the touches of every place: without its
+# 63 places and 64 agents with sixteen releases each on the floor, names and keys of five digits, the touches of every place: without its
 # end, the longest cell file and listing
 LONGEST = (b"".join(keyed(q, 0, 65535, 65535, 65535, 10000) for q in range(1, 64))
-           + b"".join(agent(x, 0, *[(ENTER, 65535)] * 16) for x in range(64))
+           + b"".join(agent(x, 0, *[(RELEASE, 65535)] * 16) for x in range(64))
            + b"".join(touches(q, 0xFFFFFFFF) for q in range(64)))
 TWO = place(1, 0, 7) + place(2, 0, 7) + agent(0, 1, (ENTER, 7)) + END
 NONE = b""
@@ -227,7 +245,9 @@ CASES = {
     "given-twice": (place(1, 0, 7) + place(1, 0, 8) + END, NONE),
     "not-yet-given": (place(5, 5, 7) + END, NONE),
     "name-zero": (place(1, 0, 0) + END, NONE),
-    "action-kind-four": (agent(0, 0, (4, 7)) + END, NONE),
+    "action-kind-five": (agent(0, 0, (5, 7)) + END, NONE),
+    "action-kind-five-name-zero": (agent(0, 0, (RELEASE, 7)) + bytes([3, 0, 5, 0, 0]) + END, NONE),
+    "release-name-zero": (agent(0, 0, (RELEASE, 7), (RELEASE, 0)) + END, NONE),
     "seventeenth-action": (agent(0, 0, *[(ENTER, 7)] * 17) + END, NONE),
     "sixteen-actions": (agent(0, 0, *[(ENTER, 7)] * 16) + END, calls([0, 0])),
     "bytes-after-the-end": (END + END, NONE),
@@ -276,6 +296,49 @@ CASES = {
         place(1, 0, 1) + place(2, 0, 2) + place(3, 1, 3) + place(4, 3, 4)
         + agent(0, 4, (EXIT, 3), (EXIT, 1), (ENTER, 2)) + agent(1, 1, (ENTER, 2)) + agent(2, 3, (EXIT, 1)) + agent(3, 0, (OPEN, 2)) + END,
         calls([0, 1, 2, 3, 0, 0, 1, 2, 1, 3, 2, 2] * 14)),
+    # release: what is put, in the agent's own place; then it is entered, left and opened by its name
+    "put": (
+        place(1, 0, 7) + place(2, 1, 8) + agent(0, 1, (RELEASE, 300), (RELEASE, 9), (OPEN, 9)) + agent(1, 2, (ENTER, 9), (EXIT, 9)) + END,
+        calls([0] * 6 + [1] * 14 + [0] * 5)),
+    # source 000 section 4.1, its own example: acquire n.release m | release n.acquire m
+    "semaphores-of-the-source": (
+        agent(0, 0, (OPEN, 1), (RELEASE, 2)) + agent(1, 0, (RELEASE, 1), (OPEN, 2)) + END,
+        calls([0] * 4 + [1] * 6 + [0] * 9 + [1] * 5)),
+    # the smallest unused number: 3, 5 and 8 between those of the file, and 5 and 3 again after openings freed them; a wish for the number opens
+    # what was put there, and not one that has been there longer
+    "put-numbers": (
+        place(4, 0, 9) + place(1, 0, 5) + place(2, 0, 9) + place(6, 4, 8) + place(7, 2, 6)
+        + agent(0, 0, (RELEASE, 9), (RELEASE, 9), (OPEN, 9), (RELEASE, 9), (OPEN, 9), (OPEN, 9), (RELEASE, 3), (RELEASE, 4), (RELEASE, 4), (OPEN, 4))
+        + END,
+        calls([0] * 6) + calls([0] * 4, 5) + calls([0] * 3) + calls([0] * 4, 5) + calls([0] * 4, 3) + calls([0] * 9) + calls([0] * 5, 8)),
+    # a put wakes those who sleep on its own place, an opener there and one whose place stands there, and not one on the floor
+    "put-wakes": (
+        place(1, 0, 7) + place(2, 1, 8) + agent(0, 1, (RELEASE, 9), (RELEASE, 9)) + agent(1, 1, (OPEN, 9)) + agent(2, 2, (ENTER, 9))
+        + agent(3, 0, (OPEN, 9)) + END,
+        calls([1, 1, 1, 2, 2, 2, 3, 3, 3] + [0] * 3 + [2] * 7 + [3, 1] + [0] * 3 + [1] * 6)),
+    # the lock of its own place: held by an opener there; an opener outside waits for it, and what it moves looks again
+    "put-and-openers": (
+        place(1, 0, 7) + place(2, 1, 9) + agent(0, 0, (OPEN, 7)) + agent(1, 1, (RELEASE, 8), (RELEASE, 6)) + agent(2, 1, (OPEN, 9)) + END,
+        calls([1, 2, 2, 1, 2, 2, 0, 0, 1, 1, 0, 1, 0, 1, 0, 0, 1, 1, 1, 1])),
+    # in a place on its way, which the agent that moves it locks first
+    "put-on-its-way": (
+        place(1, 0, 7) + place(2, 0, 8) + agent(0, 1, (ENTER, 8)) + agent(1, 1, (RELEASE, 9), (RELEASE, 9)) + END,
+        calls([0] * 4 + [1] * 3 + [0, 1, 1, 0, 0, 1, 1, 1])),
+    # 63 places in use, the floor too: the last number is put, then the agent sleeps on no place; with nobody to open, all rest
+    "put-the-last-number": (
+        crowd(1, 40) + crowd(42, 63) + agent(0, 0, (RELEASE, 9), (RELEASE, 9), (RELEASE, 9)) + END, calls([0] * 7)),
+    # 64 places in use: three agents sleep on no place, one of them in the place that is opened elsewhere; that wakes all three, one of them
+    # gets its number, and the others sleep again, as does the opener's neighbour, who sleeps on a place and is not woken
+    "put-with-no-number": (
+        place(1, 0, 7) + place(2, 1, 6) + place(3, 0, 8) + crowd(4, 63) + agent(0, 1, (OPEN, 6)) + agent(1, 2, (RELEASE, 9))
+        + agent(2, 3, (RELEASE, 9)) + agent(3, 3, (RELEASE, 10)) + agent(4, 3, (OPEN, 1)) + END,
+        calls([1] * 3 + [2] * 3 + [3] * 3 + [4] * 3 + [1, 2] + [0] * 4 + [4] + [3] * 4 + [1] * 3 + [2] * 3 + [4] * 4)),
+    # who sleeps on no place is not woken by a move of its own place, nor by what comes in or goes out
+    "no-place-and-moves": (
+        place(1, 0, 7) + place(2, 0, 8) + place(3, 0, 6) + crowd(4, 63) + agent(0, 1, (RELEASE, 9)) + agent(1, 1, (ENTER, 8))
+        + agent(2, 3, (ENTER, 7), (EXIT, 7)) + agent(3, 2, (OPEN, 7)) + END,
+        calls([0] * 3 + [2] * 14 + [1] * 7 + [0] + [3] * 4 + [0] * 4)),
+    "crowded": (crowded_cell(), calls([x % 50 for y in mixed(5, 700) for x in [y] * 4])),
     "past-the-limit": (TWO, calls([0] * 16383 + [1, 2])),
     "one-record-more": (LONGEST + place(63, 0, 65535) + END, NONE),
     "one-touch-record-more": (LONGEST + touches(63, 0xFFFFFFFF) + END, NONE),

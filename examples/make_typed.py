@@ -28,6 +28,10 @@ CASES = {
     # keys, and an agent on the floor after the places
     "typed-keys": (b"20/20/20/0[30[]] | 40[enter 20.exit 20.open 20] | open 40\n", "suppliers-magazine"),
     "typed-bare-floor": (b"0\n", [0]),
+    # a semaphore, and an agent that waits for what another puts
+    "typed-release": (b"9[] | open 9.release 9 | 7[release 300 | open 300] | open 9.release 9\n",
+                      [0] * 4 + [3] * 3 + [0] * 3 + [3] * 7 + [2] * 3 + [1] * 3 + [2] * 4),
+    "typed-release-misspelt": (b"7[release 9] | relaese 9\n", []),
     # refused, with the caret under the byte
     "typed-empty": (b"", []),
     "typed-wrong-at-the-start": (b"x7[]\n", [0]),

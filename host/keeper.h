@@ -78,8 +78,8 @@ extern "C" {
 ** anew: another layout of a cell, other arguments, another meaning of an answer. The minor number changes when something is added: a
 ** call, a word, a refusal. The patch number changes with anything else.
 */
-#define KEEPER_MAJOR 5
-#define KEEPER_MINOR 3
+#define KEEPER_MAJOR 6
+#define KEEPER_MINOR 0
 #define KEEPER_PATCH 0
 #define KEEPER_VERSION (KEEPER_MAJOR * 65536 + KEEPER_MINOR * 256 + KEEPER_PATCH)
 
@@ -90,6 +90,9 @@ extern "C" {
 
 /* The lock of a place that no agent holds. */
 #define KEEPER_FREE 64
+
+/* What an agent remembers that sleeps on no place: one whose next action is a release and that found all place numbers in use. */
+#define KEEPER_NO_PLACE 64
 
 /* What keeper_ask tells where there is no chosen place. */
 #define KEEPER_NONE_CHOSEN 255
@@ -110,15 +113,23 @@ extern "C" {
 
 /* The longest listing: with a buffer of this size, keeper_list never answers 12 (proved: crates/lengths, `listing-longest`, `enough-room`).
 ** No text that keeper_read accepts is longer (counted and not proved); which refusal a longer one gets, only the whole of it decides. */
-#define KEEPER_LISTING_LONGEST 14177
+#define KEEPER_LISTING_LONGEST 16225
 
 /* The stack that a call uses, in bytes, at most. This is measured and not proved: host/c/stack.c measures it on the library at hand and
 ** fails where it is more; keeper_list needs the most. */
 #define KEEPER_STACK 65536
 
 /*
+** Place numbers are given again. An opening (the word opened) takes the number of the opened place out of use, and a release (the word put) puts
+** its place under the smallest number that is unused, which may be one that an opening freed: then it is another place, with a name and
+** touches of its own. So a host that keeps something by place number, such as a gripper over it, forgets it when the place is opened, and
+** learns of the new place when a step answers put: its number is the lowest bit of `used` that is 0 before that step. A cell in which no
+** action is a release never gets a place that its file or text did not give.
+*/
+
+/*
 ** The memory of a cell. It is plain data: a host may copy it, keep it in a file for the same kind of machine and the same KEEPER_MAJOR, and
-** read its fields. A host that takes a kept cell back asks keeper_check first. A cell that a host of version 4 kept is one of version 5 too.
+** read its fields. A host that takes a kept cell back asks keeper_check first. A cell that a host of version 4 or 5 kept is one of version 6 too.
 ** Those of versions 1, 2 and 3 have 4816, 5328 and 5392 bytes, by which a host knows them, and have to be loaded again. A host
 ** that writes the fields itself can make the table unsound; keeper_check tells. Fields of numbers that are not in use mean nothing; but every
 ** place number stands in `order`. Nor does the byte between an action's kind and its name: no answer depends on it, and what it holds after a
@@ -128,7 +139,8 @@ extern "C" {
 /* A name with its three keys, which say who may enter, leave and open the place: `enter n` acts on a place whose `entering` is n, `exit n`
 ** on one whose `exiting` is n, `open n` on one whose `opening` is n. A key of 0 fits no action: nobody may. `name` is what the place is
 ** called and listed by, and decides nothing of this. In a cell file a place record of kind 1 sets all three keys to the name, one of kind 6
-** gives each of them. Steps and touch calls change no name and no key of a place that stays in use. */
+** gives each of them; of a place that a release puts, all three are the name. Steps and touch calls change no name and no key of a place that
+** stays in use. */
 typedef struct keeper_name {
     uint16_t name;
     uint16_t entering;
@@ -144,15 +156,17 @@ typedef struct keeper_place {
     uint8_t way;
 } keeper_place;
 
-/* An action: 1 enter, 2 exit, 3 open; and in `name` the number that the key of that kind must be on the place that it acts on. Where a
-** place has no keys of its own (kind 1), that is its name. */
+/* An action: 1 enter, 2 exit, 3 open, 4 release; and in `name` the number that the key of that kind must be on the place that it acts on.
+** Where a place has no keys of its own (kind 1), that is its name. A release acts on no place: its number is the name, and each key, of the
+** place that it puts. */
 typedef struct keeper_action {
     uint8_t kind;
     uint16_t name;
 } keeper_action;
 
-/* An agent: the place it lives in, its stage (0 to 8), the place it remembers (stages 1 to 3 and 7), the place it has chosen (stage 3 of
-** enter and open), and its actions, of which actions[next] to actions[count - 1] are unused. */
+/* An agent: the place it lives in, its stage (0 to 8), the place it remembers (stages 1 to 3 and 7; at stage 7, where its next action is a
+** release, also KEEPER_NO_PLACE), the place it has chosen (stage 3 of enter and open), and its actions, of which actions[next] to
+** actions[count - 1] are unused. */
 typedef struct keeper_agent {
     uint8_t home;
     uint8_t stage;
@@ -204,9 +218,9 @@ enum {
     KEEPER_GIVEN_TWICE = 4,         /* give each number once, and each place's touches once, also where they are 0 */
     KEEPER_NOT_YET_GIVEN = 5,       /* put parents before what stands in them, agents before their actions, places before their touches; in a
                                        call: if the place was opened, what stood in it stands in the opener's place now, which has its touches
-                                       too: add further ones there */
+                                       too: add further ones there; until a release gives its number to another place */
     KEEPER_NAME_ZERO = 6,           /* use 1 to 65,535, and mind the low byte first */
-    KEEPER_ACTION_KIND = 7,         /* 1 is enter, 2 exit, 3 open */
+    KEEPER_ACTION_KIND = 7,         /* 1 is enter, 2 exit, 3 open, 4 release */
     KEEPER_SEVENTEENTH_ACTION = 8,  /* give an agent sixteen at most; a second agent of the same place can take the rest */
     KEEPER_AFTER_THE_END = 9,       /* cut the file there, or move the end record to the end */
     KEEPER_UNSOUND = 10,            /* somebody else wrote the cell, or it was restored from a damaged copy: load again */
@@ -230,6 +244,7 @@ enum {
     KEEPER_LEFT = 5,
     KEEPER_CAME = 6,
     KEEPER_OPENED = 7,
+    KEEPER_PUT = 8,
     KEEPER_ASLEEP = 9,
     KEEPER_DONE = 10
 };
@@ -274,7 +289,8 @@ keeper_answer keeper_bare(keeper_cell *cell);
 **     kind  bytes  what                   the body, one byte for each number unless it says otherwise
 **     1     5      a place                number (1 to 63), parent (0 to 63), name (2 bytes, from 1 on)
 **     2     3      an agent               number (0 to 63), the place that it lives in (0 to 63)
-**     3     5      an action              agent, kind (1 enter, 2 exit, 3 open), its number (2 bytes, from 1 on); after the agent's earlier ones
+**     3     5      an action              agent, kind (1 enter, 2 exit, 3 open, 4 release), its number (2 bytes, from 1 on); after the agent's
+**                                         earlier ones
 **     4     1      the end                nothing; it stands last
 **     5     6      touches of a place     place (0 to 63), count (4 bytes); once for each place
 **     6     11     a place with its keys  number, parent, name (2 bytes), keys for entering, exiting and opening (2 bytes each)
@@ -297,7 +313,7 @@ keeper_answer keeper_load(keeper_cell *cell, const uint8_t *file, size_t len);
 **     0                                 a bare floor: nothing on the line. A 0 stands for that alone, never inside a place
 **     7[]                               a place named 7 with nothing in it
 **     9[7[] | 8[]]                      places in a place: parts side by side have a bar between them, with one space on each side of it
-**     7[enter 9.exit 9] | 9[]           an agent in place 7 with two actions, joined by a dot; actions are enter, exit and open
+**     7[enter 9.exit 9] | 9[]           an agent in place 7 with two actions, joined by a dot; actions are enter, exit, open and release
 **     20/20/20/0[]                      a place with its keys for entering, exiting and opening; left off, each of them is the name
 **
 ** Numbers are decimal without leading zeros: names and those of actions 1 to 65535, keys 0 to 65535. Parts may stand in any order, agents
@@ -326,8 +342,8 @@ keeper_answer keeper_read(keeper_cell *cell, const uint8_t *text, size_t length)
 ** keeper_step: one lock step of an agent. `wish` is the number of the place that an enter or open should choose where several qualify. It
 ** counts in the call in which the agent, holding its first lock, chooses. A wish for a place that does not qualify, or for none, such as
 ** 255, is passed over, and of the places that qualify the one is chosen that has been under its parent longest: first in, first served.
-** Loaded places count in file order, those of a text in its order. A place that comes is the latest, and so are those that an opening
-** frees, which keep their order. Which places qualify, their keys say (keeper_name).
+** Loaded places count in file order, those of a text in its order. A place that comes or is put is the latest, and so are those that an
+** opening frees, which keep their order. Which places qualify, their keys say (keeper_name).
 **
 ** Answers, in keeper_word(answer), what the agent did, and in keeper_woken(answer) how many sleeping agents that woke:
 **
@@ -335,11 +351,15 @@ keeper_answer keeper_read(keeper_cell *cell, const uint8_t *text, size_t length)
 **     took     it took a lock
 **     held     the lock that it needs is held by another agent; nothing changed
 **     back     its action no longer fires, or its place has moved: it gave its locks back and will look again
-**     slept    its action cannot fire; it holds no lock and sleeps until another agent's step wakes it
+**     slept    its action cannot fire; it holds no lock and sleeps until another agent's step wakes it. A release sleeps where all 64 place
+**              numbers are in use, on no place (KEEPER_NO_PLACE), until any opening, which frees one and wakes all that sleep so
 **     left     its place left and is on its way; the action is used up
 **     came     its place came to its destination
 **     opened   it opened a place: what was inside stands in the agent's own place now, the opened place's touches are added to those of
 **              the agent's own place, and the opened place's number is unused; the action is used up
+**     put      it put a new empty place into its own place, under the smallest number that was unused: its name and its three keys are the
+**              action's number, its touch count is 0, and it is the latest there; those who sleep on the agent's own place, such as an
+**              opener that waits for it, are woken; the action is used up
 **     asleep   it sleeps; nothing changed
 **     done     it has no action left; nothing changed
 **
@@ -360,9 +380,9 @@ keeper_answer keeper_step(keeper_cell *cell, uint8_t agent, uint8_t wish);
 **
 ** Answers, in keeper_word(answer) and keeper_woken(answer), what keeper_step would answer there, and in keeper_chosen(answer) the place: the
 ** one that an enter would enter or that an open would open. It is told where the agent holds its first lock (stage 2) and its action fires,
-** also where the word is held, and where it holds both (stage 3) and its action still fires. Everywhere else, and for every exit, it is
-** KEEPER_NONE_CHOSEN: where the agent has not come so far, is on its way, sleeps or is done, and where the word is slept or back. The number
-** as a whole is
+** also where the word is held, and where it holds both (stage 3) and its action still fires. Everywhere else, and for every exit and every
+** release, it is KEEPER_NONE_CHOSEN: where the agent has not come so far, is on its way, sleeps or is done, and where the word is slept, back
+** or put. The number as a whole is
 **
 **     bits 0 to 7      0, or the refusal
 **     bits 8 to 15     the word
@@ -425,8 +445,8 @@ keeper_answer keeper_idle(const keeper_cell *cell);
 
 /*
 ** keeper_touch: adds `number` to the touch count of a place, such as the touch-downs of a capillary since the last call. The count stays
-** with the place wherever it goes. The sum over all places in use is what the file gave and the calls have added since, whatever steps
-** were made.
+** with the place wherever it goes; a place that a step puts starts with 0, whatever its number counted before. The sum over all places in use
+** is what the file gave and the calls have added since, whatever steps were made.
 **
 ** Answers the place's new count in keeper_count(answer). Refused with 10 where the table is unsound, else with 3 for a place above 63, else
 ** with 5 for one that is not in use, else with 15 where the sum over all places in use would pass KEEPER_TOUCHES_MOST; then the cell is as
@@ -513,6 +533,7 @@ static inline const char *keeper_word_name(unsigned word)
     case KEEPER_LEFT: return "left";
     case KEEPER_CAME: return "came";
     case KEEPER_OPENED: return "opened";
+    case KEEPER_PUT: return "put";
     case KEEPER_ASLEEP: return "asleep";
     case KEEPER_DONE: return "done";
     default: return "unknown";
@@ -529,7 +550,7 @@ static inline const char *keeper_refusal_text(unsigned refusal)
     case KEEPER_GIVEN_TWICE: return "number or touches given twice";
     case KEEPER_NOT_YET_GIVEN: return "not yet given, or not in use";
     case KEEPER_NAME_ZERO: return "name 0 in a place or action";
-    case KEEPER_ACTION_KIND: return "action kind not 1 to 3";
+    case KEEPER_ACTION_KIND: return "action kind not 1 to 4";
     case KEEPER_SEVENTEENTH_ACTION: return "seventeenth action";
     case KEEPER_AFTER_THE_END: return "bytes after the end record";
     case KEEPER_UNSOUND: return "unsound table";

@@ -8,6 +8,7 @@ import sys
 sys.dont_write_bytecode = True
 
 from drawing import (EDGE, FILL, INK, LINE, LOCK_0, LOCK_1, SOFT, WAY_EDGE, WAY_FILL, Svg, agent, panels, place, spent)
+from release import release, semaphore
 from railroad import Again, Box, Either, Row, Skip, tracks
 from timeline import asking
 from where import where
@@ -188,7 +189,7 @@ def stages():
              8: (col[0], lower, "8  done", "no lock")}
     second = {3: "second place", 6: "and of the destination"}
     svg = Svg(1140, 708, "The nine stages of an agent",
-              "Stages 0 to 3 lead to left or opened; stages 4 to 6 lead to came; 7 is asleep and 8 is done.")
+              "Stages 0 to 3 lead to left or opened, stages 0 to 2 to put; stages 4 to 6 lead to came; 7 is asleep and 8 is done.")
 
     def label(x, y, word, anchor="middle", strong=False, small=False):
         svg.text(x, y, word, 13 if small else 15, WAY_EDGE if strong else SOFT if small else INK, bold=not small, anchor=anchor)
@@ -232,10 +233,12 @@ def stages():
     # left: the layout changes
     svg.path([(col[3] + 160, upper + h), (col[3] + 160, lower)], WAY_EDGE, 3)
     label(col[3] + 170, (upper + h + lower) / 2 + 5, "left", "start", strong=True)
-    # opened and came, and what follows them
+    # opened, put and came, and what follows them
     ask = lane + 48
     svg.path([(col[3] + 100, upper + h), (col[3] + 100, ask - 8), (col[0] + 166, ask - 8)], WAY_EDGE, 3)
-    label(col[2] + w / 2, ask - 16, "opened", strong=True)
+    label(col[3] + 20, ask - 16, "opened", strong=True)
+    svg.path([(col[2] + 150, upper + h), (col[2] + 150, ask - 8)], WAY_EDGE, 3, head=False)
+    label(col[2] + 160, ask - 16, "put", "start", strong=True)
     svg.path([(col[1], lower + h / 2), (col[1] - 38, lower + h / 2), (col[1] - 38, ask + 12), (col[0] + 166, ask + 12)],
              WAY_EDGE, 3)
     label(col[1] - 28, lower - 14, "came", "start", strong=True)
@@ -270,14 +273,14 @@ def language():
     tracks("language.svg", "The language of layouts",
            "A layout is 0 or parts. Parts are one part or more, a bar with a space on each side between two of them. A part is an agent or a "
            "place. A place is a number, three keys with a slash before each or none, and in brackets parts or nothing. An agent is one "
-           "action or more with a full stop between two of them. An action is enter, exit or open, a space and a number. A key is 0 or a "
+           "action or more with a full stop between two of them. An action is enter, exit, open or release, a space and a number. A key is 0 or a "
            "number. A number is a digit from 1 to 9 and any further digits.", [
                ("layout", "the whole text", Either(Box("0"), parts)),
                ("parts", "side by side", Again(Box("part", typed=False), Box("␣|␣"))),
                ("part", "", Either(Box("agent", typed=False), Box("place", typed=False))),
                ("place", "its name is a number", Row(number, Either(Skip(), keys), Box("["), Either(parts, Skip()), Box("]"))),
                ("agent", "its actions in turn", Again(Box("action", typed=False), Box("."))),
-               ("action", "", Row(Either(Box("enter␣"), Box("exit␣"), Box("open␣")), number)),
+               ("action", "", Row(Either(Box("enter␣"), Box("exit␣"), Box("open␣"), Box("release␣")), number)),
                ("key", "0: nobody may", Either(number, Box("0"))),
                ("number", "1 to 65,535", Row(Box("1 .. 9"), Either(Skip(), Again(Box("0 .. 9"), Skip()))))],
            ["Yellow: typed as it stands; ␣ is one space, and 1 .. 9 one of these digits.",
@@ -285,6 +288,6 @@ def language():
 
 
 if __name__ == "__main__":
-    for draw in (cell, stages, enter, exit_, open_, touches, served, layouts, language, rights, example_trees, example_held, example_locks, slips,
+    for draw in (cell, stages, enter, exit_, open_, release, semaphore, touches, served, layouts, language, rights, example_trees, example_held, example_locks, slips,
                  asking, where):
         draw()

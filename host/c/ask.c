@@ -51,11 +51,12 @@ static void commits(keeper_cell *cell, uint8_t agent, uint8_t wish)
     HOLDS(answer == (asked & 0xFFFFFF) && keeper_check(cell) == 0);
 }
 
-/* What is told at each stage: of an enter, with and without a wish, of an exit and of an open. */
+/* What is told at each stage: of an enter, with and without a wish, of an exit, of an open and of a release. */
 static void stages(keeper_cell *cell)
 {
     static const unsigned goes[8] = {KEEPER_LOOKED, KEEPER_TOOK, KEEPER_TOOK, KEEPER_LEFT, KEEPER_TOOK, KEEPER_TOOK, KEEPER_CAME, KEEPER_DONE};
     static const unsigned opens[5] = {KEEPER_LOOKED, KEEPER_TOOK, KEEPER_TOOK, KEEPER_OPENED, KEEPER_DONE};
+    static const unsigned puts[4] = {KEEPER_LOOKED, KEEPER_TOOK, KEEPER_PUT, KEEPER_DONE};
     static const unsigned sleeps[4] = {KEEPER_LOOKED, KEEPER_TOOK, KEEPER_SLEPT, KEEPER_ASLEEP};
     static const uint8_t wishes[5][2] = {{255, 2}, {1, 2}, {2, 2}, {3, 3}, {64, 2}};
 
@@ -75,6 +76,11 @@ static void stages(keeper_cell *cell)
     for (int turn = 0; turn < 5; turn++) {
         HOLDS(tells(cell, 0, 255, opens[turn], 0, turn == 2 || turn == 3 ? 1 : NONE));
         commits(cell, 0, 255);
+    }
+    after(cell, "release 7 | 7[]", "");
+    for (int turn = 0; turn < 4; turn++) {
+        HOLDS(tells(cell, 0, 1, puts[turn], 0, NONE));
+        commits(cell, 0, 1);
     }
     after(cell, "7[enter 7]", "");
     for (int turn = 0; turn < 4; turn++) {
@@ -105,6 +111,9 @@ static void words(keeper_cell *cell)
     commits(cell, 0, 255);
     after(cell, "open 1 | 1[enter 9 | exit 9 | 2[exit 9]]", "111222333000");
     HOLDS(tells(cell, 0, 255, KEEPER_OPENED, 3, 1));
+    commits(cell, 0, 255);
+    after(cell, "7[release 9 | open 9 | 8[enter 9]]", "11122200");
+    HOLDS(tells(cell, 0, 255, KEEPER_PUT, 2, NONE));
     commits(cell, 0, 255);
     after(cell, "7[enter 7] | 9[enter 7]", "0001111111");
     memcpy(&before, cell, sizeof before);

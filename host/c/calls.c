@@ -9,6 +9,7 @@ static void loads(keeper_cell *cell)
     static const uint8_t after_the_end[2] = {4, 4};
     static const uint8_t no_parent[6] = {1, 5, 5, 7, 0, 4};
     static const uint8_t largest[6] = {1, 63, 0, 7, 0, 4};
+    static const uint8_t fifth_kind[9] = {2, 0, 0, 3, 0, 5, 0, 0, 4};
     keeper_answer answer;
 
     HOLDS(keeper_load(cell, example, sizeof example) == 0);
@@ -22,6 +23,8 @@ static void loads(keeper_cell *cell)
     HOLDS(keeper_refusal(answer) == KEEPER_AFTER_THE_END && keeper_offset(answer) == 1);
     answer = refused(cell, no_parent, 6);
     HOLDS(keeper_refusal(answer) == KEEPER_NOT_YET_GIVEN && keeper_offset(answer) == 0);
+    answer = refused(cell, fifth_kind, 9);
+    HOLDS(keeper_refusal(answer) == KEEPER_ACTION_KIND && keeper_offset(answer) == 3);
     HOLDS(keeper_load(cell, largest, 6) == 0);
     HOLDS(cell->places[63].name.name == 7 && cell->places[63].parent == 0 && cell->places[63].way == 0);
     HOLDS(cell->used == (1 | (uint64_t)1 << 63) && cell->given == 0 && cell->locks[63] == KEEPER_FREE);
@@ -230,7 +233,8 @@ static void texts(void)
     for (unsigned refusal = 1; refusal <= 18; refusal++)
         HOLDS(strcmp(keeper_refusal_text(refusal), "unknown") != 0);
     HOLDS(strcmp(keeper_refusal_text(0), "unknown") == 0 && strcmp(keeper_refusal_text(19), "unknown") == 0);
-    HOLDS(strcmp(keeper_word_name(8), "unknown") == 0);
+    HOLDS(strcmp(keeper_refusal_text(KEEPER_ACTION_KIND), "action kind not 1 to 4") == 0);
+    HOLDS(strcmp(keeper_word_name(KEEPER_PUT), "put") == 0 && KEEPER_PUT == 8 && strcmp(keeper_word_name(11), "unknown") == 0);
 }
 
 int main(void)

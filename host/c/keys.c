@@ -153,7 +153,7 @@ static void unsound(keeper_cell *cell)
     HOLDS(keeper_check(cell) == KEEPER_UNSOUND);
 }
 
-/* The longest file and the longest listing have keys; a record of kind 6 after them is what the most bytes decide. */
+/* The longest file and the longest listing have keys and releases; a record of kind 6 after them is what the most bytes decide. */
 static void longest(keeper_cell *cell)
 {
     static uint8_t file[KEEPER_FILE_DECIDING], text[KEEPER_LISTING_LONGEST];
@@ -166,7 +166,7 @@ static void longest(keeper_cell *cell)
         memcpy(file + length, (uint8_t[]){5, number, 255, 255, 255, 255, 2, number, 0}, 9);
         length += 9;
         for (int action = 0; action < KEEPER_ACTIONS; action++, length += 5)
-            memcpy(file + length, (uint8_t[]){3, number, 1, 255, 255}, 5);
+            memcpy(file + length, (uint8_t[]){3, number, 4, 255, 255}, 5);
     }
     file[length] = 4;
     HOLDS(length + 1 == KEEPER_FILE_LONGEST && keeper_load(cell, file, length + 1) == 0);

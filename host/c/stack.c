@@ -1,9 +1,10 @@
 /*
 ** How much stack the calls use: each runs in a thread whose stack was filled with a pattern, and what has lost it below the caller was
 ** used. The cells are full: all places in each other, side by side, or in a chain with one beside each, numbered against the order in
-** which they are listed; all agents with sixteen actions. All agents step, many times; each step is also asked for before, and committed on
-** a copy. A listing is also made in a room that not every listing fits, and each listing is read back. Where a place is, is asked of the
-** last one, which in a chain has all others around it.
+** which they are listed; all agents with sixteen actions. Where the agents release, one number is unused: one of them puts its place there,
+** and the others sleep on no place. All agents step, many times; each step is also asked for before, and committed on a copy. A listing is
+** also made in a room that not every listing fits, and each listing is read back. Where a place is, is asked of the last one, which in a
+** chain has all others around it.
 */
 #define _POSIX_C_SOURCE 200809L
 #include "../keeper.h"
@@ -89,20 +90,24 @@ static void record(const uint8_t *bytes, size_t length)
 }
 
 /* A full cell: places side by side (shape 0), in each other (1), or in a chain of odd numbers with one beside each (2), with names that fall
-** and keys, an agent in each, with sixteen actions of this kind, and touches of each place. */
+** and keys, an agent in each, with sixteen actions of this kind, and touches of each place. Where the kind is release, the last place is left
+** out, and its agent lives on the floor. */
 static void make_file(int shape, uint8_t kind)
 {
+    int places = kind == 4 ? 63 : 64;
+
     file_length = 0;
-    for (int place = 1; place < 64; place++) {
+    for (int place = 1; place < places; place++) {
         int parent = shape == 0 ? 0 : shape == 1 ? place - 1 : place < 3 ? 0 : place - (place % 2 == 1 ? 2 : 3);
 
         record((uint8_t[]){6, (uint8_t)place, (uint8_t)parent, (uint8_t)(255 - place), 255, 255, 255, 255, 255, 254, 255}, 11);
     }
     for (uint8_t number = 0; number < 64; number++) {
-        record((uint8_t[]){2, number, number}, 3);
+        record((uint8_t[]){2, number, number < places ? number : 0}, 3);
         for (int action = 0; action < 16; action++)
             record((uint8_t[]){3, number, kind, kind == 3 ? 254 : 255, 255}, 5);
-        record((uint8_t[]){5, number, 255, 255, 255, 255}, 6);
+        if (number < places)
+            record((uint8_t[]){5, number, 255, 255, 255, 255}, 6);
     }
     record((uint8_t[]){4}, 1);
 }
@@ -118,11 +123,11 @@ int main(void)
 
     if (!keeper_fits())
         return 1;
-    for (uint8_t kind = 1; kind <= 3; kind++) {
+    for (uint8_t kind = 1; kind <= 4; kind++) {
         for (int shape = 0; shape < 3; shape++) {
             make_file(shape, kind);
             measure(bare, &used[0]);
-            agent = 63;
+            agent = kind == 4 ? 62 : 63;
             keeper_load(&cell, file, file_length);
             text_length = keeper_length(keeper_list(&cell, text, sizeof text));
             for (int call = 1; call < CALLS - STEPPING; call++)

@@ -75,6 +75,10 @@ case_of 'keys cut' '\006\001\000\007\000\007\000\007\000\007' "$order" 'refused 
 case_of 'keys and name 0' '\006\001\000\000\000\007\000\007\000\007\000\004' "$order" 'refused 6 0\n'
 case_of 'by text and not by number' '\001\001\000\011\000\001\002\001\007\000\002\000\002\003\000\002\011\000\004' \
     '\000\377\000\377\000\377\000\377' 'start 9[7[exit 9]]\n0 looked 0\n0 took 0\n0 took 0\n0 left 0\nend 7[] | 9[]\n'
+case_of 'put' '\002\000\000\003\000\004\011\000\004' '\000\377\000\001\000\000\000\377' \
+    'start release 9\n0 looked 0\n0 took 0\n0 put 0\n0 done 0\nend 9[]\n'
+case_of 'action kind 5' '\002\000\000\003\000\005\000\000\004' "$order" 'refused 7 3\n'
+case_of 'release 0' '\002\000\000\003\000\004\000\000\004' "$order" 'refused 6 3\n'
 case_of 'action of agent 64' '\002\000\000\003\100\001\007\000\004' "$order" 'refused 14 3\n'
 
 typed='7[enter 9] | 9[exit 7]'
@@ -82,6 +86,8 @@ for end in '' '\n' '\r\n'; do
     typed_of 'typed worked example' "$typed$end" "$order" "start $typed\n${lines}end 9[exit 7 | 7[]]\n"
 done
 typed_of 'typed in another order' '9[] | 7/7/7/7[] | open 9' - 'start open 9 | 7[] | 9[]\nend open 9 | 7[] | 9[]\n'
+typed_of 'typed release' 'release 9.open 9\n' '\000\377\000\377\000\377\000\377' \
+    'start release 9.open 9\n0 looked 0\n0 took 0\n0 put 0\n0 looked 0\nend open 9 | 9[]\n'
 typed_of 'typed bare floor' '0\n' "$order" "start 0\n${nobody}end 0\n"
 typed_of 'absent text' - "$order" 'refused 16 0\n\n^\n'
 typed_of 'empty text' '' "$order" 'refused 16 0\n\n^\n'
@@ -156,7 +162,7 @@ if [ "$status" -ne 1 ] || [ -s "$folder/printed" ]; then
 fi
 passed=$((passed + 1))
 
-for program in calls calls-sanitized ask ask-sanitized served served-sanitized keys keys-sanitized layouts layouts-sanitized texts texts-sanitized where where-sanitized header; do
+for program in calls calls-sanitized ask ask-sanitized served served-sanitized keys keys-sanitized layouts layouts-sanitized release release-sanitized texts texts-sanitized where where-sanitized header; do
     printf '%s: ' "$program"
     "target/$program"
     passed=$((passed + 1))

@@ -40,8 +40,9 @@ static void outside(keeper_cell *cell)
         {" 7[]", 0},       {"7[] ", 4},      {"7[]|7[]", 3},    {"7[] |7[]", 5},       {"7[] | ", 6},     {"7", 1},
         {"7[", 2},         {"7[7[]", 5},     {"7[]]", 3},       {"7[]7[]", 3},         {"Enter 7", 0},    {"enter  7", 6},
         {"enter 7.", 8},   {"enter 7[]", 7}, {"enter 07", 6},   {"enter 65536", 10},   {"entre 7", 3},    {"exit", 4},
-        {"e", 1},          {"release 7", 0}, {"7/", 2},         {"7/7[]", 3},          {"7/7/7[]", 5},    {"7/7/7/7/", 7},
+        {"e", 1},          {"release", 7},   {"7/", 2},         {"7/7[]", 3},          {"7/7/7[]", 5},    {"7/7/7/7/", 7},
         {"7/07/7/7[]", 3}, {"0/7/7/7[]", 1}, {"70000[]", 4},    {"7/7/7/65536[]", 10}, {"+7[]", 0},       {"7[\xC3\xA9]", 2},
+        {"release 0", 8},  {"relase 7", 3},  {"release7", 7},   {"release 65536", 12}, {"put 7", 0},      {"Release 7", 0},
     };
 
     for (size_t at = 0; at < sizeof rows / sizeof rows[0]; at++)
@@ -148,6 +149,7 @@ static void listed(keeper_cell *cell)
         {"9[] | 7/7/7/7[]", "7[] | 9[]"},
         {"7[] | 70[] | 7/1/1/1[] | open 9 | enter 9", "enter 9 | open 9 | 7/1/1/1[] | 70[] | 7[]"},
         {"open 1.exit 2.enter 65535 | 65535/0/65535/1[]", "open 1.exit 2.enter 65535 | 65535/0/65535/1[]"},
+        {"release 10 | open 9 | release 1.exit 1 | 7[release 1]", "open 9 | release 1.exit 1 | release 10 | 7[release 1]"},
     };
     size_t length;
 
@@ -156,10 +158,10 @@ static void listed(keeper_cell *cell)
         HOLDS(reading(cell, rows[at][1], strlen(rows[at][1])) == 0 && lists(cell, rows[at][1]));
     }
     HOLDS(reading(cell, "0", 1) == 0 && cell->used == 1 && cell->given == 0 && keeper_list(cell, listing, 1) == 1 << 8 && listing[0] == '0');
-    /* the longest: 64 agents of sixteen actions and 63 places with keys */
-    length = copies(0, "enter 65535", ".", 16);
+    /* the longest: 64 agents of sixteen releases and 63 places with keys */
+    length = copies(0, "release 65535", ".", 16);
     for (int agent = 1; agent < 64; agent++)
-        length = copies(copies(length, " | ", "", 1), "enter 65535", ".", 16);
+        length = copies(copies(length, " | ", "", 1), "release 65535", ".", 16);
     for (int place = 0; place < 63; place++)
         length = copies(length, " | 65535/10000/65535/10000[]", "", 1);
     HOLDS(length == KEEPER_LISTING_LONGEST && reading(cell, typed, length) == 0);

@@ -1,8 +1,7 @@
 -- What an ask tells, of the step that was decided, and the decision carried out if that is still so.
 use Prim.Native.Nat.{ℕ}
 use mathlib.Core.Bool.{Bool, true, cond}
-use lib.Dec.{eqb}
-use Rattle.table.specs.Cell.{State, cellOf, kindOf, exitKind}
+use Rattle.table.specs.Cell.{State, cellOf, kindOf, chooses}
 use Rattle.table.specs.declared.Agent.{Agent}
 use Rattle.table.specs.declared.Cell.{Cell}
 use Rattle.meaning.specs.declared.Answer.{Answer}
@@ -17,9 +16,9 @@ use Rattle.moves.specs.Motions.{shifted, wokenIn}
 use Rattle.step.specs.Decided.{settled, carriedOut}
 use Rattle.step.specs.declared.Decision.{Decision}
 
--- the chosen place of agent a; exit has none
+-- the chosen place of agent a; exit and release have none
 abbrev pub toldBy : Agent → ℕ → ℕ
-toldBy a chosen = cond (eqb (kindOf a) exitKind) noneTold chosen
+toldBy a chosen = cond (chooses (kindOf a)) chosen noneTold
 
 -- how many agents the step would wake: none where no place moves
 abbrev pub wokenBy : State → Decision → ℕ

@@ -11,7 +11,7 @@ use borrow.Author.Tests.{eqb-true}
 use Rattle.sets.specs.Set.{member}
 use Rattle.table.specs.BaseLaws.{Told, yea, nay, told, clash}
 use Rattle.table.specs.Bounds.{Sized}
-use Rattle.table.specs.Cell.{Land, State, none, noAgent, cellOf, landOf, nextAction, kindOf, linked, exitKind, openKind, looksHome}
+use Rattle.table.specs.Cell.{Land, State, none, noAgent, cellOf, landOf, nextAction, kindOf, linked, freshNumber, exitKind, openKind, releaseKind, looksHome, chooses}
 use Rattle.table.specs.Cell.{looking, found, holding, holdingBoth, onWay, onWayOwn, onWayBoth, asleep}
 use Rattle.table.specs.CellLaws.{is-given}
 use Rattle.table.specs.Sound.{sound}
@@ -22,13 +22,13 @@ use Rattle.meaning.specs.declared.Asked.{Asked}
 use Rattle.meaning.specs.declared.Asked.the-variants.{Would}
 use Rattle.meaning.specs.declared.Stepped.{Stepped}
 use Rattle.meaning.specs.Refusals.{answerDiffers}
-use Rattle.meaning.specs.Step.{Outcome, choice, fires, stays, still, turn, take, release, leave, arrive, dissolve, stepAt, step}
+use Rattle.meaning.specs.Step.{Outcome, choice, fires, stays, still, turn, take, release, leave, arrive, dissolve, put, stepAt, step}
 use Rattle.meaning.specs.Run.{made, turnedAway, stepOf}
 use Rattle.meaning.specs.Ask.{noneTold, choiceTold, toldAt, toldPlace, would, askOf, agrees, handsBack, commitOf, handedOf}
 use Rattle.moves.specs.Motions.{shifted, wokenIn}
 use Rattle.moves.specs.declared.Motion.{Motion}
-use Rattle.moves.specs.declared.Motion.the-variants.{Leave, Arrive, Dissolve}
-use Rattle.stages.specs.Changes.{looks, locksSecond, holds, acts, travels, carried, changeAt}
+use Rattle.moves.specs.declared.Motion.the-variants.{Leave, Arrive, Dissolve, Put}
+use Rattle.stages.specs.Changes.{looks, locksSecond, putsOrSleeps, holds, acts, travels, carried, changeAt}
 use Rattle.stages.specs.ChangeLaws.{step-carried}
 use Rattle.stages.specs.declared.Change.{Change}
 use Rattle.stages.specs.declared.Change.the-variants.{Still, Turn, Take, Release, Move}
@@ -62,12 +62,20 @@ settled-told (Take q stage remembered chosen) x a ls = go (told (eqb (getD ls q 
 settled-told (Release p q stage remembered w) x a ls = refl
 settled-told (Move m) x a ls = refl
 
+-- a kind of action that chooses is not exit, and not release
+chooses-not : (other : ℕ) → chooses other ≡ false → (kind : ℕ) → chooses kind ≡ true → eqb kind other ≡ false
+chooses-not other n kind c = go (told (eqb kind other))
+  where
+    go : Told (eqb kind other) → eqb kind other ≡ false
+    go (yea e) = clash c (ap chooses (eqb-true kind other e) ∙ n)
+    go (nay e) = e
+
 module _ (l : Land) (a : Agent) where
   -- what is told of a change
   abbrev tells : Change → ℕ
   tells k = toldBy a (chosenBy k a)
 
-  -- exit tells none, whatever is chosen
+  -- what chooses no place tells none, and so does what chooses none of those there are
   same : (b : Bool) → _≡_ {A = ℕ} (cond b noneTold noneTold) noneTold
   same true = refl
   same false = refl
@@ -78,25 +86,31 @@ module _ (l : Land) (a : Agent) where
   quiet false r s e f = f
 
   abbrev silent : _≡_ {A = ℕ} (toldBy a noneTold) noneTold
-  silent = same (eqb (kindOf a) exitKind)
+  silent = same (chooses (kindOf a))
 
   second-told : (q : ℕ) → tells (locksSecond a q) ≡ toldBy a (choiceTold q)
   unfolding locksSecond
-  second-told q = go (told (ltb q 64)) (told (eqb (kindOf a) exitKind))
+  second-told q = go (told (ltb q 64)) (told (chooses (kindOf a)))
     where
-      go : Told (ltb q 64) → Told (eqb (kindOf a) exitKind) → tells (locksSecond a q) ≡ toldBy a (choiceTold q)
-      go (yea e) (yea k) = rw (e, k)
+      go : Told (ltb q 64) → Told (chooses (kindOf a)) → tells (locksSecond a q) ≡ toldBy a (choiceTold q)
+      go (yea e) (yea k) = rw (e, k, chooses-not exitKind refl (kindOf a) k)
       go (yea e) (nay k) = rw (e, k)
-      go (nay e) (yea k) = rw (e, k)
-      go (nay e) (nay k) = rw (e, k)
+      go (nay e) _ = rw e
+
+  put-told : (q : ℕ) → tells (putsOrSleeps a q) ≡ noneTold
+  unfolding putsOrSleeps
+  put-told q = quiet (ltb q 64) _ _ silent silent
 
   held-told : (wish : ℕ) → tells (holds l a wish) ≡ toldBy a (cond (stays l a) (choiceTold (choice l a wish)) noneTold)
   unfolding holds
-  held-told wish = go (told (stays l a))
+  held-told wish = go (told (stays l a)) (told (chooses (kindOf a))) (told (eqb (kindOf a) releaseKind))
     where
-      go : Told (stays l a) → tells (holds l a wish) ≡ toldBy a (cond (stays l a) (choiceTold (choice l a wish)) noneTold)
-      go (yea e) = rw e (second-told (choice l a wish))
-      go (nay e) = rw e
+      go : Told (stays l a) → Told (chooses (kindOf a)) → Told (eqb (kindOf a) releaseKind)
+          → tells (holds l a wish) ≡ toldBy a (cond (stays l a) (choiceTold (choice l a wish)) noneTold)
+      go (yea e) (yea k) _ = rw (e, chooses-not releaseKind refl (kindOf a) k) (second-told (choice l a wish))
+      go (yea e) (nay k) (yea r) = rw (e, r) (put-told (freshNumber (l .used)) ∙ sym (rw k))
+      go (yea e) (nay k) (nay r) = rw (e, r) (second-told (choice l a wish))
+      go (nay e) _ _ = rw e
 
   acted-told : tells (acts l a) ≡ toldBy a (cond (fires l a) (a .chosen) noneTold)
   unfolding acts
@@ -137,10 +151,11 @@ module _ (l : Land) (a : Agent) where
 
 -- the word of a motion
 motion-told : (c : State) (x : ℕ) (a : Agent) (m : Motion) (place : ℕ) → Would (motionWord m) (wokenIn c a m) place ≡ would (shifted c x a m) place
-unfolding leave arrive dissolve
+unfolding leave arrive dissolve put
 motion-told c x a (Leave d) place = refl
 motion-told c x a (Arrive d) place = refl
 motion-told c x a Dissolve place = refl
+motion-told c x a (Put q) place = refl
 
 -- word and number woken of the decision are those of the change, carried out
 change-answered : (k : Change) (t : Cell) (x : ℕ) (a : Agent) (place : ℕ)

@@ -8,23 +8,24 @@ use step::Decision;
 use table::Agent;
 use table::Cell;
 ghost use mathlib.Core.Path.{_≡_};
-ghost use mathlib.Core.Bool.{cond};
-ghost use lib.Dec.{eqb};
-ghost use Rattle.table.specs.Cell.{kindOf, cellOf};
+ghost use Rattle.table.specs.Cell.{cellOf};
 ghost use Rattle.meaning.specs.Ask.{askOf, agrees as agreesWith, commitOf};
-ghost use Rattle.asking.specs.Asked.{wokenBy, askedOf, madeIf};
+ghost use Rattle.asking.specs.Asked.{toldBy, wokenBy, askedOf, madeIf};
 
 // A commit of the very number that an ask gave.
 pub use number::goes_on;
 pub use number::handed;
 pub use number::hands_back;
 
-// The place that an ask of agent a tells: none for exit.
+// The place that an ask of agent a tells: none for exit and release.
 fn told(a: Agent, chosen: u8) -> u8
-    ensures { λ r. ⌜ r ≡ cond (eqb (kindOf a) 2) 255 chosen ⌝ }
+    ensures { λ r. ⌜ r ≡ toldBy a chosen ⌝ }
 {
     let x = table::next_action(a);
-    if x.kind == 2 { 255 } else { chosen }
+    if x.kind == 1 {
+        return chosen;
+    }
+    if x.kind == 3 { chosen } else { 255 }
 }
 
 // How many agents the step that was decided would wake.

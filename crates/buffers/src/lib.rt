@@ -20,7 +20,7 @@ pub const ORDER_BYTES: usize = 32768;
 // How much room walk has for a file with a typed layout. It is read whole or not at all: one that fills the room is too long.
 pub const TYPED_BYTES: usize = 65536;
 
-// How much room walk has for a report. None is longer than 312,406 bytes.
+// How much room walk has for a report. None is longer than 316,502 bytes.
 pub const TEXT_BYTES: usize = 524288;
 
 // The report of the first n bytes of a cell file's buffer and the first m of an order's, or of all where there are fewer.

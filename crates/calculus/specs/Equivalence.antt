@@ -2,9 +2,9 @@
 -- Idea: "part L stands at the top of P, and P′ is left" is an inductive relation; each rule of equivalence carries it across both ways.
 use Prim.Native.Nat.{ℕ}
 use Rattle.table.specs.declared.Name.{Name}
-use Rattle.calculus.specs.Terms.{Term, amb, nil, _∣_, enter, exit, «open», _≅_, struct-refl, struct-symm, struct-trans}
+use Rattle.calculus.specs.Terms.{Term, amb, nil, _∣_, enter, exit, «open», release, _≅_, struct-refl, struct-symm, struct-trans}
 use Rattle.calculus.specs.Terms.{struct-par-zero, struct-par-comm, struct-par-assoc, struct-amb, struct-par, struct-enter}
-use Rattle.calculus.specs.Terms.{struct-exit, struct-open}
+use Rattle.calculus.specs.Terms.{struct-exit, struct-open, struct-release}
 
 -- the part L stands at the top of P, and P′ is left
 pub data Takes : Term → Term → Term → Type 0 where
@@ -12,6 +12,7 @@ pub data Takes : Term → Term → Term → Type 0 where
   take-enter : {n : ℕ} {P : Term} → Takes (enter n P) (enter n P) nil
   take-exit : {n : ℕ} {P : Term} → Takes (exit n P) (exit n P) nil
   take-open : {n : ℕ} {P : Term} → Takes («open» n P) («open» n P) nil
+  take-release : {n : ℕ} {P : Term} → Takes (release n P) (release n P) nil
   take-left : {P Q L P′ : Term} → Takes P L P′ → Takes (P ∣ Q) L (P′ ∣ Q)
   take-right : {P Q L Q′ : Term} → Takes Q L Q′ → Takes (P ∣ Q) L (P ∣ Q′)
 
@@ -21,24 +22,28 @@ pub data Like : Term → Term → Type 0 where
   like-enter : {n : ℕ} {P Q : Term} → P ≅ Q → Like (enter n P) (enter n Q)
   like-exit : {n : ℕ} {P Q : Term} → P ≅ Q → Like (exit n P) (exit n Q)
   like-open : {n : ℕ} {P Q : Term} → P ≅ Q → Like («open» n P) («open» n Q)
+  like-release : {n : ℕ} {P Q : Term} → P ≅ Q → Like (release n P) (release n Q)
 
 like-symm : {L M : Term} → Like L M → Like M L
 like-symm (like-amb e) = like-amb (struct-symm e)
 like-symm (like-enter e) = like-enter (struct-symm e)
 like-symm (like-exit e) = like-exit (struct-symm e)
 like-symm (like-open e) = like-open (struct-symm e)
+like-symm (like-release e) = like-release (struct-symm e)
 
 like-trans : {L M N : Term} → Like L M → Like M N → Like L N
 like-trans (like-amb e) (like-amb f) = like-amb (struct-trans e f)
 like-trans (like-enter e) (like-enter f) = like-enter (struct-trans e f)
 like-trans (like-exit e) (like-exit f) = like-exit (struct-trans e f)
 like-trans (like-open e) (like-open f) = like-open (struct-trans e f)
+like-trans (like-release e) (like-release f) = like-release (struct-trans e f)
 
 taken-like : {P L P′ : Term} → Takes P L P′ → Like L L
 taken-like take-amb = like-amb struct-refl
 taken-like take-enter = like-enter struct-refl
 taken-like take-exit = like-exit struct-refl
 taken-like take-open = like-open struct-refl
+taken-like take-release = like-release struct-refl
 taken-like (take-left o) = taken-like o
 taken-like (take-right o) = taken-like o
 
@@ -104,6 +109,7 @@ alone-forth k q take-amb = record { part = _; rest = nil; takes = q; like = like
 alone-forth k q take-enter = record { part = _; rest = nil; takes = q; like = like-symm k; same = struct-refl }
 alone-forth k q take-exit = record { part = _; rest = nil; takes = q; like = like-symm k; same = struct-refl }
 alone-forth k q take-open = record { part = _; rest = nil; takes = q; like = like-symm k; same = struct-refl }
+alone-forth k q take-release = record { part = _; rest = nil; takes = q; like = like-symm k; same = struct-refl }
 
 alone : {P Q : Term} → Like P Q → Takes P P nil → Takes Q Q nil → SameParts P Q
 alone k p q = record { back = λ o. alone-forth (like-symm k) p o; forth = λ o. alone-forth k q o }
@@ -120,6 +126,7 @@ same-parts (struct-par e) = record { back = λ o. par-forth (parts-symm (same-pa
 same-parts (struct-enter e) = alone (like-enter e) take-enter take-enter
 same-parts (struct-exit e) = alone (like-exit e) take-exit take-exit
 same-parts (struct-open e) = alone (like-open e) take-open take-open
+same-parts (struct-release e) = alone (like-release e) take-release take-release
 
 -- a part of a term stands in each equivalent term
 pub inverted : {X Y L Y′ : Term} → X ≅ Y → Takes Y L Y′ → Match X L Y′

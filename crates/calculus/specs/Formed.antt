@@ -8,7 +8,7 @@ use Rattle.table.specs.declared.Action.{Action}
 use Rattle.meaning.specs.Calculus.{Tree}
 use Rattle.calculus.specs.Up.{Up}
 
--- a row of actions, each of a kind 1 to 3 and a name that is not 0
+-- a row of actions, each of a kind 1 to 4 and a name that is not 0
 pub data Good : List Action → Type 0 where
   none : Good []
   more : {x : Action} {rest : List Action} → 1 ≤ x .kind → x .kind ≤ lastKind → 1 ≤ x .name → Good rest → Good (x ∷ rest)

@@ -10,13 +10,16 @@ pub mod Spots
 pub mod Parallel
 pub mod Depth
 pub mod Contents
+pub mod Ambients
 pub mod Above
 pub mod Near
 pub mod MoveFormed
 pub mod EnterExit
 pub mod OpenUp
+pub mod PutOut
 pub mod MovesReduce
 pub mod PartsHeld
+pub mod Answers
 pub mod ReductionsMove
 pub mod Published
 pub mod Rights

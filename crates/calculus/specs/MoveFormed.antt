@@ -1,6 +1,6 @@
 -- A move keeps a tree formed, and the agent that makes it has a number below 64.
 -- Idea: an enter and an exit change one parent to a place in use (`enter-up`, `exit-up` keep the way to the floor); an opening replaces one place by
--- the agent's own wherever it was named (`opened-up`).
+-- the agent's own wherever it was named (`opened-up`); a release puts a place in which nothing stands (`put-up`).
 use mathlib.Core.Path.{_≡_, refl, sym, ap, _∙_, subst}
 use mathlib.Core.Logic.{_≢_}
 use mathlib.Core.List.{List, []}
@@ -11,12 +11,13 @@ use lib.Dec.{ltb, eqb}
 use borrow.Author.Tests.{eqb-false, ne-eqb, ltb-true, ltb-false}
 use Rattle.table.specs.Base.{upd}
 use Rattle.table.specs.BaseLaws.{Told, yea, nay, told, clash, upd-other, upd-all}
-use Rattle.table.specs.Cell.{noName, exitKind, keyOf}
+use Rattle.table.specs.Cell.{noName, plainName, exitKind, keyOf, freshNumber}
+use Rattle.table.specs.FreshLaws.{fresh-unused}
 use Rattle.table.specs.declared.Action.{Action}
-use Rattle.meaning.specs.Calculus.{Tree, firstOf, restOf, nextOf, putInto, openUp, Move}
-use Rattle.calculus.specs.Up.{Up, enter-up, exit-up, opened-up}
+use Rattle.meaning.specs.Calculus.{Tree, firstOf, restOf, nextOf, putInto, openUp, putOut, Move}
+use Rattle.calculus.specs.Up.{Up, enter-up, exit-up, put-up, opened-up}
 use Rattle.calculus.specs.Formed.{Good, none, more, Formed}
-use Rattle.calculus.specs.MoveCases.{Stands, MoveCase, by-enter, by-exit, by-open, move-case, case-kind}
+use Rattle.calculus.specs.MoveCases.{Stands, MoveCase, by-enter, by-exit, by-open, by-release, move-case, case-kind}
 use Rattle.calculus.specs.Above.{below-one, below-not}
 
 -- ---- rows of actions
@@ -125,12 +126,49 @@ module _ (t : Tree) (w : Formed t) (a : ℕ) where
         go q (yea e) = rw e (still-used 0 floor-not (w .floor-used))
         go q (nay e) = rw e (moved-used (t .parent q) (w .parent-used q))
 
+  -- ---- release
+
+  -- m is not in use
+  module _ (m : ℕ) (l : m < 64) (free : t .used m ≡ false) where
+    pub new-placed : m ≢ 0
+    new-placed e = clash (ap (t .used) e ∙ w .floor-used) free
+
+    -- a place in use is another
+    pub new-other : (r : ℕ) → t .used r ≡ true → r ≢ m
+    new-other r u e = clash (ap (t .used) (sym e) ∙ u) free
+
+    -- and stays in use
+    kept-used : (r : ℕ) → t .used r ≡ true → upd (t .used) m true r ≡ true
+    kept-used = upd-all (t .used) m true (λ r b. t .used r ≡ true → b ≡ true) (λ _. refl) (λ r _ u. u)
+
+    -- the tree with the new place is formed
+    pub put-out-formed : Formed (putOut t a m)
+    unfolding putOut
+    put-out-formed = record {
+      floor-parent = upd-other (t .parent) m 0 (t .home a) (λ e. new-placed (sym e)) ∙ w .floor-parent;
+      floor-name = upd-other (t .name) m 0 (plainName (nextOf t a .name)) (λ e. new-placed (sym e)) ∙ w .floor-name;
+      floor-used = kept-used 0 (w .floor-used);
+      tree = put-up (t .parent) (w .floor-parent) m (t .home a) new-placed (new-other (t .home a) (w .homes a))
+          (λ q. new-other (t .parent q) (w .parent-used q)) (w .tree);
+      parent-used = upd-all (t .parent) m (t .home a) (λ q r. upd (t .used) m true r ≡ true) (kept-used (t .home a) (w .homes a))
+          (λ q _. kept-used (t .parent q) (w .parent-used q));
+      small = upd-all (t .used) m true (λ r b. b ≡ true → r < 64) (λ _. l) (λ r _. w .small r);
+      homes = λ x. kept-used (t .home x) (w .homes x);
+      good = spent-good;
+      few = spent-few;
+    }
+
+-- the smallest unused number is not in use
+pub fresh-free : (t : Tree) {m : ℕ} → m < 64 → freshNumber (t .used) ≡ m → t .used m ≡ false
+fresh-free t {m} l e = subst (λ (q : ℕ). t .used q ≡ false) e (fresh-unused (t .used) (subst (λ (q : ℕ). q < 64) (sym e) l))
+
 -- ---- any move
 
 case-formed : {t u : Tree} {a : ℕ} → Formed t → MoveCase t a u → Formed u
 case-formed {t} {a} w (by-enter m k h s d n) = enter-formed t w a m h s d
 case-formed {t} {a} w (by-exit k h n) = exit-formed t w a h
 case-formed {t} {a} w (by-open m k s n) = open-formed t w a m s
+case-formed {t} {a} w (by-release m k l e) = put-out-formed t w a m l (fresh-free t l e)
 
 -- a move keeps a tree formed
 pub move-formed : {t u : Tree} {a : ℕ} → Formed t → Move t a u → Formed u

@@ -3,7 +3,7 @@
 use mathlib.Core.Path.{_≡_, refl, sym, _∙_, subst, fun-ext}
 use mathlib.Core.Logic.{_≢_, _⊎_, inl, inr}
 use Prim.Native.Nat.{ℕ, zero, suc}
-use mathlib.Core.Bool.{true}
+use mathlib.Core.Bool.{Bool, true}
 use Rattle.table.specs.Base.{upd}
 use Rattle.table.specs.BaseLaws.{eq?}
 use Rattle.meaning.specs.Calculus.{Tree, standsAt}
@@ -91,13 +91,14 @@ module _ (t u : Tree) (w : Formed t) (v : Formed u) (p : ℕ) (E : ℕ → Type 
         (of-path (λ j. parallel (fun-ext (λ x. sym (c .agents s far untouched x)) j) 64 ∣ parallel (fun-ext (λ r. sym (beside-same r)) j) 64))
 
   -- from p up to the floor
-  pub ascends : {q : ℕ} → Up (t .parent) q → t .used q ≡ true → Above (t .parent) p q → Spot (held t q) (held u q) → Spot (held t 0) (held u 0)
+  pub ascends : {room : Bool} {q : ℕ} → Up (t .parent) q → t .used q ≡ true → Above (t .parent) p q → Spot room (held t q) (held u q)
+      → Spot room (held t 0) (held u 0)
   ascends base k a s = s
-  ascends (up q y) k a s = go (eq? q 0) (λ b r. ascends y (w .parent-used q) b r)
+  ascends {room} (up q y) k a s = go (eq? q 0) (λ b r. ascends y (w .parent-used q) b r)
     where
-      go : (q ≡ 0) ⊎ (q ≢ 0) → (Above (t .parent) p (t .parent q) → Spot (held t (t .parent q)) (held u (t .parent q))
-          → Spot (held t 0) (held u 0)) → Spot (held t 0) (held u 0)
-      go (inl e) f = subst (λ r. Spot (held t r) (held u r)) e s
+      go : (q ≡ 0) ⊎ (q ≢ 0) → (Above (t .parent) p (t .parent q) → Spot room (held t (t .parent q)) (held u (t .parent q))
+          → Spot room (held t 0) (held u 0)) → Spot room (held t 0) (held u 0)
+      go (inl e) f = subst (λ r. Spot room (held t r) (held u r)) e s
       go (inr d) f =
           let i : Stands t q (t .parent q) = record { used = k; placed = d; parent = refl } in
           f (above-next a (t .parent q) refl) (within s (place-first t w (t .parent q) q i) (climbs (t .parent q) q a i))

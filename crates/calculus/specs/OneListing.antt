@@ -2,12 +2,12 @@
 -- Idea: equivalence leaves the texts of a term's parts the same but for their order, and in byte order they are the same.
 use mathlib.Core.Path.{_≡_, refl, sym, ap, _∙_}
 use mathlib.Core.List.{[], _∷_, append-assoc, append-nil}
-use Rattle.table.specs.Cell.{enterKind, exitKind, openKind}
+use Rattle.table.specs.Cell.{enterKind, exitKind, openKind, releaseKind}
 use Rattle.meaning.specs.Sorted.{sorted}
 use Rattle.meaning.specs.SortedLaws.{sorted-comm, sorted-cong}
 use Rattle.meaning.specs.Listing.{bracketed, inOrder}
 use Rattle.calculus.specs.Terms.{Term, _≅_, struct-refl, struct-symm, struct-trans, struct-par-zero}
-use Rattle.calculus.specs.Terms.{struct-par-comm, struct-par-assoc, struct-amb, struct-par, struct-enter, struct-exit, struct-open}
+use Rattle.calculus.specs.Terms.{struct-par-comm, struct-par-assoc, struct-amb, struct-par, struct-enter, struct-exit, struct-open, struct-release}
 use Rattle.calculus.specs.TermListing.{Texts, placesOnly, write, actionThen, texts, orZero, listed}
 
 -- the same texts in order
@@ -47,6 +47,7 @@ same-order (struct-amb {n} e) = order-same (ap (λ x. placesOnly (bracketed n x 
 same-order (struct-enter {n} e) = order-same (ap (actionThen enterKind n) (order-written (same-order e)))
 same-order (struct-exit {n} e) = order-same (ap (actionThen exitKind n) (order-written (same-order e)))
 same-order (struct-open {n} e) = order-same (ap (actionThen openKind n) (order-written (same-order e)))
+same-order (struct-release {n} e) = order-same (ap (actionThen releaseKind n) (order-written (same-order e)))
 
 -- so they have one listing
 pub one-listing : {P Q : Term} → P ≅ Q → listed P ≡ listed Q

@@ -21,6 +21,12 @@ unfolding parallel
 parallel-cong zero h = struct-refl
 parallel-cong (suc n) h = pars (h n) (parallel-cong n h)
 
+-- nothing in parallel
+pub parallel-none : {f : ℕ → Term} (n : ℕ) → ((i : ℕ) → f i ≡ nil) → parallel f n ≅ nil
+unfolding parallel
+parallel-none zero h = struct-refl
+parallel-none (suc n) h = pars (of-path (h n)) (parallel-none n h) ⨾ struct-par-zero
+
 -- pairs in parallel
 pub parallel-par : (f g : ℕ → Term) (n : ℕ) → parallel (λ i. f i ∣ g i) n ≅ parallel f n ∣ parallel g n
 unfolding parallel

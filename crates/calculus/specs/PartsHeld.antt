@@ -9,17 +9,17 @@ use lib.Dec.{eqb}
 use borrow.Author.Tests.{eqb-true}
 use Rattle.table.specs.Base.{upd}
 use Rattle.table.specs.BaseLaws.{Told, yea, nay, told, eq?, upd-at, upd-other}
-use Rattle.table.specs.Cell.{enterKind, exitKind, openKind, lastKind}
-use Rattle.table.specs.Kinds.{IsKind, enters, exits, opens, is-kind}
+use Rattle.table.specs.Cell.{enterKind, exitKind, openKind, releaseKind, lastKind}
+use Rattle.table.specs.Kinds.{IsKind, enters, exits, opens, releases, is-kind}
 use Rattle.table.specs.declared.Name.{Name}
 use Rattle.table.specs.declared.Action.{Action}
 use Rattle.meaning.specs.Calculus.{Tree, firstOf, restOf, standsAt}
 use Rattle.calculus.specs.Formed.{Good, none, more, Formed}
 use Rattle.calculus.specs.MoveCases.{Stands, stands-in}
-use Rattle.calculus.specs.Terms.{Term, amb, nil, _∣_, enter, exit, «open», _≅_, struct-symm, struct-par}
+use Rattle.calculus.specs.Terms.{Term, amb, nil, _∣_, enter, exit, «open», release, _≅_, struct-symm, struct-par}
 use Rattle.calculus.specs.TermLaws.{_⨾_, of-path, zero-par, struct-par-right}
-use Rattle.calculus.specs.Equivalence.{Takes, take-amb, take-enter, take-exit, take-open, take-left, take-right, Like, like-amb}
-use Rattle.calculus.specs.Equivalence.{like-enter, like-exit, like-open}
+use Rattle.calculus.specs.Equivalence.{Takes, take-amb, take-enter, take-exit, take-open, take-release, take-left, take-right, Like, like-amb}
+use Rattle.calculus.specs.Equivalence.{like-enter, like-exit, like-open, like-release}
 use Rattle.calculus.specs.TermOf.{prefix, row, parallel, agentAt, placeAt, held}
 use Rattle.calculus.specs.Parallel.{Found, in-first, in-second, found}
 
@@ -32,12 +32,14 @@ NotNil (P ∣ Q) = Unit {0}
 NotNil (enter n P) = Unit {0}
 NotNil (exit n P) = Unit {0}
 NotNil («open» n P) = Unit {0}
+NotNil (release n P) = Unit {0}
 
 take-not-nil : {X L Z : Term} → Takes X L Z → NotNil X
 take-not-nil take-amb = tt
 take-not-nil take-enter = tt
 take-not-nil take-exit = tt
 take-not-nil take-open = tt
+take-not-nil take-release = tt
 take-not-nil (take-left o) = tt
 take-not-nil (take-right o) = tt
 
@@ -51,6 +53,7 @@ pub data Acting (l : List Action) : Term → Type 0 where
   act-enter : firstOf l .kind ≡ enterKind → Acting l (enter (firstOf l .name) (row (restOf l)))
   act-exit : firstOf l .kind ≡ exitKind → Acting l (exit (firstOf l .name) (row (restOf l)))
   act-open : firstOf l .kind ≡ openKind → Acting l («open» (firstOf l .name) (row (restOf l)))
+  act-release : firstOf l .kind ≡ releaseKind → Acting l (release (firstOf l .name) (row (restOf l)))
 
 take-action : {x : Action} {l : List Action} {L Z : Term} → 1 ≤ x .kind → x .kind ≤ lastKind → Takes (row (x ∷ l)) L Z → Acting (x ∷ l) L × (Z ≡ nil)
 unfolding row prefix
@@ -60,6 +63,7 @@ take-action {x} {l} {L} {Z} low high o = go (is-kind (x .kind) low high) refl (u
     go enters e take-enter = (act-enter e, refl)
     go exits e take-exit = (act-exit e, refl)
     go opens e take-open = (act-open e, refl)
+    go releases e take-release = (act-release e, refl)
 
 take-row : {l : List Action} → Good l → {L Z : Term} → Takes (row l) L Z → Acting l L × (Z ≡ nil)
 unfolding row
@@ -102,11 +106,12 @@ take-place t g p q {L} {Z} o = go (told (standsAt t q p))
 -- the head of a part, as a number: an action's kind, 0 for an ambient
 unfoldable pub head : Term → ℕ
 head (amb n P) = 0
-head nil = 4
-head (P ∣ Q) = 5
+head nil = 5
+head (P ∣ Q) = 6
 head (enter n P) = 1
 head (exit n P) = 2
 head («open» n P) = 3
+head (release n P) = 4
 
 like-head : {L M : Term} → Like L M → head L ≡ head M
 unfolding head
@@ -114,17 +119,19 @@ like-head (like-amb e) = refl
 like-head (like-enter e) = refl
 like-head (like-exit e) = refl
 like-head (like-open e) = refl
+like-head (like-release e) = refl
 
 acting-head : {l : List Action} {L : Term} → Acting l L → 1 ≤ head L
 unfolding head
 acting-head (act-enter k) = omega arith
 acting-head (act-exit k) = omega arith
 acting-head (act-open k) = omega arith
+acting-head (act-release k) = omega arith
 
 like-place : {n m : Name} {P Q : Term} → Like (amb n P) (amb m Q) → (n ≡ m) × (P ≅ Q)
 like-place (like-amb e) = (refl, e)
 
--- a row like `enter n. P`, `exit n. P` or `open n. P` has that action first
+-- a row like `enter n. P`, `exit n. P`, `open n. P` or `release n. P` has that action first
 pub acting-enter : {l : List Action} {M P : Term} {n : ℕ} → Acting l M → Like M (enter n P)
     → (firstOf l .kind ≡ enterKind) × (firstOf l .name ≡ n) × (row (restOf l) ≅ P)
 acting-enter (act-enter k) (like-enter e) = (k, refl, e)
@@ -136,6 +143,10 @@ acting-exit (act-exit k) (like-exit e) = (k, refl, e)
 pub acting-open : {l : List Action} {M P : Term} {n : ℕ} → Acting l M → Like M («open» n P)
     → (firstOf l .kind ≡ openKind) × (firstOf l .name ≡ n) × (row (restOf l) ≅ P)
 acting-open (act-open k) (like-open e) = (k, refl, e)
+
+pub acting-release : {l : List Action} {M P : Term} {n : ℕ} → Acting l M → Like M (release n P)
+    → (firstOf l .kind ≡ releaseKind) × (firstOf l .name ≡ n) × (row (restOf l) ≅ P)
+acting-release (act-release k) (like-release e) = (k, refl, e)
 
 -- ---- what a place holds, or some of it
 

@@ -1,12 +1,15 @@
 -- The moves of a formed tree are the reductions of its term in the published calculus, both ways: `published`.
 -- Idea: one move by MovesReduce and ReductionsMove; any number of them by (Red Struct), since the tree reached has the term reached up to
 -- equivalence.
+use mathlib.Core.Path.{subst}
 use Prim.Native.Nat.{ℕ, _<_}
+use lib.Dec.{ltb}
 use Rattle.meaning.specs.Calculus.{Tree, Move}
 use Rattle.calculus.specs.Formed.{Formed}
 use Rattle.calculus.specs.MoveFormed.{move-formed, mover-below-64}
-use Rattle.calculus.specs.Terms.{Term, _≅_, struct-refl, struct-symm, _⟶_, red-struct, _⟶*_, red-none, red-then}
+use Rattle.calculus.specs.Terms.{Term, _≅_, struct-refl, struct-symm, Reduces, room, _⟶_, red-struct, _⟶*_, red-none, red-then}
 use Rattle.calculus.specs.TermOf.{term}
+use Rattle.calculus.specs.Weights.{weigh-same}
 use Rattle.calculus.specs.MovesReduce.{move-reduces}
 use Rattle.calculus.specs.ReductionsMove.{Matched, reduction-moves}
 
@@ -42,10 +45,11 @@ pub published-run : {t u : Tree} → Formed t → Moves t u → term t ⟶* term
 published-run w moves-none = red-none
 published-run w (moves-then v m) = red-then (move-reduces w v) (published-run (move-formed w v) m)
 
-reached : {t : Tree} {P Q : Term} → Formed t → P ≅ term t → P ⟶* Q → Reached t Q
+reached : {t : Tree} {P R : Term} → Formed t → P ≅ term t → P ⟶* R → Reached t R
 reached {t} w e red-none = record { after = t; moves = moves-none; same = e }
-reached w e (red-then r s) =
-    let m = reduction-moves w (red-struct (struct-symm e) r struct-refl) in
+reached {t} {P} w e (red-then {Q} r s) =
+    let same : Reduces (room (term t)) P Q = subst (λ (n : ℕ). Reduces (ltb n 63) P Q) (weigh-same 0 1 e) r in
+    let m = reduction-moves w (red-struct (struct-symm e) same struct-refl) in
     let z = reached (move-formed w (m .move)) (m .same) s in
     record { after = z .after; moves = moves-then (m .move) (z .moves); same = z .same }
 

@@ -3,48 +3,33 @@
 -- what the tree's move asks for, and what the tree then holds is the rule's other side; `climbs` carries the answer up again.
 use mathlib.Core.Path.{_≡_, refl, sym, ap, _∙_, subst, subst₃}
 use mathlib.Core.Logic.{_≢_, inl, inr}
-use Prim.Native.Nat.{ℕ, _≤_, _<_}
-use mathlib.Core.Bool.{true}
+use Prim.Native.Nat.{ℕ, _<_}
+use mathlib.Core.Bool.{Bool, true}
 use native.Mathlib.Omega.{arith}
+use borrow.Author.Tests.{ltb-true}
 use Rattle.table.specs.Base.{upd}
 use Rattle.table.specs.BaseLaws.{upd-at}
-use Rattle.table.specs.Cell.{enterKind, exitKind, openKind, keyOf}
+use Rattle.table.specs.Cell.{enterKind, exitKind, openKind, releaseKind, keyOf, plainName, freshNumber}
 use Rattle.table.specs.declared.Name.{Name}
-use Rattle.meaning.specs.Calculus.{Tree, nextOf, restOf, putInto, openUp, Move}
+use Rattle.meaning.specs.Calculus.{Tree, nextOf, restOf, hasRoom, putInto, openUp, putOut, Move}
 use Rattle.calculus.specs.Formed.{Formed}
-use Rattle.calculus.specs.MoveCases.{Stands, by-enter, by-exit, by-open, case-move}
-use Rattle.calculus.specs.MoveFormed.{enter-formed, exit-formed, open-formed, move-formed}
-use Rattle.calculus.specs.Above.{Above, above-self, above-next, below-one, below-not}
-use Rattle.calculus.specs.Terms.{Term, amb, nil, _∣_, enter, exit, «open», _≅_, struct-refl, struct-symm, struct-par-assoc, struct-amb, _⟶_}
-use Rattle.calculus.specs.TermLaws.{_⨾_, of-path, renamed, pars}
-use Rattle.calculus.specs.Equivalence.{Takes, take-enter, take-exit, take-open}
-use Rattle.calculus.specs.Spots.{rule-enter, rule-exit, rule-open, Spot, at-top, within, spot}
-use Rattle.calculus.specs.TermOf.{row, agentAt, placeAt, level, held, term}
-use Rattle.calculus.specs.Depth.{unfolds}
-use Rattle.calculus.specs.Contents.{agentsOf, agentsBut, placesOf, placesBut}
-use Rattle.calculus.specs.Near.{Local, climbs}
+use Rattle.calculus.specs.MoveCases.{Stands, by-enter, by-exit, by-open, by-release, case-move}
+use Rattle.calculus.specs.MoveFormed.{enter-formed, exit-formed, open-formed, put-out-formed, fresh-free}
+use Rattle.calculus.specs.Above.{above-self, below-one, below-not}
+use Rattle.calculus.specs.Terms.{Term, amb, nil, _∣_, enter, exit, «open», release, _≅_, struct-refl, struct-symm, struct-par-assoc}
+use Rattle.calculus.specs.Terms.{struct-amb, Reduces, _⟶_}
+use Rattle.calculus.specs.TermLaws.{_⨾_, renamed, swap, pars}
+use Rattle.calculus.specs.Equivalence.{take-enter, take-exit, take-open, take-release}
+use Rattle.calculus.specs.Spots.{rule-enter, rule-exit, rule-open, rule-release, Spot, at-top, within, spot}
+use Rattle.calculus.specs.TermOf.{row, agentAt, placeAt, held, term}
+use Rattle.calculus.specs.Contents.{agentsOf, agentsBut, placesOf, placesBut, besideAgent}
+use Rattle.calculus.specs.Ambients.{room-ambients}
 use Rattle.calculus.specs.EnterExit.{Two, Travel, travel-local, enter-after, exit-after}
 use Rattle.calculus.specs.OpenUp.{open-local, open-after}
-use Rattle.calculus.specs.PartsHeld.{head, some-all, some-places, some-agents, acting-enter, acting-exit, acting-open, FoundPlace}
-use Rattle.calculus.specs.PartsHeld.{FoundAgent, found-place, found-agent}
-
--- a move near a place in s or below it, after which s holds Q
-record Answer (t : Tree) (s : ℕ) (Q : Term) : Type 1 where
-  who : ℕ
-  after : Tree
-  move : Move t who after
-  place : ℕ
-  touched : ℕ → Type 0
-  change : Local t after place touched
-  above : Above (t .parent) place s
-  holds : held after s ≅ Q
-
--- a place in s and an agent in s, with the rest of s
-abbrev PlaceIn : Tree → ℕ → Name → Term → Term → Type 0
-PlaceIn t s n P R = FoundPlace t s (agentAt t s) (placeAt t (held t) s) n P R
-
-abbrev AgentIn : Tree → ℕ → Term → Term → Type 0
-AgentIn t s L R = FoundAgent t s (agentAt t s) (placeAt t (held t) s) L R
+use Rattle.calculus.specs.PutOut.{put-local, put-after}
+use Rattle.calculus.specs.PartsHeld.{head, some-all, some-places, some-agents, acting-enter, acting-exit, acting-open, acting-release}
+use Rattle.calculus.specs.PartsHeld.{FoundPlace, found-place}
+use Rattle.calculus.specs.Answers.{Answer, PlaceIn, AgentIn, place-in, agent-in, widen, rises}
 
 -- agent a's own place h, named n, stands in s beside X and holds Q beside the agent
 record EnterAt (t : Tree) (a s h : ℕ) (n : Name) (X Q : Term) : Type 0 where
@@ -64,18 +49,6 @@ record ExitAt (t : Tree) (a : ℕ) (n o : Name) (Q R R₀ : Term) (h m s : ℕ) 
   outer-left : agentsOf t s ∣ placesBut t s m ≅ R₀
 
 module _ (t : Tree) (w : Formed t) where
-  -- what a place in use holds is its agents and its places
-  look : (s : ℕ) {X : Term} → t .used s ≡ true → held t s ≅ X → agentsOf t s ∣ placesOf t s ≅ X
-  unfolding level
-  look s us e = of-path (sym (unfolds t w s us)) ⨾ e
-
-  -- an ambient in what s holds is a place in s; an action in it is the next of an agent in s
-  place-in : (s : ℕ) {n : Name} {P R : Term} → t .used s ≡ true → held t s ≅ amb n P ∣ R → PlaceIn t s n P R
-  place-in s us e = found-place t w s (agentAt t s) (placeAt t (held t) s) (some-all t s) (look s us e)
-
-  agent-in : (s : ℕ) {L R : Term} → t .used s ≡ true → Takes L L nil → 1 ≤ head L → held t s ≅ L ∣ R → AgentIn t s L R
-  agent-in s us o k e = found-agent t w s (agentAt t s) (placeAt t (held t) s) (some-all t s) o k (look s us e)
-
   -- ---- Red Enter
 
   enter-at : (a s : ℕ) {n m : Name} {P Q R R₀ : Term} → a < 64 → nextOf t a .kind ≡ enterKind → nextOf t a .name ≡ keyOf enterKind m
@@ -111,10 +84,10 @@ module _ (t : Tree) (w : Formed t) where
   enter-answer : (s : ℕ) {n m : Name} {P Q R R₀ : Term} → t .used s ≡ true → held t s ≅ (amb n (enter (keyOf enterKind m) P ∣ Q) ∣ amb m R) ∣ R₀
       → Answer t s (amb m (amb n (P ∣ Q) ∣ R) ∣ R₀)
   unfolding head
-  enter-answer s {n} {m} {P} {Q} {R} {R₀} us e = go (place-in s us (e ⨾ struct-par-assoc))
+  enter-answer s {n} {m} {P} {Q} {R} {R₀} us e = go (place-in t w s us (e ⨾ struct-par-assoc))
     where
       go : PlaceIn t s n (enter (keyOf enterKind m) P ∣ Q) (amb m R ∣ R₀) → Answer t s (amb m (amb n (P ∣ Q) ∣ R) ∣ R₀)
-      go y = at (agent-in (y .which) (y .stands .used) take-enter (omega arith) (y .holds))
+      go y = at (agent-in t w (y .which) (y .stands .used) take-enter (omega arith) (y .holds))
         where
           at : AgentIn t (y .which) (enter (keyOf enterKind m) P) Q → Answer t s (amb m (amb n (P ∣ Q) ∣ R) ∣ R₀)
           at z =
@@ -162,13 +135,13 @@ module _ (t : Tree) (w : Formed t) where
   exit-answer : (s : ℕ) {n m : Name} {P Q R R₀ : Term} → t .used s ≡ true → held t s ≅ amb m (amb n (exit (keyOf exitKind m) P ∣ Q) ∣ R) ∣ R₀
       → Answer t s ((amb n (P ∣ Q) ∣ amb m R) ∣ R₀)
   unfolding head
-  exit-answer s {n} {m} {P} {Q} {R} {R₀} us e = go (place-in s us e)
+  exit-answer s {n} {m} {P} {Q} {R} {R₀} us e = go (place-in t w s us e)
     where
       go : PlaceIn t s m (amb n (exit (keyOf exitKind m) P ∣ Q) ∣ R) R₀ → Answer t s ((amb n (P ∣ Q) ∣ amb m R) ∣ R₀)
-      go y = on (place-in (y .which) (y .stands .used) (y .holds))
+      go y = on (place-in t w (y .which) (y .stands .used) (y .holds))
         where
           on : PlaceIn t (y .which) n (exit (keyOf exitKind m) P ∣ Q) R → Answer t s ((amb n (P ∣ Q) ∣ amb m R) ∣ R₀)
-          on i = at (agent-in (i .which) (i .stands .used) take-exit (omega arith) (i .holds))
+          on i = at (agent-in t w (i .which) (i .stands .used) take-exit (omega arith) (i .holds))
             where
               at : AgentIn t (i .which) (exit (keyOf exitKind m) P) Q → Answer t s ((amb n (P ∣ Q) ∣ amb m R) ∣ R₀)
               at z =
@@ -211,7 +184,7 @@ module _ (t : Tree) (w : Formed t) where
   open-answer : (s : ℕ) {n : Name} {P Q R₀ : Term} → t .used s ≡ true → held t s ≅ («open» (keyOf openKind n) P ∣ amb n Q) ∣ R₀
       → Answer t s ((P ∣ Q) ∣ R₀)
   unfolding head
-  open-answer s {n} {P} {Q} {R₀} us e = at (agent-in s us take-open (omega arith) (e ⨾ struct-par-assoc))
+  open-answer s {n} {P} {Q} {R₀} us e = at (agent-in t w s us take-open (omega arith) (e ⨾ struct-par-assoc))
     where
       at : AgentIn t s («open» (keyOf openKind n) P) (amb n Q ∣ R₀) → Answer t s ((P ∣ Q) ∣ R₀)
       at z =
@@ -219,43 +192,49 @@ module _ (t : Tree) (w : Formed t) where
           subst (λ r. Answer t r ((P ∣ Q) ∣ R₀)) (z .home) (open-at (z .who) (z .less) (k .0) (k .1) (k .2)
           (subst (λ r. agentsBut t r (z .who) ∣ placesOf t r ≅ amb n Q ∣ R₀) (sym (z .home)) (z .left)))
 
+  -- ---- release
+
+  release-at : (a : ℕ) {n : ℕ} {P R₀ : Term} → hasRoom t ≡ true → a < 64 → nextOf t a .kind ≡ releaseKind → nextOf t a .name ≡ n
+      → row (restOf (t .unused a)) ≅ P → besideAgent t a ≅ R₀ → Answer t (t .home a) ((amb (plainName n) nil ∣ P) ∣ R₀)
+  unfolding hasRoom
+  release-at a room l k c r e =
+      let m = freshNumber (t .used) in
+      let s = ltb-true (freshNumber (t .used)) 64 room in
+      let f = fresh-free t s refl in
+      let v = put-out-formed t w a m s f in
+      record {
+        who = a;
+        after = putOut t a m;
+        move = case-move (by-release m k s refl);
+        place = t .home a;
+        touched = λ r. ⊥;
+        change = put-local t w a m s f v;
+        above = above-self (t .parent) (t .home a);
+        holds = put-after t w a m s f v l ⨾ swap ⨾ pars (renamed (ap plainName c)) (pars r e) ⨾ struct-symm struct-par-assoc;
+      }
+
+  release-answer : (s : ℕ) {n : ℕ} {P R₀ : Term} → hasRoom t ≡ true → t .used s ≡ true → held t s ≅ release n P ∣ R₀
+      → Answer t s ((amb (plainName n) nil ∣ P) ∣ R₀)
+  unfolding head
+  release-answer s {n} {P} {R₀} room us e = at (agent-in t w s us take-release (omega arith) e)
+    where
+      at : AgentIn t s (release n P) R₀ → Answer t s ((amb (plainName n) nil ∣ P) ∣ R₀)
+      at z =
+          let k = acting-release (z .acting) (z .like) in
+          subst (λ r. Answer t r ((amb (plainName n) nil ∣ P) ∣ R₀)) (z .home) (release-at (z .who) room (z .less) (k .0) (k .1) (k .2)
+          (subst (λ r. agentsBut t r (z .who) ∣ placesOf t r ≅ R₀) (sym (z .home)) (z .left)))
+
   -- ---- anywhere
 
-  -- an answer for each equivalent term
-  widen : {s : ℕ} {P Q : Term} → Answer t s P → P ≅ Q → Answer t s Q
-  widen a e = record {
-    who = a .who;
-    after = a .after;
-    move = a .move;
-    place = a .place;
-    touched = a .touched;
-    change = a .change;
-    above = a .above;
-    holds = a .holds ⨾ e;
-  }
-
-  -- one ambient up
-  rises : (s : ℕ) {n : Name} {S S′ R Q : Term} (y : PlaceIn t s n S R) → Answer t (y .which) S′ → Q ≅ amb n S′ ∣ R → Answer t s Q
-  rises s {n} {S} {S′} {R} {Q} y z f = record {
-    who = z .who;
-    after = z .after;
-    move = z .move;
-    place = z .place;
-    touched = z .touched;
-    change = z .change;
-    above = above-next (z .above) s (y .stands .parent);
-    holds = climbs t (z .after) w (move-formed w (z .move)) (z .place) (z .touched) (z .change) s (y .which) (z .above) (y .stands)
-        ⨾ pars (renamed (y .name) ⨾ struct-amb (z .holds)) (y .left) ⨾ struct-symm f;
-  }
-
   -- every reduction of what s holds is answered
-  answer : {P Q : Term} → Spot P Q → (s : ℕ) → t .used s ≡ true → held t s ≅ P → Answer t s Q
-  answer (at-top rule-enter e f) s us c = widen (enter-answer s us (c ⨾ e)) (struct-symm f)
-  answer (at-top rule-exit e f) s us c = widen (exit-answer s us (c ⨾ e)) (struct-symm f)
-  answer (at-top rule-open e f) s us c = widen (open-answer s us (c ⨾ e)) (struct-symm f)
+  answer : {P Q : Term} → Spot (hasRoom t) P Q → (s : ℕ) → t .used s ≡ true → held t s ≅ P → Answer t s Q
+  answer (at-top rule-enter e f) s us c = widen t w (enter-answer s us (c ⨾ e)) (struct-symm f)
+  answer (at-top rule-exit e f) s us c = widen t w (exit-answer s us (c ⨾ e)) (struct-symm f)
+  answer (at-top rule-open e f) s us c = widen t w (open-answer s us (c ⨾ e)) (struct-symm f)
+  answer (at-top (rule-release room) e f) s us c = widen t w (release-answer s room us (c ⨾ e)) (struct-symm f)
   answer (within p e f) s us c =
-      let y = place-in s us (c ⨾ e) in
-      rises s y (answer p (y .which) (y .stands .used) (y .holds)) f
+      let y = place-in t w s us (c ⨾ e) in
+      rises t w s y (answer p (y .which) (y .stands .used) (y .holds)) f
 
 -- a move of some agent to a tree whose term is Q up to equivalence
 pub record Matched (t : Tree) (Q : Term) : Type 0 where
@@ -267,7 +246,7 @@ pub record Matched (t : Tree) (Q : Term) : Type 0 where
 -- a reduction of the term is a move of an agent
 pub reduction-moves : {t : Tree} {Q : Term} → Formed t → term t ⟶ Q → Matched t Q
 unfolding term
-reduction-moves {t} {Q} w r = go (answer t w (spot r) 0 (w .floor-used) struct-refl)
+reduction-moves {t} {Q} w r = go (answer t w (spot (subst (λ (b : Bool). Reduces b (term t) Q) (sym (room-ambients t w)) r)) 0 (w .floor-used) struct-refl)
   where
     go : Answer t 0 Q → Matched t Q
     go z = record { who = z .who; after = z .after; move = z .move; same = struct-symm (z .holds) }

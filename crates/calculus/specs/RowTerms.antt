@@ -3,7 +3,7 @@ use mathlib.Core.Path.{_≡_, refl, ap, _∙_}
 use mathlib.Core.List.{List, [], _∷_}
 use Prim.Native.Nat.{ℕ}
 use Rattle.table.specs.Base.{tab}
-use Rattle.table.specs.Kinds.{IsKind, enters, exits, opens}
+use Rattle.table.specs.Kinds.{IsKind, enters, exits, opens, releases}
 use Rattle.table.specs.declared.Action.{Action}
 use Rattle.meaning.specs.Text.{gap, joinedAll}
 use Rattle.meaning.specs.Sorted.{insert, sorted}
@@ -34,6 +34,7 @@ unfolding prefix texts
 prefix-texts enters n P = refl
 prefix-texts exits n P = refl
 prefix-texts opens n P = refl
+prefix-texts releases n P = refl
 
 -- a term that is one agent and nothing else
 record OneAgent (P : Term) : Type 0 where
@@ -46,6 +47,7 @@ unfolding prefix agentParts placeParts
 prefix-agent enters n P = record { agents = refl; places = refl }
 prefix-agent exits n P = record { agents = refl; places = refl }
 prefix-agent opens n P = record { agents = refl; places = refl }
+prefix-agent releases n P = record { agents = refl; places = refl }
 
 -- with the action in front of its text
 prefix-text : {k : ℕ} → IsKind k → (n : ℕ) (P : Term) → partText (prefix k n P) ≡ prefixed (record { kind = k; name = n }) (written P)
@@ -53,6 +55,7 @@ unfolding prefix partText
 prefix-text enters n P = refl
 prefix-text exits n P = refl
 prefix-text opens n P = refl
+prefix-text releases n P = refl
 
 -- ---- a row
 

@@ -8,8 +8,8 @@ use native.Mathlib.Omega.{arith}
 use lib.Dec.{eqb}
 use lib.ListN.{length, length-append}
 use Rattle.table.specs.Base.{tab}
-use Rattle.table.specs.Cell.{enterKind, exitKind, openKind, lastKind}
-use Rattle.table.specs.Kinds.{IsKind, enters, exits, opens, is-kind}
+use Rattle.table.specs.Cell.{enterKind, exitKind, openKind, releaseKind, lastKind}
+use Rattle.table.specs.Kinds.{IsKind, enters, exits, opens, releases, is-kind}
 use Rattle.table.specs.declared.Action.{Action}
 use Rattle.meaning.specs.Text.{decimal}
 use Rattle.meaning.specs.Listing.{kindText, actionText}
@@ -21,11 +21,11 @@ use Rattle.calculus.specs.Decimals.{Stop, stop-end, stop-byte, decimal-s
 
 -- ---- a kind
 
--- the kind that a text begins with, by its second byte: `n`, `x` or `p`
+-- the kind that a text begins with, by its second byte: `n`, `x`, `p` or `e`
 kindAt : Text → ℕ
 kindAt [] = 0
 kindAt (c ∷ []) = 0
-kindAt (c ∷ d ∷ x) = cond (eqb d 110) enterKind (cond (eqb d 120) exitKind openKind)
+kindAt (c ∷ d ∷ x) = cond (eqb d 110) enterKind (cond (eqb d 120) exitKind (cond (eqb d 112) openKind releaseKind))
 
 -- it is the kind that was written
 kind-read : {k : ℕ} → IsKind k → (x : Text) → kindAt (kindText k ++ x) ≡ k
@@ -33,6 +33,7 @@ unfolding kindAt kindText tab
 kind-read enters x = refl
 kind-read exits x = refl
 kind-read opens x = refl
+kind-read releases x = refl
 
 -- a kind in front tells itself, and what follows it
 kind-split : {k j : ℕ} → IsKind k → IsKind j → (x y : Text) → kindText k ++ x ≡ kindText j ++ y → (k ≡ j) × (x ≡ y)
@@ -46,6 +47,8 @@ unfolding kindText tab
 kind-clear enters = clear-mild (every-more refl (every-more refl (every-more refl (every-more refl (every-more refl (every-more refl every-none))))))
 kind-clear exits = clear-mild (every-more refl (every-more refl (every-more refl (every-more refl (every-more refl every-none)))))
 kind-clear opens = clear-mild (every-more refl (every-more refl (every-more refl (every-more refl (every-more refl every-none)))))
+kind-clear releases = clear-mild (every-more refl (every-more refl (every-more refl (every-more refl
+    (every-more refl (every-more refl (every-more refl (every-more refl every-none))))))))
 
 -- it begins with a small letter, and is long
 kind-lead : {k : ℕ} → IsKind k → (x : Text) → (97 ≤ lead (kindText k ++ x)) × (5 ≤ length (kindText k))
@@ -53,6 +56,7 @@ unfolding kindText tab
 kind-lead enters x = (omega arith, omega arith)
 kind-lead exits x = (omega arith, omega arith)
 kind-lead opens x = (omega arith, omega arith)
+kind-lead releases x = (omega arith, omega arith)
 
 -- ---- an action and what follows it
 
@@ -62,7 +66,7 @@ pub record Fine (x : Action) : Type 0 where
   pub last : x .kind ≤ lastKind
   pub small : x .name < 65536
 
--- its kind is one of the three
+-- its kind is one of the four
 pub fine-kind : {x : Action} → Fine x → IsKind (x .kind)
 fine-kind {x} f = is-kind (x .kind) (f .first) (f .last)
 

@@ -6,11 +6,11 @@ use mathlib.Core.List.{List, [], _∷_, _++_}
 use lib.Dec.{eqb}
 use lib.ListN.{length}
 use Rattle.table.specs.Base.{tab}
-use Rattle.table.specs.Cell.{enterKind, exitKind, openKind}
+use Rattle.table.specs.Cell.{enterKind, exitKind, openKind, releaseKind}
 use Rattle.table.specs.declared.Action.{Action}
 use Rattle.meaning.specs.Text.{ascii}
 use Rattle.meaning.specs.Listing.{actionText, bracketed, inOrder}
-use Rattle.calculus.specs.Terms.{Term, amb, nil, _∣_, enter, exit, «open»}
+use Rattle.calculus.specs.Terms.{Term, amb, nil, _∣_, enter, exit, «open», release}
 
 -- the texts of a term's parts, in no order: its agents' and its places'
 pub record Texts : Type 0 where
@@ -57,6 +57,7 @@ texts (P ∣ Q) = together (texts P) (texts Q)
 texts (enter n P) = actionThen enterKind n (write (texts P))
 texts (exit n P) = actionThen exitKind n (write (texts P))
 texts («open» n P) = actionThen openKind n (write (texts P))
+texts (release n P) = actionThen releaseKind n (write (texts P))
 
 -- what is written of a term
 abbrev pub written : Term → List ℕ

@@ -6,14 +6,15 @@ use mathlib.Core.List.{List, [], _∷_}
 use lib.Dec.{eqb}
 use Rattle.table.specs.declared.Action.{Action}
 use Rattle.meaning.specs.Calculus.{Tree, standsAt}
-use Rattle.calculus.specs.Terms.{Term, amb, nil, _∣_, enter, exit, «open»}
+use Rattle.calculus.specs.Terms.{Term, amb, nil, _∣_, enter, exit, «open», release}
 
--- an action before a term: "a kind (1 enter, 2 exit, 3 open) and a name"; a formed tree has no other kind
+-- an action before a term: "a kind (1 enter, 2 exit, 3 open) and a name", and 4 release (document 02, W11); a formed tree has no other kind
 unfoldable pub prefix : ℕ → ℕ → Term → Term
 prefix zero n P = P
 prefix (suc zero) n P = enter n P
 prefix (suc (suc zero)) n P = exit n P
-prefix (suc (suc (suc k))) n P = «open» n P
+prefix (suc (suc (suc zero))) n P = «open» n P
+prefix (suc (suc (suc (suc k)))) n P = release n P
 
 -- an agent: its actions one after the other, ending in 0
 unfoldable pub row : List Action → Term

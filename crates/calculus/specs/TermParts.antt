@@ -1,13 +1,13 @@
 -- A term is its parts side by side, agents and places, in any order: also in byte order of their texts.
 use mathlib.Core.Path.{_≡_, refl, sym, ap, ap₂, _∙_}
 use mathlib.Core.List.{List, [], _∷_, _++_, map}
-use Rattle.table.specs.Cell.{enterKind, exitKind, openKind}
+use Rattle.table.specs.Cell.{enterKind, exitKind, openKind, releaseKind}
 use Rattle.table.specs.BaseLaws.{Told, yea, nay, told}
 use Rattle.meaning.specs.Sorted.{leq, insert, sorted}
 use Rattle.meaning.specs.SortedLaws.{Text, insert-past, insert-here}
 use Rattle.meaning.specs.Listing.{bracketed}
 use Rattle.meaning.specs.Every.{Every, every-none, every-more}
-use Rattle.calculus.specs.Terms.{Term, amb, nil, _∣_, enter, exit, «open», _≅_, struct-refl, struct-symm, struct-par-zero, struct-par-assoc}
+use Rattle.calculus.specs.Terms.{Term, amb, nil, _∣_, enter, exit, «open», release, _≅_, struct-refl, struct-symm, struct-par-zero, struct-par-assoc}
 use Rattle.calculus.specs.TermLaws.{_⨾_, struct-par-right, zero-par, swap, swap-middle, pars}
 use Rattle.calculus.specs.TermListing.{prefixed, texts, written}
 
@@ -21,6 +21,7 @@ agentParts (P ∣ Q) = agentParts P ++ agentParts Q
 agentParts (enter n P) = enter n P ∷ []
 agentParts (exit n P) = exit n P ∷ []
 agentParts («open» n P) = «open» n P ∷ []
+agentParts (release n P) = release n P ∷ []
 
 -- its places
 unfoldable pub placeParts : Term → List Term
@@ -30,6 +31,7 @@ placeParts (P ∣ Q) = placeParts P ++ placeParts Q
 placeParts (enter n P) = []
 placeParts (exit n P) = []
 placeParts («open» n P) = []
+placeParts (release n P) = []
 
 -- the text of a part
 unfoldable pub partText : Term → Text
@@ -39,6 +41,7 @@ partText (P ∣ Q) = []
 partText (enter n P) = prefixed (record { kind = enterKind; name = n }) (written P)
 partText (exit n P) = prefixed (record { kind = exitKind; name = n }) (written P)
 partText («open» n P) = prefixed (record { kind = openKind; name = n }) (written P)
+partText (release n P) = prefixed (record { kind = releaseKind; name = n }) (written P)
 
 -- the texts of two lists of parts
 pub map-append : (l m : List Term) → map partText (l ++ m) ≡ map partText l ++ map partText m
@@ -54,6 +57,7 @@ agents-texts (P ∣ Q) = map-append (agentParts P) (agentParts Q) ∙ ap₂ _++_
 agents-texts (enter n P) = refl
 agents-texts (exit n P) = refl
 agents-texts («open» n P) = refl
+agents-texts (release n P) = refl
 
 -- those of its places
 pub places-texts : (P : Term) → map partText (placeParts P) ≡ texts P .places
@@ -64,6 +68,7 @@ places-texts (P ∣ Q) = map-append (placeParts P) (placeParts Q) ∙ ap₂ _++_
 places-texts (enter n P) = refl
 places-texts (exit n P) = refl
 places-texts («open» n P) = refl
+places-texts (release n P) = refl
 
 -- ---- side by side
 
@@ -88,6 +93,7 @@ gathered (P ∣ Q) = pars (gathered P) (gathered Q) ⨾ swap-middle
 gathered (enter n P) = struct-symm (struct-par-zero ⨾ struct-par-zero)
 gathered (exit n P) = struct-symm (struct-par-zero ⨾ struct-par-zero)
 gathered («open» n P) = struct-symm (struct-par-zero ⨾ struct-par-zero)
+gathered (release n P) = struct-symm (struct-par-zero ⨾ struct-par-zero)
 
 -- ---- in the order of their texts
 

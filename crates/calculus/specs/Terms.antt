@@ -6,8 +6,12 @@
 -- "In 002 section 4.4 a name holds separate keys for entering and exiting": here it holds these and one for opening, and an action has one
 -- number. "An action's number is compared with the key of its kind on the place entered, left or opened, and the calculus rules .. are read
 -- with that comparison" (document 02, W6): where the papers print `enter n`, `exit n` or `open n`, the number is the key of that kind of n.
-use Prim.Native.Nat.{ℕ}
-use Rattle.table.specs.Cell.{enterKind, exitKind, openKind, keyOf}
+-- Added to both papers: release and its rule (document 02, W11); 000 section 4.1 writes it as an empty ambient that is put out.
+use mathlib.Core.Path.{_≡_}
+use mathlib.Core.Bool.{Bool, true}
+use Prim.Native.Nat.{ℕ, _+_}
+use lib.Dec.{ltb}
+use Rattle.table.specs.Cell.{enterKind, exitKind, openKind, keyOf, plainName}
 use Rattle.table.specs.declared.Name.{Name}
 
 -- ---- 002, 2.1 Syntax
@@ -26,6 +30,22 @@ pub data Term : Type 0 where
   exit : ℕ → Term → Term
   -- open k. P     (004) open an ambient whose key for opening is k, then do P
   «open» : ℕ → Term → Term
+  -- release n. P  (W11) put out an empty ambient named n, all its keys n, then do P
+  release : ℕ → Term → Term
+
+-- A for each agent with actions and B for each ambient of a term
+unfoldable pub weigh : ℕ → ℕ → Term → ℕ
+weigh A B (amb n P) = B + weigh A B P
+weigh A B nil = 0
+weigh A B (P ∣ Q) = weigh A B P + weigh A B Q
+weigh A B (enter n P) = A
+weigh A B (exit n P) = A
+weigh A B («open» n P) = A
+weigh A B (release n P) = A
+
+-- how many ambients a term has; one behind an action is not there yet and does not count
+abbrev pub ambients : Term → ℕ
+ambients P = weigh 0 1 P
 
 infixr 40 _∣_
 infix 20 _≅_ _⟶_ _⟶*_
@@ -54,23 +74,36 @@ pub data _≅_ : Term → Term → Type 0 where
   struct-exit : {n : ℕ} {P Q : Term} → P ≅ Q → exit n P ≅ exit n Q
   -- 004's (Struct Action), for open
   struct-open : {n : ℕ} {P Q : Term} → P ≅ Q → «open» n P ≅ «open» n Q
+  -- and for release
+  struct-release : {n : ℕ} {P Q : Term} → P ≅ Q → release n P ≅ release n Q
 
 -- ---- 002, 2.3 Reduction relation
 
--- one-step reduction
-pub data _⟶_ : Term → Term → Type 0 where
+-- the rules; room says whether a number is unused, which release asks for. Without room these are the published rules alone; with room there is
+-- one more, W11's
+pub data Reduces (room : Bool) : Term → Term → Type 0 where
   -- (Red Enter): the number of the enter is the key for entering of the ambient m that is entered
-  red-enter : {n m : Name} {P Q R : Term} → amb n (enter (keyOf enterKind m) P ∣ Q) ∣ amb m R ⟶ amb m (amb n (P ∣ Q) ∣ R)
+  red-enter : {n m : Name} {P Q R : Term} → Reduces room (amb n (enter (keyOf enterKind m) P ∣ Q) ∣ amb m R) (amb m (amb n (P ∣ Q) ∣ R))
   -- (Red Exit): the number of the exit is the key for exiting of the ambient m that is left
-  red-exit : {n m : Name} {P Q R : Term} → amb m (amb n (exit (keyOf exitKind m) P ∣ Q) ∣ R) ⟶ amb n (P ∣ Q) ∣ amb m R
+  red-exit : {n m : Name} {P Q R : Term} → Reduces room (amb m (amb n (exit (keyOf exitKind m) P ∣ Q) ∣ R)) (amb n (P ∣ Q) ∣ amb m R)
   -- 004's (Red Open): the number of the open is the key for opening of the ambient n that is opened
-  red-open : {n : Name} {P Q : Term} → «open» (keyOf openKind n) P ∣ amb n Q ⟶ P ∣ Q
+  red-open : {n : Name} {P Q : Term} → Reduces room («open» (keyOf openKind n) P ∣ amb n Q) (P ∣ Q)
+  -- "Release counts as a move of the calculus, permitted while a number is unused: `release n.P` becomes `n[] | P`" (document 02, W11)
+  red-release : {n : ℕ} {P : Term} → room ≡ true → Reduces room (release n P) (amb (plainName n) nil ∣ P)
   -- (Red Amb)
-  red-amb : {n : Name} {P Q : Term} → P ⟶ Q → amb n P ⟶ amb n Q
+  red-amb : {n : Name} {P Q : Term} → Reduces room P Q → Reduces room (amb n P) (amb n Q)
   -- (Red Par)
-  red-par : {P Q R : Term} → P ⟶ Q → P ∣ R ⟶ Q ∣ R
+  red-par : {P Q R : Term} → Reduces room P Q → Reduces room (P ∣ R) (Q ∣ R)
   -- (Red Struct)
-  red-struct : {P′ P Q Q′ : Term} → P′ ≅ P → P ⟶ Q → Q ≅ Q′ → P′ ⟶ Q′
+  red-struct : {P′ P Q Q′ : Term} → P′ ≅ P → Reduces room P Q → Q ≅ Q′ → Reduces room P′ Q′
+
+-- "while a number is unused": of the 64 numbers the floor has one, so a whole term with room has fewer than 63 ambients
+abbrev pub room : Term → Bool
+room P = ltb (ambients P) 63
+
+-- one-step reduction of a whole term
+abbrev pub _⟶_ : Term → Term → Type 0
+_⟶_ P Q = Reduces (room P) P Q
 
 -- the reflexive and transitive closure of one-step reduction
 pub data _⟶*_ : Term → Term → Type 0 where

@@ -1,15 +1,15 @@
--- The names, keys and numbers of a tree have 16 bits, and moves keep it so: they give no name and use actions up.
+-- The names, keys and numbers of a tree have 16 bits, and moves keep it so: they give no name but an action's number, and use actions up.
 use mathlib.Core.List.{List}
 use Prim.Native.Nat.{ℕ, _<_}
 use native.Mathlib.Omega.{arith}
 use Rattle.table.specs.Base.{upd}
 use Rattle.table.specs.BaseLaws.{upd-all}
 use Rattle.table.specs.Bounds.{Name16}
-use Rattle.table.specs.Cell.{noName}
+use Rattle.table.specs.Cell.{noName, plainName}
 use Rattle.table.specs.declared.Action.{Action}
-use Rattle.meaning.specs.Calculus.{Tree, restOf, putInto, openUp}
+use Rattle.meaning.specs.Calculus.{Tree, firstOf, restOf, nextOf, putInto, openUp, putOut}
 use Rattle.meaning.specs.Every.{Every, every-none, every-more}
-use Rattle.calculus.specs.MoveCases.{MoveCase, by-enter, by-exit, by-open, move-case}
+use Rattle.calculus.specs.MoveCases.{MoveCase, by-enter, by-exit, by-open, by-release, move-case}
 use Rattle.calculus.specs.Published.{Moves, moves-none, moves-then}
 
 -- the numbers of a row of actions have 16 bits
@@ -24,6 +24,15 @@ pub record Numbers16 (t : Tree) : Type 0 where
 -- no name has no bits at all
 pub no-name16 : Name16 noName
 no-name16 = record { name = omega arith; entering = omega arith; exiting = omega arith; opening = omega arith }
+
+-- a name without keys of its own has the bits of its number
+plain-name16 : {n : ℕ} → n < 65536 → Name16 (plainName n)
+plain-name16 l = record { name = l; entering = l; exiting = l; opening = l }
+
+-- the number of a row's first action
+first16 : {l : List Action} → Row16 l → firstOf l .name < 65536
+first16 every-none = omega arith
+first16 (every-more n e) = n
 
 -- a row without its first action
 rest16 : {l : List Action} → Row16 l → Row16 (restOf l)
@@ -44,11 +53,20 @@ open16 : (t : Tree) (a m : ℕ) → Numbers16 t → Numbers16 (openUp t a m)
 unfolding openUp
 open16 t a m n = record { names = upd-all (t .name) m noName (λ q v. Name16 v) no-name16 (λ q _. n .names q); actions = spent16 a n }
 
+-- a release
+release16 : (t : Tree) (a m : ℕ) → Numbers16 t → Numbers16 (putOut t a m)
+unfolding putOut
+release16 t a m n = record {
+  names = upd-all (t .name) m (plainName (nextOf t a .name)) (λ q v. Name16 v) (plain-name16 (first16 (n .actions a))) (λ q _. n .names q);
+  actions = spent16 a n;
+}
+
 -- each move keeps them so
 case16 : {t u : Tree} {a : ℕ} → MoveCase t a u → Numbers16 t → Numbers16 u
 case16 {t} {a = a} (by-enter m k h s d e) n = put16 t a m n
 case16 {t} {a = a} (by-exit k h e) n = put16 t a _ n
 case16 {t} {a = a} (by-open m k s e) n = open16 t a m n
+case16 {t} {a = a} (by-release m k l e) n = release16 t a m n
 
 -- and so do many
 pub moves16 : {t u : Tree} → Moves t u → Numbers16 t → Numbers16 u

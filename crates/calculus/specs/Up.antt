@@ -88,6 +88,15 @@ module _ (f : ℕ → ℕ) (z : f 0 ≡ 0) where
   pub exit-up : (h : ℕ) → h ≢ 0 → ((q : ℕ) → Up f q) → (q : ℕ) → Up (upd f h (f (f h))) q
   exit-up h h0 us q = move-up h (f (f h)) h0 (off-parent h0 (above-off h0 (us h))) (us q)
 
+  -- a way from a place that is not h, where nothing stands in h
+  off-new : {h : ℕ} → ((q : ℕ) → f q ≢ h) → {q : ℕ} → q ≢ h → Up f q → Off f h q
+  off-new never n base = off0
+  off-new never n (up q u) = offs q n (off-new never (never q) u)
+
+  -- h, in which nothing stands, is put into d
+  pub put-up : (h d : ℕ) → h ≢ 0 → d ≢ h → ((q : ℕ) → f q ≢ h) → ((q : ℕ) → Up f q) → (q : ℕ) → Up (upd f h d) q
+  put-up h d h0 dh never us q = move-up h d h0 (off-new never dh (us d)) (us q)
+
   -- t is opened: what stood in it stands in p, its parent
   abbrev pub opened : ℕ → ℕ → ℕ → ℕ
   opened t p q = cond (eqb q t) 0 (cond (eqb (f q) t) p (f q))

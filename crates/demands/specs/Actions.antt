@@ -147,7 +147,7 @@ unfolding tab
 good-some f zero k l g = absurd (omega arith)
 good-some f (suc n) k l (more a b w g) = a
 
--- the kind of the next action is 3 at most
+-- the kind of the next action is the last at most
 pub kind-small : (a : Agent) → Fit a → kindOf a ≤ lastKind
 kind-small a f = subst (λ (n : ℕ). n ≤ lastKind) (ap (λ (x : Action). x .kind) (first-unused a f)) (good-kind (f .good))
 
@@ -171,7 +171,7 @@ has-some a k = go (told (hasAction a))
     go (yea e) = e
     go (nay e) = absurd (omega (arith, subst (λ (x : Action). 1 ≤ x .kind) (next-none a e) k))
 
--- it enters, exits or opens
+-- it enters, exits, opens or releases
 pub kind-of : (a : Agent) → Fit a → 1 ≤ kindOf a → Kind (kindOf a)
 kind-of a f k = kind-is (kindOf a) k (kind-small a f)
 

@@ -3,12 +3,12 @@ use mathlib.Core.Path.{_≡_}
 use mathlib.Core.Logic.{_≢_}
 use mathlib.Core.List.{List}
 use mathlib.Core.Bool.{true, false}
-use Prim.Native.Nat.{ℕ}
+use Prim.Native.Nat.{ℕ, _<_}
 use Rattle.table.specs.Base.{iter}
-use Rattle.table.specs.Cell.{State, cellOf, tableOf, unused}
+use Rattle.table.specs.Cell.{State, cellOf, tableOf, unused, releaseKind}
 use Rattle.table.specs.declared.Cell.{Cell}
 use Rattle.meaning.specs.Run.{Call, Reply, stepOf, run, answers, rests}
-use Rattle.meaning.specs.Calculus.{Tree, Move}
+use Rattle.meaning.specs.Calculus.{Tree, nextOf, Move}
 use Rattle.meaning.specs.Plain.{Plain, plainOf, plainRun, History}
 
 -- "The cell equals the plain tree when the same place numbers are in use, with the same names and parents (the destination for a place on
@@ -46,10 +46,13 @@ pub record AfterCalls (c : State) (calls : List Call) : Type 0 where
   pub equals : EqualsPlain (cellOf (reached c calls)) (plainAfter c calls .tree)
   -- and has its places in the same order: "The plain tree knows this order too" (document 02, W5)
   pub order : plainAfter c calls .order ≡ cellOf (reached c calls) .land .order
-  -- the plain tree is the loaded tree after one permitted move for each call answered left or opened, in order, and no other change
+  -- the plain tree is the loaded tree after one permitted move for each call answered left, opened or put, in order, and no other change
   pub history : History (plainOf c .tree) calls (answered c calls) (plainAfter c calls .tree)
   -- while some agent is neither asleep nor done, some agent's step changes the cell for every wish
   pub goes-on : (x : ℕ) → cellOf (reached c calls) .given x ≡ true → rests (reached c calls) x ≡ false → (y : ℕ) × StepChanges (reached c calls) y
   -- when all agents are asleep or done, the calculus permits no move
   pub at-rest : ((x : ℕ) → cellOf (reached c calls) .given x ≡ true → rests (reached c calls) x ≡ true)
       → (a : ℕ) (u : Tree) → Move (plainAfter c calls .tree) a u → ⊥
+  -- "When all agents are asleep or done, a release may be an agent's next action, and then only with 64 places in use" (document 02, W11)
+  pub full : ((x : ℕ) → cellOf (reached c calls) .given x ≡ true → rests (reached c calls) x ≡ true)
+      → (a : ℕ) → nextOf (plainAfter c calls .tree) a .kind ≡ releaseKind → (q : ℕ) → q < 64 → plainAfter c calls .tree .used q ≡ true

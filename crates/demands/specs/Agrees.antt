@@ -28,7 +28,7 @@ pub record ReachesTerm (t : Cell) (P : Term) : Type 0 where
   pub reaches : Reaches 9 who t after
   pub same : P ≅ term after
 
--- what 002 section 4.1 asks of an implementation
+-- what 002 section 4.1 asks of an implementation, read with the rule for release (document 02, W11)
 pub record Agrees (c : State) (calls : List Call) : Type 0 where
   -- soundness: the loaded term reduces to the term reached
   pub reduces : termBefore c ⟶* termAfter c calls

@@ -4,20 +4,22 @@ use mathlib.Core.Path.{_≡_, sym, ap, _∙_}
 use mathlib.Core.Logic.{_≢_}
 use mathlib.Core.Bool.{true, false, cond}
 use Prim.Native.Nat.{ℕ, _≤_, _<_}
+use native.Mathlib.Omega.{arith}
 use lib.Dec.{eqb}
 use borrow.Author.Tests.{eq-eqb, ne-eqb, lt-ltb}
 use Rattle.table.specs.BaseLaws.{Told, yea, nay, told}
-use Rattle.table.specs.Cell.{Land, State, none, linked, kindOf, exitKind, openKind, looksHome}
+use Rattle.table.specs.Cell.{Land, State, none, linked, freshNumber, kindOf, exitKind, openKind, releaseKind, looksHome}
+use Rattle.table.specs.Kinds.{kind-home}
 use Rattle.table.specs.Sound.{secondPlace}
 use Rattle.table.specs.declared.Agent.{Agent}
 use Rattle.meaning.specs.Update.{atStage}
-use Rattle.meaning.specs.Step.{step, stepAt, look, lockFirst, hold, lockSecond, act, travel, take, release, turn, still, leave, dissolve}
+use Rattle.meaning.specs.Step.{step, stepAt, look, lockFirst, hold, put, putOrSleep, lockSecond, act, travel, take, release, turn, still, leave, dissolve}
 use Rattle.meaning.specs.Step.{arrive, choice, stays, fires, destinationOf}
 use Rattle.demands.specs.Reading.{parentIn}
-use Rattle.demands.specs.Facts.{parent-read}
+use Rattle.demands.specs.Facts.{parent-read, stays-home}
 use Rattle.demands.specs.Ways.{goesOn, takesLock, givesBack}
 
--- where an agent at stage 0 looks: its own place to open, else the place around it
+-- where an agent at stage 0 looks: its own place to open or release, else the place around it
 abbrev pub looksAt : Land → Agent → ℕ
 looksAt l a = cond (looksHome (kindOf a)) (a .home) (parentIn l (a .home))
 
@@ -54,7 +56,18 @@ module _ (c : State) (x w : ℕ) where
       → c .lock (secondPlace (kindOf own) (own .home) q) ≡ none
       → step c x w .cell ≡ takesLock c x (secondPlace (kindOf own) (own .home) q) 3 (own .remembered) (cond (eqb (kindOf own) exitKind) 0 q)
   unfolding stepAt hold lockSecond
-  ahead-second q s k st e l f = by-stage 2 _ s (rw (st, e, lt-ltb q 64 l) (taken _ _ _ _ f))
+  ahead-second q s k st e l f = by-stage 2 _ s (rw (st, ne-eqb (kindOf own) releaseKind (λ z. omega arith), e, lt-ltb q 64 l) (taken _ _ _ _ f))
+
+  -- of release, with a number unused
+  pub ahead-put : (q : ℕ) → own .stage ≡ 2 → kindOf own ≡ releaseKind → freshNumber (c .land .used) ≡ q → q < 64
+      → step c x w .cell ≡ put c x own q .cell
+  unfolding stepAt hold putOrSleep
+  ahead-put q s k e l = by-stage 2 _ s (rw (
+    stays-home (c .land) own (kind-home (kindOf own) (omega arith) (omega arith)),
+    eq-eqb (kindOf own) releaseKind k,
+    e,
+    lt-ltb q 64 l,
+  ))
 
   -- or with its place no longer linked to the remembered one
   pub ahead-back : own .stage ≡ 2 → stays (c .land) own ≡ false → step c x w .cell ≡ givesBack c x (own .remembered) (own .remembered) 0 0

@@ -19,15 +19,16 @@ use Rattle.meaning.specs.AskLaws.{committed}
 use Rattle.demands.specs.Invariant.{Sound, Inv}
 use Rattle.demands.specs.Facts.{not-yes}
 use Rattle.demands.specs.Ways.{Way, is-done, is-asleep, held-first, held-second, held-own, held-destination, looks-up, looks-home}
-use Rattle.demands.specs.Ways.{sleeps-alone, takes-first, goes-back, sleeps-stuck, takes-second, gives-up, enters, exits, opens}
+use Rattle.demands.specs.Ways.{sleeps-alone, takes-first, goes-back, sleeps-stuck, takes-second, puts, sleeps-full, gives-up, enters, exits, opens}
 use Rattle.demands.specs.Ways.{takes-own, takes-destination, comes}
 use Rattle.demands.specs.StepWays.{step-way}
 use Rattle.demands.specs.Change.{Keeps, keeps-inv}
-use Rattle.demands.specs.Quiet.{keep-look, keep-look-home, keep-sleep-alone, keep-take-first, keep-back, keep-sleep-stuck}
+use Rattle.demands.specs.Quiet.{keep-look, keep-look-home, keep-sleep-alone, keep-take-first, keep-back, keep-sleep-stuck, keep-sleep-full}
 use Rattle.demands.specs.Quiet.{keep-take-second, keep-give-up, keep-take-own, keep-take-destination}
 use Rattle.demands.specs.Leaving.{keep-enter, keep-exit}
 use Rattle.demands.specs.Coming.{keep-come}
 use Rattle.demands.specs.Opening.{open-keeps}
+use Rattle.demands.specs.Putting.{keep-put}
 use Rattle.demands.specs.Unused.{untouched-none, untouched-bounded}
 use Rattle.demands.specs.SoundTest.{sound-true, sound-bounded}
 use Rattle.demands.specs.Touching.{sized-touched, inv-touched, sound-touched}
@@ -55,6 +56,8 @@ module _ (c : State) (i : Sound c) (x : ℕ) (g : c .given x ≡ true) where
   way-keeps (goes-back s _) = keep-back c i x g s
   way-keeps {wish} (sleeps-stuck s k e l) = keep-sleep-stuck c i x g wish s k e l
   way-keeps {wish} (takes-second q s k e f l h) = keep-take-second c i x g wish q s k e f l h
+  way-keeps (puts q s k e l) = keep-put c i x g s k q l e
+  way-keeps (sleeps-full s k f) = keep-sleep-full c i x g s k f
   way-keeps (gives-up s _) = keep-give-up c i x g s
   way-keeps (enters s k e) = keep-enter c i x g s k e
   way-keeps (exits s k _) = keep-exit c i x g s k

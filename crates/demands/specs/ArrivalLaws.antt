@@ -114,6 +114,14 @@ row-new m log l o = loaded-more (lasts log) m l (occurs-lasts m log ∙ o)
     other : (q : ℕ) → occurs q (lasts log) ≡ true → not (eqb q m || false) ≡ true
     other q k = rw (ne-eqb q m (λ z. clash (sym (occurs-lasts q log) ∙ k) (ap (λ (s : ℕ). occurs s log) z ∙ o)))
 
+-- one arrives, again or not
+pub row-arrived : (m : ℕ) (log : List ℕ) → m < 64 → latest m (loadedRow (lasts log)) ≡ loadedRow (lasts (log ++ (m ∷ [])))
+row-arrived m log l = go (told (occurs m log))
+  where
+    go : Told (occurs m log) → latest m (loadedRow (lasts log)) ≡ loadedRow (lasts (log ++ (m ∷ [])))
+    go (yea o) = row-came m log o
+    go (nay o) = row-new m log l o
+
 -- ---- the first in the row is the one that came first
 
 -- a number that came has a last arrival

@@ -1,20 +1,21 @@
 -- The log of arrivals beside the row: every call keeps it so.
--- Idea: came and opened let some arrive again, and no other answer changes the row.
-use mathlib.Core.Path.{_≡_, sym, ap, _∙_, subst}
+-- Idea: came and opened let some arrive again, put lets one arrive, and no other answer changes the row.
+use mathlib.Core.Path.{_≡_, refl, sym, ap, _∙_, subst}
 use mathlib.Core.Logic.{_≢_}
-use mathlib.Core.Bool.{true, not}
+use mathlib.Core.Bool.{Bool, true, false, not, _||_}
 use mathlib.Core.List.{List, [], _∷_, _++_, append-nil}
-use Prim.Native.Nat.{ℕ}
+use Prim.Native.Nat.{ℕ, _<_}
 use lib.Dec.{eqb}
 use borrow.Author.Tests.{eqb-true}
 use Rattle.order.specs.Row.{keep, later, latest, occurs, loadedRow}
 use Rattle.order.specs.RowLaws.{occurs-append}
+use Rattle.table.specs.Base.{upd}
 use Rattle.table.specs.BaseLaws.{Told, yea, nay, told, and-left, and-right}
 use Rattle.table.specs.Bounds.{Sized}
 use Rattle.table.specs.Cell.{Land, State, cellOf}
 use Rattle.table.specs.declared.Agent.{Agent}
 use Rattle.table.specs.declared.Cell.{Cell}
-use Rattle.meaning.specs.Step.{Outcome, still, step, leave, dissolve, arrive, childOf}
+use Rattle.meaning.specs.Step.{Outcome, still, step, put, leave, dissolve, arrive, childOf}
 use Rattle.meaning.specs.Run.{Call, stepCall, touchCall, commitCall, agentOf, Called, byStep, byTouch, made, turnedAway, stepOf, callOf, run}
 use Rattle.meaning.specs.AskLaws.{committed}
 use Rattle.meaning.specs.Touch.{counted, untouched}
@@ -24,14 +25,14 @@ use Rattle.demands.specs.Facts.{parent-read}
 use Rattle.demands.specs.Stages.{ok-at, ok-given, home-given, both-open}
 use Rattle.demands.specs.OpeningPlaces.{linked-not-floor}
 use Rattle.demands.specs.Ways.{Way, is-done, is-asleep, held-first, held-second, held-own, held-destination, looks-up, looks-home}
-use Rattle.demands.specs.Ways.{sleeps-alone, takes-first, goes-back, sleeps-stuck, takes-second, gives-up, enters, exits, opens}
+use Rattle.demands.specs.Ways.{sleeps-alone, takes-first, goes-back, sleeps-stuck, takes-second, puts, sleeps-full, gives-up, enters, exits, opens}
 use Rattle.demands.specs.Ways.{takes-own, takes-destination, comes}
 use Rattle.demands.specs.StepWays.{step-way}
 use Rattle.demands.specs.Touching.{touched, touch-back}
 use Rattle.demands.specs.Always.{step-back, sized-called, inv-called}
 use Rattle.demands.specs.RunKeeps.{call-made, call-refused}
 use Rattle.demands.specs.FirstCome.{lasts, arrivedBy, arrivedAt, arrivals}
-use Rattle.demands.specs.ArrivalLaws.{row-again, row-came}
+use Rattle.demands.specs.ArrivalLaws.{row-again, row-came, row-arrived}
 
 -- the row is that of the log, and every place in use but the floor has come
 pub record Logged (l : Land) (log : List ℕ) : Type 0 where
@@ -81,6 +82,22 @@ module _ (c : State) (i : Sound c) (x : ℕ) (g : c .given x ≡ true) (log : Li
           u : c .land .used q ≡ true
           u = and-left (c .land .used q) _ e
 
+  -- put: the new place arrives
+  put-logged : (n : ℕ) → n < 64 → Logged (put c x a n .cell .land) (log ++ (n ∷ []))
+  unfolding put upd occurs
+  put-logged n low = record {
+    row = ap (latest n) (m .row) ∙ row-arrived n log low;
+    came = λ q u z. occurs-append q log (n ∷ []) ∙ here q u z (told (eqb q n));
+  }
+    where
+      also : (b : Bool) → (b || true) ≡ true
+      also true = refl
+      also false = refl
+
+      here : (q : ℕ) → upd (c .land .used) n true q ≡ true → q ≢ 0 → Told (eqb q n) → (occurs q log || (eqb q n || false)) ≡ true
+      here q u z (yea e) = rw e (also (occurs q log))
+      here q u z (nay e) = rw (m .came q (rw e at u) z)
+
   -- every way a step can go
   way-logged : {wish : ℕ} {o : Outcome} → Way c x wish o → Logged (o .cell .land) (log ++ arrivedBy c x (o .word) log)
   unfolding still
@@ -97,6 +114,9 @@ module _ (c : State) (i : Sound c) (x : ℕ) (g : c .given x ≡ true) (log : Li
   way-logged (goes-back _ _) = none-came m
   way-logged (sleeps-stuck _ _ _ _) = none-came m
   way-logged (takes-second _ _ _ _ _ _ _) = none-came m
+  way-logged (puts n _ _ f low) = unfold put in
+      subst (λ (r : ℕ). Logged (put c x a n .cell .land) (log ++ (r ∷ []))) (sym f) (put-logged n low)
+  way-logged (sleeps-full _ _ _) = none-came m
   way-logged (gives-up _ _) = none-came m
   way-logged (enters _ _ _) = unfold leave in left-logged (a .chosen)
   way-logged (exits _ _ _) = unfold leave in left-logged (parentIn (c .land) (a .remembered))

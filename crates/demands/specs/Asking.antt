@@ -9,7 +9,7 @@ use Rattle.table.specs.Cell.{Land, State, cellOf, kindOf, nameOf, enterKind, ex
 use Rattle.table.specs.declared.Agent.{Agent}
 use Rattle.table.specs.declared.Cell.{Cell}
 use Rattle.meaning.specs.declared.Word.{Word}
-use Rattle.meaning.specs.declared.Word.the-variants.{Looked, Took, Held, Back, Slept, Left, Came, Opened, Asleep, Done}
+use Rattle.meaning.specs.declared.Word.the-variants.{Looked, Took, Held, Back, Slept, Left, Came, Opened, Put, Asleep, Done}
 use Rattle.meaning.specs.declared.Answer.the-variants.{Did}
 use Rattle.meaning.specs.declared.Asked.the-variants.{Would}
 use Rattle.meaning.specs.declared.Stepped.{Stepped}
@@ -43,11 +43,12 @@ pub data TellsPlace (l : Land) (a : Agent) (wish : ℕ) (word : Word) : ℕ → 
   tells-none : (Chooses l a word → ⊥) → TellsPlace l a wish word noneTold
 
 -- what the place is to a step of agent x with this word, from cell c to cell d: at left the place that its own is on its way into, none for exit;
--- at opened the one whose number becomes unused
+-- at opened the one whose number becomes unused; at put none
 abbrev pub PlaceThen : Word → State → ℕ → State → ℕ → Type 0
 PlaceThen Left c x d place =
     (kindOf (c .agent x) ≡ enterKind → d .land .place (c .agent x .home) .parent ≡ place) × (kindOf (c .agent x) ≡ exitKind → place ≡ noneTold)
 PlaceThen Opened c x d place = (c .land .used place ≡ true) × (d .land .used place ≡ false)
+PlaceThen Put c x d place = place ≡ noneTold
 PlaceThen Looked c x d place = Unit {0}
 PlaceThen Took c x d place = Unit {0}
 PlaceThen Held c x d place = Unit {0}
@@ -71,6 +72,7 @@ isStill Slept = false
 isStill Left = false
 isStill Came = false
 isStill Opened = false
+isStill Put = false
 
 -- of a table, an agent and a wish
 pub record AskThenCommit (t : Cell) (x wish : ℕ) : Type 0 where

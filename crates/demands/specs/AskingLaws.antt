@@ -1,13 +1,11 @@
 -- Ask, then commit, of every sound table and every agent that is given; and that a commit that goes through is a step call.
 -- Idea: an ask tells the step's own word and number woken; a commit is the step call or is refused, by one test.
 use mathlib.Core.Path.{_≡_, refl, sym, ap, _∙_, subst}
-use mathlib.Core.Logic.{_⊎_, inl, inr, _≢_}
-use mathlib.Core.Bool.{true, false}
+use mathlib.Core.Logic.{_≢_}
+use mathlib.Core.Bool.{true}
 use mathlib.Core.List.{List, [], _∷_}
 use Prim.Native.Nat.{ℕ, _≤_, _<_}
 use native.Mathlib.Omega.{arith}
-use lib.Dec.{eqb}
-use borrow.Author.Tests.{eq-eqb}
 use Rattle.table.specs.BaseLaws.{Told, yea, nay, told, clash}
 use Rattle.table.specs.Bounds.{Sized}
 use Rattle.table.specs.Cell.{State, cellOf, tableOf}
@@ -20,7 +18,7 @@ use Rattle.meaning.specs.declared.Asked.{Asked}
 use Rattle.meaning.specs.declared.Asked.the-variants.{Would}
 use Rattle.meaning.specs.declared.Stepped.{Stepped}
 use Rattle.meaning.specs.declared.Word.{Word}
-use Rattle.meaning.specs.declared.Word.the-variants.{Looked, Took, Held, Back, Slept, Left, Came, Opened, Asleep, Done}
+use Rattle.meaning.specs.declared.Word.the-variants.{Looked, Took, Held, Back, Slept, Left, Came, Opened, Put, Asleep, Done}
 use Rattle.meaning.specs.Step.{Outcome, step}
 use Rattle.meaning.specs.Codes.{wordNumber}
 use Rattle.meaning.specs.Touch.{touchOf}
@@ -49,26 +47,13 @@ word-small Slept = omega arith
 word-small Left = omega arith
 word-small Came = omega arith
 word-small Opened = omega arith
+word-small Put = omega arith
 word-small Asleep = omega arith
 word-small Done = omega arith
 
--- and none has 8
-not-eight : (w : Word) → eqb (wordNumber w) 8 ≡ false
-not-eight Looked = refl
-not-eight Took = refl
-not-eight Held = refl
-not-eight Back = refl
-not-eight Slept = refl
-not-eight Left = refl
-not-eight Came = refl
-not-eight Opened = refl
-not-eight Asleep = refl
-not-eight Done = refl
-
--- so these are no word's
-pub no-such-word : (n : ℕ) → (n ≡ 8) ⊎ (11 ≤ n) → (w : Word) → wordNumber w ≢ n
-no-such-word n (inl e) w f = clash (eq-eqb (wordNumber w) 8 (f ∙ e)) (not-eight w)
-no-such-word n (inr l) w f = omega (arith, word-small w)
+-- so 11 and above are no word's
+pub no-such-word : (n : ℕ) → 11 ≤ n → (w : Word) → wordNumber w ≢ n
+no-such-word n l w f = omega (arith, word-small w)
 
 -- ---- ask, then commit
 
@@ -84,6 +69,7 @@ still-same Slept c d x e m = clash e refl
 still-same Left c d x e m = clash e refl
 still-same Came c d x e m = clash e refl
 still-same Opened c d x e m = clash e refl
+still-same Put c d x e m = clash e refl
 
 module _ (t : Cell) (z : Sized t) (x wish : ℕ) (s : sound (cellOf t) ≡ true) (g : cellOf t .given x ≡ true) where
   abbrev c : State

@@ -1,20 +1,22 @@
 -- Where every place is linked, an agent that is asleep or done has no move; and where all agents are at rest, every place is linked.
--- Idea: with nothing on its way, what the calculus permits is what would fire where the sleeper would look, and it sleeps because nothing does.
+-- Idea: with nothing on its way, what the calculus permits is what would fire where the sleeper would look, and it sleeps because nothing
+-- does; a release is permitted only with a number unused.
 use mathlib.Core.Path.{_≡_, sym, ap, _∙_, subst}
 use mathlib.Core.Bool.{true}
 use Prim.Native.Nat.{ℕ, _≤_}
 use native.Mathlib.Omega.{arith}
 use Rattle.table.specs.BaseLaws.{clash}
-use Rattle.table.specs.Cell.{State, kindOf, nameOf, openKind}
+use Rattle.table.specs.Cell.{State, freshNumber, kindOf, nameOf, openKind}
+use Rattle.table.specs.FreshLaws.{none-fresh}
 use Rattle.table.specs.declared.Action.{Action}
 use Rattle.table.specs.declared.Agent.{Agent}
 use Rattle.meaning.specs.Step.{qualifies}
 use Rattle.meaning.specs.Calculus.{Tree, firstOf, Move}
 use Rattle.meaning.specs.Plain.{treeOf}
-use Rattle.calculus.specs.MoveCases.{MoveCase, move-case, case-kind}
+use Rattle.calculus.specs.MoveCases.{MoveCase, move-case, release-only, case-kind}
 use Rattle.demands.specs.Reading.{agentIn}
 use Rattle.demands.specs.ReadingLaws.{agent-given}
-use Rattle.demands.specs.Invariant.{Ok, ok0, ok1, ok2, ok3-move, ok3-open, ok4, ok5, ok6, ok7, ok8, Sleeper, alone, stuck, Sound, Inv}
+use Rattle.demands.specs.Invariant.{Ok, ok0, ok1, ok2, ok3-move, ok3-open, ok4, ok5, ok6, ok7, ok8, Sleeper, alone, stuck, full, Sound, Inv}
 use Rattle.demands.specs.Facts.{Whole}
 use Rattle.demands.specs.Actions.{first-unused, kind-small}
 use Rattle.demands.specs.Stages.{fit-given, home-given}
@@ -63,6 +65,9 @@ module _ (c : State) (i : Inv c) (whole : Whole c) (a : ℕ) (rest : 7 ≤ agent
 
       go : Sleeper (c .land) b → ⊥
       go (alone k _ o) = clash (whole (b .home) (home-given c (i .sound) a g) (off-floor c (i .sound) a g m k)) o
+      go (full k _ all) =
+          let r = release-only m (given-kind c a g (i .sound .fit a) ∙ k) .0 in
+          let n : 64 ≤ freshNumber (treeOf c .used) = unfold treeOf in none-fresh (c .land .used) all in omega arith
       go (stuck k o s f) = clash
           (subst (λ (p : ℕ). qualifies (c .land) (kindOf b) (nameOf b) (b .home) p (fires k .place) ≡ true)
           (sym (looks-same (c .land) b (kind-small b (fit-given c (i .sound) a g)) o s)) (fires k .fits)) (f (fires k .place))

@@ -2,37 +2,38 @@
 -- Each way writes one agent anew and some locks, or moves, wakes and releases as its sentence says; soundness gives that the locks which it
 -- releases are all of the agent's.
 use mathlib.Core.Path.{_≡_, refl, sym, ap, _∙_, subst}
-use mathlib.Core.Logic.{_≢_, inl, inr}
+use mathlib.Core.Logic.{_≢_, _⊎_, inl, inr}
 use mathlib.Core.Bool.{true, cond}
 use Prim.Native.Nat.{ℕ, _≤_}
 use native.Mathlib.Omega.{arith}
 use lib.Dec.{eqb}
 use borrow.Author.Tests.{eqb-true, eqb-false, eq-eqb, ne-eqb}
 use Rattle.table.specs.Base.{upd}
-use Rattle.table.specs.BaseLaws.{Told, yea, nay, told, upd-same, upd-other}
-use Rattle.table.specs.Cell.{Land, State, none, hasAction, kindOf, exitKind, openKind}
+use Rattle.table.specs.BaseLaws.{Told, yea, nay, told, eq?, upd-same, upd-at, upd-other}
+use Rattle.table.specs.Cell.{Land, State, none, freshNumber, hasAction, kindOf, exitKind, openKind}
 use Rattle.table.specs.Sound.{secondPlace}
 use Rattle.table.specs.declared.Place.{Place}
 use Rattle.table.specs.declared.Agent.{Agent}
 use Rattle.meaning.specs.declared.Word.{Word}
-use Rattle.meaning.specs.declared.Word.the-variants.{Looked, Took, Back, Slept, Left, Came, Opened}
+use Rattle.meaning.specs.declared.Word.the-variants.{Looked, Took, Back, Slept, Left, Came, Opened, Put}
 use Rattle.meaning.specs.declared.Answer.the-variants.{Did}
 use Rattle.meaning.specs.Update.{atStage, useUp, withLocks, withAgent, released}
-use Rattle.meaning.specs.Step.{Outcome, still, leave, dissolve, arrive, wake, asleepOn, destinationOf, beyond}
-use Rattle.demands.specs.NoMore.{usedUp, stageBy, rememberedBy, chosenBy, Stepped, OnlyAgent, Returned, needed, Waking, Dissolved, is-woken, is-awake, sleeps-elsewhere, around}
-use Rattle.demands.specs.NoMore.{ByTaking, ByReleasing, ByLeaving, ByComing, ByOpening, Changes}
+use Rattle.meaning.specs.Step.{Outcome, still, put, leave, dissolve, arrive, wake, asleepOn, destinationOf, beyond}
+use Rattle.demands.specs.ByWord.{usedUp, stageBy, rememberedBy, chosenBy, Stepped}
+use Rattle.demands.specs.NoMore.{OnlyAgent, Returned, needed, Waking, Dissolved, is-woken, is-awake, sleeps-elsewhere, around}
+use Rattle.demands.specs.NoMore.{ByTaking, ByReleasing, ByLeaving, ByComing, ByOpening, ByPutting, Changes}
 use Rattle.demands.specs.Reading.{parentIn, agentIn}
 use Rattle.demands.specs.ReadingLaws.{agent-given}
 use Rattle.demands.specs.Invariant.{Sound, Holds, Kept, free, kept}
 use Rattle.demands.specs.Ways.{Way, takesLock, givesBack, is-done, is-asleep, held-first, held-second, held-own, held-destination, looks-up}
-use Rattle.demands.specs.Ways.{looks-home, sleeps-alone, takes-first, goes-back, sleeps-stuck, takes-second, gives-up, enters, exits, opens}
+use Rattle.demands.specs.Ways.{looks-home, sleeps-alone, takes-first, goes-back, sleeps-stuck, takes-second, puts, sleeps-full, gives-up, enters, exits, opens}
 use Rattle.demands.specs.Ways.{takes-own, takes-destination, comes}
 use Rattle.demands.specs.Facts.{parent-read, link-used}
 use Rattle.demands.specs.Actions.{has-some}
 use Rattle.demands.specs.Stages.{ok-at, ok-given, home-given, holds-none, returned-two, returned-three, returned-move, returned-six}
 use Rattle.demands.specs.StepWays.{kind-given}
 use Rattle.demands.specs.SteppedLaws.{stepped-at, stepped-used, stepped-held, stepped-asleep, stepped-done, looks-around, looks-inside}
-use Rattle.demands.specs.SteppedLaws.{sleeps-at-home, sleeps-around, took-near, took-travelling, took-none, took-choice}
+use Rattle.demands.specs.SteppedLaws.{sleeps-at-home, sleeps-around, sleeps-nowhere, took-near, took-travelling, took-none, took-choice}
 use Rattle.demands.specs.OpeningAgents.{dissolved}
 use Rattle.demands.specs.OpeningLocks.{Opener, opener, own-freed, moved-freed, others-kept}
 
@@ -113,7 +114,10 @@ module _ (c : State) (i : Sound c) (x : ℕ) (g : c .given x ≡ true) where
 
   -- ---- leaving and coming
 
-  -- at stage 3 it has an action
+  -- at stage 2 it has an action, and at stage 3
+  ready : c .agent x .stage ≡ 2 → hasAction (c .agent x) ≡ true
+  ready s = has-some (c .agent x) (ok-at 2 s (ok-given c i x g) .0 .some)
+
   acts : c .agent x .stage ≡ 3 → hasAction (c .agent x) ≡ true
   acts s = has-some (c .agent x) (ok-at 3 s (ok-given c i x g) .0 .some)
 
@@ -182,6 +186,28 @@ module _ (c : State) (i : Sound c) (x : ℕ) (g : c .given x ≡ true) where
         place q n m (yea u) = rw (u, ne-eqb q t n, ne-eqb (c .land .place q .parent) t m)
         place q n m (nay u) = rw u
 
+  -- ---- putting
+
+  -- n is the smallest unused number
+  putting : (n : ℕ) → freshNumber (c .land .used) ≡ n → c .agent x .stage ≡ 2 → ByPutting c x (put c x (c .agent x) n .cell)
+  unfolding put
+  putting n f s = record {
+    new-place = upd-at (c .land .place) n _ _ f;
+    places = λ q d. upd-other (c .land .place) n q _ (λ z. d (z ∙ sym f));
+    new-lock = upd-at _ n _ none f;
+    own-locks = λ q u e. given-back q u e (eq? q n) (eq? q (c .agent x .remembered));
+    locks = λ q d e. upd-other _ n q none (λ z. d (z ∙ sym f))
+        ∙ upd-other (c .lock) (c .agent x .remembered) q none (λ z. e (ap (c .lock) z ∙ ok-at 2 s (ok-given c i x g) .1 .by));
+    others = λ y d h. subst (Waking _ _ _ (c .agent y)) (sym (upd-other _ x y _ d)) (waking c _ _ _ y h);
+  }
+    where
+      given-back : (q : ℕ) → c .land .used q ≡ true → c .lock q ≡ x → (q ≡ n) ⊎ (q ≢ n)
+          → (q ≡ c .agent x .remembered) ⊎ (q ≢ c .agent x .remembered) → released (c .lock) (c .agent x .remembered) n q ≡ none
+      given-back q u e (inl z) _ = upd-at _ n q none z
+      given-back q u e (inr d) (inl z) = upd-other _ n q none d ∙ upd-at (c .lock) (c .agent x .remembered) q none z
+      given-back q u e (inr d) (inr m) = upd-other _ n q none d
+          ∙ (sym (upd-other (upd (c .lock) (c .agent x .remembered) none) (c .agent x .remembered) q none m) ∙ returned-two c i x g s .ours q u e)
+
   -- ---- every way
 
   module _ (wish : ℕ) where
@@ -204,12 +230,12 @@ module _ (c : State) (i : Sound c) (x : ℕ) (g : c .given x ≡ true) where
     goes word f stage remembered chosen u s r q = own f (atStage a stage remembered chosen)
         (stepped-at word l wish a stage remembered chosen u s (sym r) (sym q))
 
-    uses : (word : Word) (f : ℕ → Agent) (stage : ℕ) → a .stage ≡ 3 → usedUp word ≡ 1 → stage ≡ stageBy word a (atStage (useUp a) stage 0 0)
+    uses : (word : Word) (f : ℕ → Agent) (stage : ℕ) → hasAction a ≡ true → usedUp word ≡ 1 → stage ≡ stageBy word a (atStage (useUp a) stage 0 0)
         → 0 ≡ rememberedBy word l a → 0 ≡ chosenBy word l a wish → Stepped word l wish a (upd f x (atStage (useUp a) stage 0 0) x)
-    uses word f stage e u s r q = own f (atStage (useUp a) stage 0 0) (stepped-used word l wish a stage (acts e) u s r q)
+    uses word f stage e u s r q = own f (atStage (useUp a) stage 0 0) (stepped-used word l wish a stage e u s r q)
 
     pub way-changes : {o : Outcome} → Way c x wish o → Changes (Did (o .word) (o .woken)) c x wish (o .cell)
-    unfolding still leave dissolve arrive
+    unfolding still put leave dissolve arrive
     way-changes (is-done _) = (stepped-done l wish a, refl)
     way-changes (is-asleep _) = (stepped-asleep l wish a, refl)
     way-changes (held-first _ _) = (stepped-held l wish a, refl)
@@ -233,21 +259,26 @@ module _ (c : State) (i : Sound c) (x : ℕ) (g : c .given x ≡ true) where
       taking _ _ _ _ f (needed-first l a 0 s),
     )
     way-changes (goes-back s _) = (goes Back _ _ _ _ refl refl refl refl, releasing _ _ _ _ (returned-two c i x g s))
-    way-changes (sleeps-stuck s _ _ _) = (
-      goes Slept _ _ _ _ refl refl (sleeps-around l wish a s) refl,
+    way-changes (sleeps-stuck s k _ _) = (
+      goes Slept _ _ _ _ refl refl (sleeps-around l wish a s k) refl,
       releasing _ _ _ _ (returned-two c i x g s),
     )
     way-changes (takes-second q s _ _ e _ f) = (
       goes Took _ _ _ _ refl (omega arith) (took-near l wish a 2 refl s) (took-choice l wish a q s e),
       taking _ _ _ _ f (needed-second l a _ s ∙ second-kept (kindOf a) (a .home) q),
     )
+    way-changes (puts n s _ f _) = (uses Put _ _ (ready s) refl refl refl refl, putting n f s)
+    way-changes (sleeps-full s k _) = (
+      goes Slept _ _ _ _ refl refl (sleeps-nowhere l wish a s k) refl,
+      releasing _ _ _ _ (returned-two c i x g s),
+    )
     way-changes (gives-up s _) = (goes Back _ _ _ _ refl refl refl refl, releasing _ _ _ _ (returned-three c i x g s))
-    way-changes (enters s k _) = (uses Left _ _ s refl refl refl refl, leaving _ (rw k) s (omega arith))
+    way-changes (enters s k _) = (uses Left _ _ (acts s) refl refl refl refl, leaving _ (rw k) s (omega arith))
     way-changes (exits s k _) = (
-      uses Left _ _ s refl refl refl refl,
+      uses Left _ _ (acts s) refl refl refl refl,
       leaving _ (parent-read l (a .remembered) (known s) ∙ rw k) s (omega arith),
     )
-    way-changes (opens s k _) = (uses Opened _ _ s refl refl refl refl, opening (opener c i x g s k))
+    way-changes (opens s k _) = (uses Opened _ _ (acts s) refl refl refl refl, opening (opener c i x g s k))
     way-changes (takes-own s f) = (
       goes Took _ _ _ _ refl (omega arith) (took-travelling l wish a 4 refl s) (took-none l wish a 4 refl s),
       taking _ _ _ _ f (needed-own l a 0 s),

@@ -83,6 +83,7 @@ module _ (c : State) (i : Sound c) (x : ℕ) (g : c .given x ≡ true) (e : c .a
     names = λ q _ _. ap (λ (f : ℕ → Name). f q) (name-linked l h);
     up = λ k. sym (links (b .remembered) (w .first)) ∙ k;
     awaits = λ q u k. not-yes _ (λ t. clash (still q (under q u) (awaited-some l q t)) k);
+    full = λ _ q u. u;
   }
     where
       under : (q : ℕ) → Under l′ q (b .remembered) → Under l q (b .remembered)

@@ -1,16 +1,19 @@
 -- Demand 3: from every cell as a load leaves it, after every list of calls, the cell is one tree and equals the plain tree, which came by the
--- permitted moves; while not all are at rest some step changes the cell, and then no move is permitted.
+-- permitted moves; while not all are at rest some step changes the cell, and then no move is permitted, and an agent's next action is a
+-- release only with all numbers in use.
 -- Idea: the calls keep the invariant and the plain tree beside the cell; the claims follow from these two, read off the table.
 use mathlib.Core.Path.{_≡_, refl, sym, ap, _∙_, subst, fun-ext}
 use mathlib.Core.Logic.{_↔_}
 use mathlib.Core.List.{List}
 use mathlib.Core.Bool.{true, false}
-use Prim.Native.Nat.{ℕ, _≤_}
+use Prim.Native.Nat.{ℕ, _≤_, _<_}
 use native.Mathlib.Omega.{arith}
-use borrow.Author.Tests.{eqb-true, leb-true, leb-false}
+use lib.Dec.{ltb}
+use borrow.Author.Tests.{eqb-true, ltb-true, ltb-false, leb-true, leb-false}
 use Rattle.table.specs.Base.{iter}
 use Rattle.table.specs.BaseLaws.{Told, yea, nay, told}
-use Rattle.table.specs.Cell.{State, travels, cellOf, tableOf}
+use Rattle.table.specs.Cell.{State, travels, freshNumber, cellOf, tableOf, releaseKind}
+use Rattle.table.specs.FreshLaws.{fresh-none}
 use Rattle.table.specs.Bounds.{Sized}
 use Rattle.table.specs.CellLaws.{sized-table}
 use Rattle.table.specs.Sound.{sound}
@@ -19,8 +22,9 @@ use Rattle.table.specs.declared.Cell.{Cell}
 use Rattle.meaning.specs.File.{load, accepted}
 use Rattle.meaning.specs.Step.{step}
 use Rattle.meaning.specs.Run.{Call, made, stepOf, saysRest, rests}
-use Rattle.meaning.specs.Calculus.{Tree, Move}
+use Rattle.meaning.specs.Calculus.{Tree, nextOf, Move}
 use Rattle.meaning.specs.Plain.{treeOf, plainOf}
+use Rattle.calculus.specs.MoveCases.{by-release, case-move}
 use Rattle.demands.specs.Reading.{agentIn}
 use Rattle.demands.specs.ReadingLaws.{agent-given}
 use Rattle.demands.specs.Invariant.{Inv}
@@ -94,6 +98,16 @@ module _ (t : Cell) (z : Sized t) (i : Inv (cellOf t)) where
       stages : (x : ℕ) → 7 ≤ agentIn c x .stage
       stages x = go x (told (c .given x))
 
+-- ---- a release that is not permitted
+
+-- where a tree permits no move, an agent's next action is a release only with all numbers in use
+release-full : (t : Tree) → ((a : ℕ) (u : Tree) → Move t a u → ⊥) → (a : ℕ) → nextOf t a .kind ≡ releaseKind → (q : ℕ) → q < 64 → t .used q ≡ true
+release-full t stuck a k = go (told (ltb (freshNumber (t .used)) 64))
+  where
+    go : Told (ltb (freshNumber (t .used)) 64) → (q : ℕ) → q < 64 → t .used q ≡ true
+    go (yea e) = absurd (stuck a _ (case-move (by-release (freshNumber (t .used)) k (ltb-true (freshNumber (t .used)) 64 e) refl)))
+    go (nay e) = fresh-none (t .used) (ltb-false (freshNumber (t .used)) 64 e)
+
 -- ---- the demand, from a fresh cell
 
 module _ (c : State) (f : Fresh c) (calls : List Call) where
@@ -124,8 +138,13 @@ module _ (c : State) (f : Fresh c) (calls : List Call) where
     order = reached-beside .same .order;
     history = steps-history (reached-beside .steps);
     goes-on = goes-of (reached c calls) reached-sized reached-inv;
-    at-rest = λ r a u v. rest-of (reached c calls) reached-sized reached-inv r a u (subst (λ t. Move t a u) reached-tree v);
+    at-rest = rest;
+    full = λ r. release-full (plainAfter c calls .tree) (rest r);
   }
+    where
+      rest : ((x : ℕ) → cellOf (reached c calls) .given x ≡ true → rests (reached c calls) x ≡ true)
+          → (a : ℕ) (u : Tree) → Move (plainAfter c calls .tree) a u → ⊥
+      rest r a u v = rest-of (reached c calls) reached-sized reached-inv r a u (subst (λ t. Move t a u) reached-tree v)
 
   -- whether an answer says asleep or done does not depend on the wish
   pub fresh-any-wish : (x wish : ℕ) → saysRest (stepOf (reached c calls) x wish .answer) ≡ rests (reached c calls) x

@@ -9,7 +9,7 @@ use lib.Dec.{ltb, eqb}
 use borrow.Author.Tests.{eqb-true, eq-eqb, ne-eqb, ltb-true, ltb-false, not-true}
 use Rattle.table.specs.BaseLaws.{Told, yea, nay, told, clash, and-left, and-right, all-at, all-yes, any-at, any-found}
 use Rattle.table.specs.Cell.{Land, State, none, linked, linkedTo, travels, kindOf, nameOf, enterKind, exitKind, openKind, looksHome, keyOf}
-use Rattle.table.specs.Kinds.{Kind, is-enter, is-exit, is-open, kind-around}
+use Rattle.table.specs.Kinds.{Kind, is-enter, is-exit, is-open, is-release, kind-around}
 use Rattle.table.specs.Sound.{secondPlace}
 use Rattle.table.specs.declared.Agent.{Agent}
 use Rattle.meaning.specs.Step.{onWayTo, awaited, named, entersAt, exitsFrom, opensAt, qualifies, targetOf, fires, stays}
@@ -194,9 +194,11 @@ module _ (l : Land) (kind n home p q : ℕ) where
 
   -- what qualifies is linked
   pub fits-linked : Kind kind → qualifies l kind n home p q ≡ true → linked l q ≡ true
+  unfolding qualifies opensAt
   fits-linked (is-enter k) e = enters-fits k e .0 .under .link
   fits-linked (is-exit k) e = let f = exits-fits k e in ap (linked l) (f .0) ∙ f .1
   fits-linked (is-open k) e = opens-fits k e .0 .under .link
+  fits-linked (is-release k) e = child openKind (not (awaited l q)) (rw k at e) .0 .under .link
 
 -- ---- an agent's target, its second place, and whether it stays
 

@@ -1,4 +1,4 @@
--- When a cell file is refused, with which number and where (document 01, "The cell file" and "Turned-away calls"; document 02, W1, W2, W3, W6):
+-- When a cell file is refused, with which number and where (document 01, "The cell file" and "Turned-away calls"; document 02, W1, W2, W3, W6, W11):
 -- read off the file's bytes alone. Neither the cell that a load makes nor the reading of a record plays a part. Definitions only.
 use mathlib.Core.Path.{_≡_}
 use mathlib.Core.Logic.{_≢_}
@@ -108,7 +108,7 @@ namesNotGiven s e at =
     (cond (isAction (kindAt s at)) (not (occurs (firstNumber s at) (e .agents)))
     (isTouches (kindAt s at) && not (occurs (firstNumber s at) (e .places))))
 
--- "7 action kind not 1 to 3"
+-- "7 action kind not 1 to 3"; "Action kind 4, release n" is an action too (document 02, W11)
 abbrev pub hasWrongKind : List ℕ → ℕ → Bool
 hasWrongKind s at = isAction (kindAt s at) && (eqb (secondNumber s at) 0 || ltb lastKind (secondNumber s at))
 

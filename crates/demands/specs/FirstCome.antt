@@ -1,17 +1,17 @@
 -- Who came first (document 02, W5), by a log of arrivals: what is claimed of a choice without a fitting wish. Definitions only; the row of
 -- places plays no part in them.
 use mathlib.Core.Path.{_≡_}
-use mathlib.Core.Logic.{_≢_}
+use mathlib.Core.Logic.{_≢_, _⊎_}
 use mathlib.Core.Bool.{Bool, true, false, cond}
 use mathlib.Core.List.{List, [], _∷_, _++_}
 use Prim.Native.Nat.{ℕ, zero, suc, _+_, _≤_, _<_}
 use lib.Dec.{eqb}
 use lib.ListN.{length}
 use Rattle.order.specs.Row.{keep, occurs}
-use Rattle.table.specs.Cell.{State, cellOf, tableOf, kindOf, nameOf, holding, exitKind}
+use Rattle.table.specs.Cell.{State, cellOf, tableOf, freshNumber, kindOf, nameOf, holding, enterKind, openKind}
 use Rattle.table.specs.declared.Cell.{Cell}
 use Rattle.meaning.specs.declared.Word.{Word}
-use Rattle.meaning.specs.declared.Word.the-variants.{Looked, Took, Held, Back, Slept, Left, Came, Opened, Asleep, Done}
+use Rattle.meaning.specs.declared.Word.the-variants.{Looked, Took, Held, Back, Slept, Left, Came, Opened, Put, Asleep, Done}
 use Rattle.meaning.specs.declared.Answer.the-variants.{Did, Refused}
 use Rattle.meaning.specs.File.{byteAt}
 use Rattle.meaning.specs.Step.{qualifies, childOf}
@@ -49,10 +49,11 @@ lastArrival q (r ∷ log) = cond (occurs q log) (suc (lastArrival q log)) (cond 
 
 -- "A place that comes is the latest; children freed by an opening become the latest and keep their order among themselves": who arrives by an
 -- answer to agent x in a cell. At came it is the agent's own place; at opened the children of the chosen place, in the order of their last
--- arrivals
+-- arrivals; at put the new place: "a put place is the latest of W5" (W11)
 abbrev pub arrivedBy : State → ℕ → Word → List ℕ → List ℕ
 arrivedBy c x Came log = c .agent x .home ∷ []
 arrivedBy c x Opened log = keep (childOf (c .land) (c .agent x .chosen)) (lasts log)
+arrivedBy c x Put log = freshNumber (c .land .used) ∷ []
 arrivedBy c x Looked log = []
 arrivedBy c x Took log = []
 arrivedBy c x Held log = []
@@ -87,7 +88,7 @@ fitsIn c x q = qualifies (c .land) (kindOf (c .agent x)) (nameOf (c .agent x)) (
 -- qualify
 pub record TakesUnwished (t : Cell) (x wish : ℕ) : Type 0 where
   pub stage : cellOf t .agent x .stage ≡ holding
-  pub kind : kindOf (cellOf t .agent x) ≢ exitKind
+  pub kind : (kindOf (cellOf t .agent x) ≡ enterKind) ⊎ (kindOf (cellOf t .agent x) ≡ openKind)
   pub woken : ℕ
   pub took : stepOf t x wish .answer ≡ Did Took woken
   pub unwished : fitsIn (cellOf t) x wish ≡ false

@@ -2,7 +2,7 @@
 -- and every list of calls, by the log of arrivals.
 -- Idea: the chosen place stands before every other in the row, and the row is that of the log.
 use mathlib.Core.Path.{_≡_, refl, sym, ap, _∙_, subst}
-use mathlib.Core.Logic.{_≢_}
+use mathlib.Core.Logic.{_≢_, _⊎_, inl, inr}
 use mathlib.Core.Bool.{Bool, true, false}
 use mathlib.Core.List.{List}
 use Prim.Native.Nat.{ℕ, _≤_, _<_}
@@ -11,16 +11,16 @@ use borrow.Author.Tests.{ne-eqb}
 use Rattle.order.specs.Row.{occurs, positionOf}
 use Rattle.table.specs.BaseLaws.{Told, yea, nay, told, clash, upd-same}
 use Rattle.table.specs.Bounds.{Sized}
-use Rattle.table.specs.Cell.{State, linked, kindOf, exitKind, holding, cellOf, tableOf}
+use Rattle.table.specs.Cell.{State, linked, kindOf, enterKind, exitKind, openKind, holding, cellOf, tableOf}
 use Rattle.table.specs.CellLaws.{sized-table}
 use Rattle.table.specs.declared.Agent.{Agent}
 use Rattle.table.specs.declared.Cell.{Cell}
 use Rattle.meaning.specs.declared.Word.{Word}
-use Rattle.meaning.specs.declared.Word.the-variants.{Looked, Took, Held, Back, Slept, Left, Came, Opened, Asleep, Done}
+use Rattle.meaning.specs.declared.Word.the-variants.{Looked, Took, Held, Back, Slept, Left, Came, Opened, Put, Asleep, Done}
 use Rattle.meaning.specs.declared.Answer.{Answer}
 use Rattle.meaning.specs.declared.Answer.the-variants.{Did, Refused}
 use Rattle.meaning.specs.File.{load, accepted}
-use Rattle.meaning.specs.Step.{Outcome, still, step, leave, dissolve, arrive, choice}
+use Rattle.meaning.specs.Step.{Outcome, still, step, put, leave, dissolve, arrive, choice}
 use Rattle.meaning.specs.Run.{Call, made, turnedAway, stepOf}
 use Rattle.demands.specs.Invariant.{Inv}
 use Rattle.demands.specs.Facts.{link-used, fits-linked}
@@ -29,7 +29,7 @@ use Rattle.demands.specs.Stages.{ok-at, ok-given, fit-given}
 use Rattle.demands.specs.OpeningPlaces.{linked-not-floor}
 use Rattle.demands.specs.Chosen.{Chosen, the-wish, the-first, no-place, choice-first}
 use Rattle.demands.specs.Ways.{Way, is-done, is-asleep, held-first, held-second, held-own, held-destination, looks-up, looks-home}
-use Rattle.demands.specs.Ways.{sleeps-alone, takes-first, goes-back, sleeps-stuck, takes-second, gives-up, enters, exits, opens}
+use Rattle.demands.specs.Ways.{sleeps-alone, takes-first, goes-back, sleeps-stuck, takes-second, puts, sleeps-full, gives-up, enters, exits, opens}
 use Rattle.demands.specs.Ways.{takes-own, takes-destination, comes}
 use Rattle.demands.specs.StepWays.{step-way}
 use Rattle.demands.specs.Always.{step-back}
@@ -55,13 +55,14 @@ isTook Slept = false
 isTook Left = false
 isTook Came = false
 isTook Opened = false
+isTook Put = false
 isTook Asleep = false
 isTook Done = false
 
 -- an agent at stage 2 of enter or open that takes a lock has chosen a place
 second-took : {c : State} {x wish : ℕ} {o : Outcome} → Way c x wish o → c .agent x .stage ≡ holding → kindOf (c .agent x) ≢ exitKind → isTook (o .word) ≡ true
     → (choice (c .land) (c .agent x) wish < 64) × (o .cell .agent x .chosen ≡ choice (c .land) (c .agent x) wish)
-unfolding still leave dissolve arrive isTook
+unfolding still put leave dissolve arrive isTook
 second-took (is-done s) e k w = clash w refl
 second-took (is-asleep s) e k w = clash w refl
 second-took (held-first s _) e k w = clash w refl
@@ -76,6 +77,8 @@ second-took (goes-back s _) e k w = clash w refl
 second-took (sleeps-stuck s _ _ _) e k w = clash w refl
 second-took {c} {x} {wish} (takes-second q s _ st ch l _) e k w =
     (subst (λ (n : ℕ). n < 64) (sym ch) l, ap (λ (a : Agent). a .chosen) (upd-same (c .agent) x _) ∙ rw (ne-eqb (kindOf (c .agent x)) exitKind k) (sym ch))
+second-took (puts q s _ _ _) e k w = clash w refl
+second-took (sleeps-full s _ _) e k w = clash w refl
 second-took (gives-up s _) e k w = clash w refl
 second-took (enters s _ _) e k w = clash w refl
 second-took (exits s _ _) e k w = clash w refl
@@ -111,7 +114,11 @@ module _ (t : Cell) (z : Sized t) (i : Inv (cellOf t)) (x wish : ℕ) (u : Takes
   word-took = sym (ap (λ s. saysTook (s .answer)) (call-made t i x wish given)) ∙ says
 
   taken : (choice (c .land) (c .agent x) wish < 64) × (step c x wish .cell .agent x .chosen ≡ choice (c .land) (c .agent x) wish)
-  taken = second-took (step-way c (i .sound) x given wish) (u .stage) (u .kind) word-took
+  taken = second-took (step-way c (i .sound) x given wish) (u .stage) (no-exit (u .kind)) word-took
+    where
+      no-exit : (kindOf (c .agent x) ≡ enterKind) ⊎ (kindOf (c .agent x) ≡ openKind) → kindOf (c .agent x) ≢ exitKind
+      no-exit (inl e) z = omega arith
+      no-exit (inr e) z = omega arith
 
   -- what it has chosen is its choice
   chosen-is : chosenBy t x wish ≡ choice (c .land) (c .agent x) wish

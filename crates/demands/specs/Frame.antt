@@ -8,14 +8,14 @@ use native.Mathlib.Omega.{arith}
 use lib.Dec.{eqb}
 use borrow.Author.Tests.{eqb-true, eqb-false}
 use Rattle.table.specs.BaseLaws.{Told, yea, nay, told, clash}
-use Rattle.table.specs.Cell.{Land, linked, kindOf, nameOf, unused, exitKind, keyOf, looking, found, holding, holdingBoth, asleep}
-use Rattle.table.specs.Kinds.{Kind, is-enter, is-exit, is-open}
+use Rattle.table.specs.Cell.{Land, none, linked, kindOf, nameOf, unused, exitKind, openKind, keyOf, looking, found, holding, holdingBoth, asleep}
+use Rattle.table.specs.Kinds.{Kind, is-enter, is-exit, is-open, is-release}
 use Rattle.table.specs.declared.Agent.{Agent}
 use Rattle.meaning.specs.Update.{atStage}
 use Rattle.meaning.specs.Step.{awaited, qualifies, stays, asleepOn}
 use Rattle.demands.specs.Reading.{parentIn, nameIn}
 use Rattle.demands.specs.ReadingLaws.{wakeAgent}
-use Rattle.demands.specs.Invariant.{Under, Has, Ready, Away, Travels, Sleeper, alone, stuck}
+use Rattle.demands.specs.Invariant.{Under, Has, Ready, Away, Travels, Sleeper, alone, stuck, full}
 use Rattle.demands.specs.Invariant.{Ok, ok0, ok1, ok2, ok3-move, ok3-open, ok4, ok5, ok6, ok7, ok8}
 use Rattle.demands.specs.Stages.{SameOrReset}
 use Rattle.demands.specs.Facts.{not-yes, link-used, Child, stays-under, stays-of, stays-home}
@@ -59,12 +59,14 @@ ok-frame {l} {l′} {lock} {lock′} {x} {a} home above known has under way = go
     go (ok6 s v h₁ h₂) =
         let t : Travels a = record { from = omega arith; to = omega arith } in
         ok6 s (away t v) (has _ home h₁) (subst (λ (q : ℕ). Has lock′ q x) (sym (way t v .1)) (has _ above h₂))
-    go (ok7 s k u) = ok7 s k (known (sleeps s) u)
+    go (ok7 s k (inl u)) = ok7 s k (inl (known (sleeps s) u))
+    go (ok7 s k (inr n)) = ok7 s k (inr n)
     go (ok8 s e) = ok8 s e
 
 -- ---- a sleeper's reason
 
--- the change from l to l′ opens nothing to a sleeper: it stays where it is, and no place comes to qualify where it would look
+-- the change from l to l′ opens nothing to a sleeper: it stays where it is, no place comes to qualify where it would look, and no number
+-- gets unused where it waits for one
 pub record Calm (l l′ : Land) (a : Agent) : Type 0 where
   pub loose : linked l (a .home) ≡ false → a .remembered ≡ a .home → linked l′ (a .home) ≡ false
   pub keeps : Under l (a .home) (a .remembered) → Under l′ (a .home) (a .remembered)
@@ -72,6 +74,7 @@ pub record Calm (l l′ : Land) (a : Agent) : Type 0 where
   pub names : (q : ℕ) → linked l q ≡ true → linked l′ q ≡ true → nameIn l′ q ≡ nameIn l q
   pub up : linked l′ (a .remembered) ≡ true → linked l (a .remembered) ≡ true
   pub awaits : (q : ℕ) → Under l′ q (a .remembered) → awaited l′ q ≡ false → awaited l q ≡ false
+  pub full : a .remembered ≡ none → (q : ℕ) → l .used q ≡ true → l′ .used q ≡ true
 
 -- a sleeper that is not woken
 module _ (l l′ : Land) (a : Agent) (k : Kind (kindOf a)) (m : Calm l l′ a) where
@@ -80,24 +83,27 @@ module _ (l l′ : Land) (a : Agent) (k : Kind (kindOf a)) (m : Calm l l′ a) w
   stays-frame (is-enter k) e = stays-of l′ a (m .keeps (stays-under l a (omega arith) e))
   stays-frame (is-exit k) e = stays-of l′ a (m .keeps (stays-under l a (omega arith) e))
   stays-frame (is-open k) e = stays-home l′ a (rw k)
+  stays-frame (is-release k) e = stays-home l′ a (rw k)
 
   child-frame : (k n q : ℕ) → Child k l′ (a .remembered) n q → Child k l (a .remembered) n q
   child-frame k n q c =
       let u = m .child q (c .under) in
       record { under = u; name = ap (keyOf k) (sym (m .names q (u .link) (c .under .link))) ∙ c .name }
 
-  fits-frame : (q : ℕ) → Kind (kindOf a) → qualifies l′ (kindOf a) (nameOf a) (a .home) (a .remembered) q ≡ true
+  fits-frame : (q : ℕ) → kindOf a ≤ openKind → Kind (kindOf a) → qualifies l′ (kindOf a) (nameOf a) (a .home) (a .remembered) q ≡ true
       → qualifies l (kindOf a) (nameOf a) (a .home) (a .remembered) q ≡ true
-  fits-frame q (is-enter k) e = let f = enters-fits l′ _ _ _ _ q k e in enters-of l _ _ _ _ q k (child-frame _ _ q (f .0)) (f .1)
-  fits-frame q (is-exit k) e = let f = exits-fits l′ _ _ _ _ q k e in
+  fits-frame q b (is-enter k) e = let f = enters-fits l′ _ _ _ _ q k e in enters-of l _ _ _ _ q k (child-frame _ _ q (f .0)) (f .1)
+  fits-frame q b (is-exit k) e = let f = exits-fits l′ _ _ _ _ q k e in
       exits-of l _ _ _ _ q k (f .0) (m .up (f .1)) (ap (keyOf exitKind) (sym (m .names _ (m .up (f .1)) (f .1))) ∙ f .2)
-  fits-frame q (is-open k) e = let f = opens-fits l′ _ _ _ _ q k e in
+  fits-frame q b (is-open k) e = let f = opens-fits l′ _ _ _ _ q k e in
       opens-of l _ _ _ _ q k (child-frame _ _ q (f .0)) (m .awaits q (f .0 .under) (f .1))
+  fits-frame q b (is-release k) e = absurd (omega arith)
 
   -- so it keeps its reason
   pub sleeper-frame : Sleeper l a → Sleeper l′ a
   sleeper-frame (alone s e o) = alone s e (m .loose o e)
-  sleeper-frame (stuck b o s f) = stuck b o (stays-frame k s) (λ q. not-yes _ (λ t. clash (fits-frame q k t) (f q)))
+  sleeper-frame (stuck b o s f) = stuck b o (stays-frame k s) (λ q. not-yes _ (λ t. clash (fits-frame q b k t) (f q)))
+  sleeper-frame (full r e u) = full r e (λ q s. m .full e q (u q s))
 
 -- ---- waking
 

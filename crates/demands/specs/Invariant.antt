@@ -2,12 +2,12 @@
 -- Names in the proofs: c is a cell, i says that it is sound, x is the agent that steps, g says that it is given; l are the places, t the
 -- table or the plain tree.
 use mathlib.Core.Path.{_≡_}
-use mathlib.Core.Logic.{_≢_}
+use mathlib.Core.Logic.{_≢_, _⊎_}
 use mathlib.Core.List.{[]}
 use Prim.Native.Nat.{ℕ, _≤_, _<_}
 use mathlib.Core.Bool.{true, false}
 use Rattle.order.specs.Row.{rowFits}
-use Rattle.table.specs.Cell.{Land, State, none, noName, linked, kindOf, nameOf, unused, enterKind, exitKind, openKind}
+use Rattle.table.specs.Cell.{Land, State, none, noName, linked, kindOf, nameOf, unused, enterKind, exitKind, openKind, releaseKind}
 use Rattle.table.specs.Cell.{looking, found, holding, holdingBoth, onWay, onWayOwn, onWayBoth, asleep, done}
 use Rattle.table.specs.Sound.{secondPlace, touchSum, mostTouches}
 use Rattle.table.specs.declared.Agent.{Agent}
@@ -48,7 +48,7 @@ pub record Fit (a : Agent) : Type 0 where
   pub few : a .count ≤ 16
   pub good : Good (unused a)
 
--- an agent with an action left that remembers a place in use; an opener remembers its home
+-- an agent with an action left that remembers a place in use; one that opens or releases remembers its home
 pub record Ready (l : Land) (a : Agent) : Type 0 where
   pub some : 1 ≤ kindOf a
   pub known : l .used (a .remembered) ≡ true
@@ -59,9 +59,9 @@ pub record Away (l : Land) (a : Agent) : Type 0 where
   pub loose : linked l (a .home) ≡ false
   pub placed : a .home ≢ 0
 
--- an agent asleep remembers a place in use
+-- an agent asleep remembers a place in use, or, for release, no place
 abbrev pub SleepsOn : Land → Agent → Type 0
-SleepsOn l a = l .used (a .remembered) ≡ true
+SleepsOn l a = (l .used (a .remembered) ≡ true) ⊎ ((kindOf a ≡ releaseKind) × (a .remembered ≡ none))
 
 -- what its stage says of an agent, of the places and of the locks
 pub data Ok (l : Land) (lock : ℕ → ℕ) (x : ℕ) (a : Agent) : Type 0 where
@@ -115,11 +115,13 @@ pub record Sound (c : State) : Type 0 where
   pub touched : touchSum c ≤ mostTouches
   pub single : (x y : ℕ) → Travels (agentIn c x) → Travels (agentIn c y) → agentIn c x .home ≡ agentIn c y .home → x ≡ y
 
--- why an agent sleeps: its place has no linked parent, or its action does not fire where it would look now
+-- why an agent sleeps: its place has no linked parent, its action does not fire where it would look now, or, for release, all numbers are in
+-- use
 pub data Sleeper (l : Land) (a : Agent) : Type 0 where
   alone : kindOf a ≤ exitKind → a .remembered ≡ a .home → linked l (a .home) ≡ false → Sleeper l a
   stuck : kindOf a ≤ openKind → (openKind ≤ kindOf a → a .remembered ≡ a .home) → stays l a ≡ true
       → ((q : ℕ) → qualifies l (kindOf a) (nameOf a) (a .home) (a .remembered) q ≡ false) → Sleeper l a
+  full : kindOf a ≡ releaseKind → a .remembered ≡ none → ((q : ℕ) → q < 64 → l .used q ≡ true) → Sleeper l a
 
 -- each sleeper has a reason to sleep
 abbrev pub Reasons : State → Type 0

@@ -86,6 +86,7 @@ module _ (c : State) (i : Sound c) (x : ℕ) (g : c .given x ≡ true) (e : c .a
     names = λ q _ _. ap (λ (f : ℕ → Name). f q) (name-sent l h d);
     up = λ k. sym (links (b .remembered) (w .second)) ∙ k;
     awaits = λ q u k. not-yes _ (λ t. clash (still q (awaited-some l q t)) k);
+    full = λ _ q u. u;
   }
     where
       still : (q : ℕ) → (r : ℕ) × Comes l q r → awaited l′ q ≡ true

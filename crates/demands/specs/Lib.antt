@@ -5,6 +5,7 @@ pub mod AfterCalls
 pub mod Printed
 pub mod TwoSteps
 pub mod Agrees
+pub mod ByWord
 pub mod NoMore
 pub mod TouchTotal
 pub mod FirstCome
@@ -63,6 +64,7 @@ pub mod Change
 pub mod Quiet
 pub mod Leaving
 pub mod Coming
+pub mod Putting
 pub mod OpeningAgents
 pub mod OpeningPlaces
 pub mod OpeningLocks
@@ -71,6 +73,7 @@ pub mod Opening
 pub mod Woken
 pub mod SteppedLaws
 pub mod ChangesLaws
+pub mod FieldLaws
 pub mod Touching
 pub mod Always
 -- what an ask tells

@@ -14,7 +14,7 @@ use Rattle.table.specs.Cell.{Land, State, none, linked, linkedTo, kindOf, exitK
 use Rattle.table.specs.Sound.{secondPlace}
 use Rattle.table.specs.declared.Agent.{Agent}
 use Rattle.meaning.specs.Update.{useUp}
-use Rattle.meaning.specs.Step.{Outcome, step, still, leave, dissolve, arrive, choice, stays}
+use Rattle.meaning.specs.Step.{Outcome, step, still, put, leave, dissolve, arrive, choice, stays}
 use Rattle.calculus.specs.Up.{Up, base, up, sixty-three}
 use Rattle.demands.specs.Reading.{parentIn, agentIn}
 use Rattle.demands.specs.ReadingLaws.{agent-given}
@@ -24,7 +24,7 @@ use Rattle.demands.specs.Facts.{link-used, under-fits, under-of, opens-f
 use Rattle.demands.specs.Choice.{choice-fits}
 use Rattle.demands.specs.Stages.{ok-at, rest-stage, not-between, holds-given, ok-given, home-given}
 use Rattle.demands.specs.Ways.{Way, is-done, is-asleep, held-first, held-second, held-own, held-destination, looks-up, looks-home}
-use Rattle.demands.specs.Ways.{sleeps-alone, takes-first, goes-back, sleeps-stuck, takes-second, gives-up, enters, exits, opens}
+use Rattle.demands.specs.Ways.{sleeps-alone, takes-first, goes-back, sleeps-stuck, takes-second, puts, sleeps-full, gives-up, enters, exits, opens}
 use Rattle.demands.specs.Ways.{takes-own, takes-destination, comes}
 use Rattle.demands.specs.StepWays.{step-way}
 
@@ -82,7 +82,7 @@ module _ (c : State) (i : Sound c) (x : ℕ) (g : c .given x ≡ true) where
 
   -- a step changes the agent's stage, or the agent waits
   change : {w : ℕ} {o : Outcome} → Way c x w o → (o .cell .agent x .stage ≢ c .agent x .stage) ⊎ Waits c x
-  unfolding still leave dissolve arrive
+  unfolding still put leave dissolve arrive
   change (is-done s) = inr (rests (omega arith))
   change (is-asleep s) = inr (rests (omega arith))
   change (held-first s n) = inr (waits _ 1 s refl n)
@@ -96,6 +96,8 @@ module _ (c : State) (i : Sound c) (x : ℕ) (g : c .given x ≡ true) where
   change (goes-back s e) = inl (other-stage 2 0 _ _ s refl (omega arith))
   change (sleeps-stuck s b st l) = inl (other-stage 2 7 _ _ s refl (omega arith))
   change (takes-second q s b st e l f) = inl (other-stage 2 3 _ _ s refl (omega arith))
+  change (puts q s k e l) = inl (other-stage 2 _ _ _ s refl (λ z. not-between (rest-stage (useUp (c .agent x))) (omega arith) (omega arith)))
+  change (sleeps-full s k f) = inl (other-stage 2 7 _ _ s refl (omega arith))
   change (gives-up s e) = inl (other-stage 3 0 _ _ s refl (omega arith))
   change (enters s k e) = inl (other-stage 3 4 _ _ s refl (omega arith))
   change (exits s k e) = inl (other-stage 3 4 _ _ s refl (omega arith))

@@ -1,29 +1,31 @@
--- The plain tree follows every step: it has again the cell's tree, by one permitted move at left and opened and by none at any other word.
+-- The plain tree follows every step: it has again the cell's tree, by one permitted move at left, opened and put and by none at any other
+-- word.
 -- Idea: what fires at stage 3 is linked where the calculus wants it to stand, and the pick is the chosen place.
 use mathlib.Core.Path.{_≡_, refl, sym, ap, _∙_, subst}
 use mathlib.Core.Bool.{Bool, true, false}
-use Prim.Native.Nat.{ℕ}
+use Prim.Native.Nat.{ℕ, _<_}
 use native.Mathlib.Omega.{arith}
 use borrow.Author.Tests.{ne-eqb}
 use Rattle.table.specs.BaseLaws.{clash}
-use Rattle.table.specs.Cell.{State, kindOf, nameOf, enterKind, exitKind, openKind, keyOf}
+use Rattle.table.specs.Cell.{State, freshNumber, kindOf, nameOf, enterKind, exitKind, openKind, releaseKind, keyOf}
+use Rattle.table.specs.FreshLaws.{fresh-unused}
 use Rattle.table.specs.declared.Agent.{Agent}
-use Rattle.meaning.specs.Step.{Outcome, still, qualifies, targetOf, fires, leave, dissolve, arrive}
-use Rattle.meaning.specs.Calculus.{Tree, nextOf, putInto, openUp, Move}
+use Rattle.meaning.specs.Step.{Outcome, still, qualifies, targetOf, fires, put, leave, dissolve, arrive}
+use Rattle.meaning.specs.Calculus.{Tree, nextOf, putInto, openUp, putOut, Move}
 use Rattle.meaning.specs.Plain.{Plain, treeOf, plainWord, isMove}
-use Rattle.calculus.specs.MoveCases.{Stands, by-enter, by-exit, by-open, case-move}
+use Rattle.calculus.specs.MoveCases.{Stands, by-enter, by-exit, by-open, by-release, case-move}
 use Rattle.demands.specs.Reading.{parentIn, nameIn}
 use Rattle.demands.specs.Invariant.{Under, Sound}
 use Rattle.demands.specs.Facts.{link-used, enters-fits, exits-fits, opens-fits, target-chosen}
 use Rattle.demands.specs.Stages.{ok-at, ok-given, both-move, both-open}
 use Rattle.demands.specs.Ways.{Way, is-done, is-asleep, held-first, held-second, held-own, held-destination, looks-up, looks-home}
-use Rattle.demands.specs.Ways.{sleeps-alone, takes-first, goes-back, sleeps-stuck, takes-second, gives-up, enters, exits, opens}
+use Rattle.demands.specs.Ways.{sleeps-alone, takes-first, goes-back, sleeps-stuck, takes-second, puts, sleeps-full, gives-up, enters, exits, opens}
 use Rattle.demands.specs.Ways.{takes-own, takes-destination, comes}
 use Rattle.demands.specs.OpeningPlaces.{linked-not-floor}
 use Rattle.demands.specs.SameTree.{given-home, given-kind, given-name}
 use Rattle.demands.specs.SamePlain.{Same}
-use Rattle.demands.specs.SameSteps.{plain-quiet, plain-took, plain-choice, plain-held, plain-left, plain-came, plain-opened}
-use Rattle.demands.specs.SameSteps.{chosen-pick, enter-result, exit-result, open-result}
+use Rattle.demands.specs.SameSteps.{plain-quiet, plain-took, plain-choice, plain-held, plain-left, plain-came, plain-opened, plain-put}
+use Rattle.demands.specs.SameSteps.{chosen-pick, enter-result, exit-result, open-result, release-result}
 
 -- the tree before and after a call: one move of agent x, or no change
 pub record MovedOrSame (moves : Bool) (x : ℕ) (t u : Tree) : Type 0 where
@@ -91,6 +93,10 @@ module _ (c : State) (i : Sound c) (x : ℕ) (g : c .given x ≡ true) (t : Plai
       case-move (by-open (a .chosen) (kind-is k) (stands (a .chosen) (treeOf c .home x)
       (record { link = b .0 .under .link; parent = b .0 .under .parent ∙ h ∙ sym home })) (name-is (b .0 .name)))
 
+  release-made : (q : ℕ) → kindOf a ≡ releaseKind → freshNumber (c .land .used) ≡ q → q < 64 → Move (treeOf c) x (putOut (treeOf c) x q)
+  unfolding treeOf
+  release-made q k e l = case-move (by-release q (kind-is k) l e)
+
   -- ---- every way a step can go
 
   -- a word that says nothing to the plain tree
@@ -110,7 +116,7 @@ module _ (c : State) (i : Sound c) (x : ℕ) (g : c .given x ≡ true) (t : Plai
 
   -- the plain tree follows each of them
   pub way-follows : {wish : ℕ} {o : Outcome} → Way c x wish o → Follows (o .cell) (isMove (o .word)) x t (plainWord t x wish (o .word))
-  unfolding still plainWord leave dissolve arrive
+  unfolding still plainWord put leave dissolve arrive
   way-follows (is-done _) = silent m
   way-follows (is-asleep _) = silent m
   way-follows (held-first _ _) = silent m
@@ -128,6 +134,11 @@ module _ (c : State) (i : Sound c) (x : ℕ) (g : c .given x ≡ true) (t : Plai
         (λ _ k. plain-choice c i x g t m wish s b k (plain-held c i x g t m s st) ∙ ch ∙ sym (rw (ne-eqb (kindOf a) exitKind k)));
     step = unmoved;
   }
+  way-follows {wish} (puts q s k f l) =
+      let e = release-result c i x g t m q k f in
+      let free : c .land .used q ≡ false = subst (λ (r : ℕ). c .land .used r ≡ false) f (fresh-unused (c .land .used) (omega arith)) in
+      has-moved (plain-put c i x g t m q wish (ok-at 2 s (ok-given c i x g) .0 .opener (omega arith)) free f e) e (release-made q k f l)
+  way-follows (sleeps-full _ _ _) = silent (plain-quiet c i x g t m _ 7 _ 0 (λ z. absurd (omega arith)))
   way-follows (gives-up _ _) = silent (plain-quiet c i x g t m _ 0 0 0 (λ z. absurd (omega arith)))
   way-follows {wish} (enters s k f) =
       let e = enter-result c i x g t m s k in

@@ -1,154 +1,35 @@
 -- What a call changes, and no more (demand 2): the claim, word by word of the answer. Definitions only.
 use mathlib.Core.Path.{_≡_}
 use mathlib.Core.Logic.{_≢_, _⊎_}
-use mathlib.Core.Bool.{Bool, true, false, not, _&&_, cond}
-use mathlib.Core.List.{List}
+use mathlib.Core.Bool.{true, false, cond}
+use mathlib.Core.List.{List, _++_}
 use Prim.Native.Nat.{ℕ, _+_}
-use lib.Dec.{eqb, leb}
-use Rattle.order.specs.Row.{later, latest}
-use Rattle.table.specs.Cell.{Land, State, none, noPlace, kindOf, exitKind, looksHome, looking, found, holding, onWay, asleep, done}
+use lib.Dec.{eqb}
+use Rattle.table.specs.Cell.{Land, State, cellOf, none, plainName, noPlace, freshNumber, kindOf, nameOf, looking, found, holding, onWay, asleep, done}
 use Rattle.table.specs.Sound.{secondPlace}
 use Rattle.table.specs.declared.Agent.{Agent}
+use Rattle.table.specs.declared.Cell.{Cell}
 use Rattle.meaning.specs.declared.Word.{Word}
-use Rattle.meaning.specs.declared.Word.the-variants.{Looked, Took, Held, Back, Slept, Left, Came, Opened, Asleep, Done}
+use Rattle.meaning.specs.declared.Word.the-variants.{Looked, Took, Held, Back, Slept, Left, Came, Opened, Put, Asleep, Done}
 use Rattle.meaning.specs.declared.Answer.{Answer}
 use Rattle.meaning.specs.declared.Answer.the-variants.{Did, Refused}
 use Rattle.meaning.specs.declared.Touching.{Touching}
-use Rattle.meaning.specs.Update.{atStage, withHome, withParent}
-use Rattle.meaning.specs.Step.{choice, restStage, childOf, letsGo, destinationOf, beyond}
-use Rattle.meaning.specs.Run.{touchCall, touchReply}
+use Rattle.meaning.specs.Update.{linkedPlace, atStage, withHome, withParent}
+use Rattle.meaning.specs.Step.{letsGo, destinationOf, beyond}
+use Rattle.meaning.specs.Run.{Call, touchCall, touchReply, run}
 use Rattle.demands.specs.TouchTotal.{addedBy}
+use Rattle.demands.specs.ByWord.{usedAfter, touchesAfter, orderAfter, Stepped}
 
 -- ---- what is not in use
 
--- from cell c to cell d nothing is changed that is not in use: such a place keeps its name, keys, parent and way, its lock and touches, and
--- stays unused; an agent that is not given keeps every field, and the same agents are given
+-- from cell c to cell d nothing is changed that is not in use, before and after: such a place keeps its name, keys, parent and way, its lock and
+-- touches; an agent that is not given keeps every field, and the same agents are given
 pub record Untouched (c d : State) : Type 0 where
-  pub place : (q : ℕ) → c .land .used q ≡ false → d .land .place q ≡ c .land .place q
-  pub lock : (q : ℕ) → c .land .used q ≡ false → d .lock q ≡ c .lock q
-  pub unused : (q : ℕ) → c .land .used q ≡ false → d .land .used q ≡ false
+  pub place : (q : ℕ) → c .land .used q ≡ false → d .land .used q ≡ false → d .land .place q ≡ c .land .place q
+  pub lock : (q : ℕ) → c .land .used q ≡ false → d .land .used q ≡ false → d .lock q ≡ c .lock q
   pub agent : (y : ℕ) → c .given y ≡ false → d .agent y ≡ c .agent y
   pub given : d .given ≡ c .given
-  pub touches : (q : ℕ) → c .land .used q ≡ false → d .touches q ≡ c .touches q
-
--- ---- numbers in use, touches and the row
-
--- the word is opened
-abbrev pub isOpened : Word → Bool
-isOpened Looked = false
-isOpened Took = false
-isOpened Held = false
-isOpened Back = false
-isOpened Slept = false
-isOpened Left = false
-isOpened Came = false
-isOpened Opened = true
-isOpened Asleep = false
-isOpened Done = false
-
--- the answer is
-abbrev pub saysOpened : Answer → Bool
-saysOpened (Did word woken) = isOpened word
-saysOpened (Refused number) = false
-
--- "its number becomes unused": which numbers are in use after a call of an agent, which is a, with this answer
-abbrev pub usedAfter : Answer → Agent → (ℕ → Bool) → ℕ → Bool
-usedAfter answer a used q = not (saysOpened answer && eqb q (a .chosen)) && used q
-
--- "its count is pooled into the place of the agent that opened it" (document 02, W3), and the number that becomes unused has none: the touches
--- after a call of an agent, which is a, with this answer
-abbrev pub touchesAfter : Answer → Agent → (ℕ → ℕ) → ℕ → ℕ
-touchesAfter answer a touches q =
-    cond (saysOpened answer)
-    (cond (eqb q (a .chosen)) 0 (cond (eqb q (a .home)) (touches q + touches (a .chosen)) (touches q)))
-    (touches q)
-
--- "A place that comes is the latest; children freed by an opening become the latest and keep their order among themselves" (document 02, W5):
--- the row of places after a step of agent x with this word; a place that leaves keeps its position until it comes
-abbrev pub orderBy : Word → State → ℕ → List ℕ
-orderBy Came c x = latest (c .agent x .home) (c .land .order)
-orderBy Opened c x = later (childOf (c .land) (c .agent x .chosen)) (c .land .order)
-orderBy Looked c x = c .land .order
-orderBy Took c x = c .land .order
-orderBy Held c x = c .land .order
-orderBy Back c x = c .land .order
-orderBy Slept c x = c .land .order
-orderBy Left c x = c .land .order
-orderBy Asleep c x = c .land .order
-orderBy Done c x = c .land .order
-
--- after a call with this answer
-abbrev pub orderAfter : Answer → State → ℕ → List ℕ
-orderAfter (Did word woken) c x = orderBy word c x
-orderAfter (Refused number) c x = c .land .order
-
--- ---- the agent that steps
-
--- "the action is used up": how many actions a step with this word uses up, one by left and opened
-abbrev pub usedUp : Word → ℕ
-usedUp Looked = 0
-usedUp Took = 0
-usedUp Held = 0
-usedUp Back = 0
-usedUp Slept = 0
-usedUp Left = 1
-usedUp Came = 0
-usedUp Opened = 1
-usedUp Asleep = 0
-usedUp Done = 0
-
--- the stage after a step with this word of an agent, which is a before and b after: "looked, stage 1", "took" the next stage, "back, stage 0",
--- "slept, stage 7", "left, stage 4", "After opened or came the agent is at stage 0, or 8 if no action is left", else "nothing changes"
-abbrev pub stageBy : Word → Agent → Agent → ℕ
-stageBy Looked a b = found
-stageBy Took a b = a .stage + 1
-stageBy Held a b = a .stage
-stageBy Back a b = looking
-stageBy Slept a b = asleep
-stageBy Left a b = onWay
-stageBy Came a b = restStage b
-stageBy Opened a b = restStage b
-stageBy Asleep a b = a .stage
-stageBy Done a b = a .stage
-
--- "An agent remembers a place at stages 1 to 3 and 7 (there the one it sleeps on) .. otherwise nothing": the place that an agent, which is a,
--- remembers after a step with this word. "Open: remember its own place", "Enter or exit: remember the parent"; p stays remembered up to stage 3;
--- "slept, stage 7 on its own place" at stage 0, "stage 7 on p" at stage 2
-abbrev pub rememberedBy : Word → Land → Agent → ℕ
-rememberedBy Looked l a = cond (looksHome (kindOf a)) (a .home) (l .place (a .home) .parent)
-rememberedBy Took l a = cond (leb (a .stage) holding) (a .remembered) 0
-rememberedBy Held l a = a .remembered
-rememberedBy Back l a = 0
-rememberedBy Slept l a = cond (eqb (a .stage) looking) (a .home) (a .remembered)
-rememberedBy Left l a = 0
-rememberedBy Came l a = 0
-rememberedBy Opened l a = 0
-rememberedBy Asleep l a = a .remembered
-rememberedBy Done l a = a .remembered
-
--- "and a chosen place at stage 3 of enter and open; otherwise nothing": the chosen place after a step with this word and wish
-abbrev pub chosenBy : Word → Land → Agent → ℕ → ℕ
-chosenBy Looked l a wish = 0
-chosenBy Took l a wish = cond (eqb (a .stage) holding && not (eqb (kindOf a) exitKind)) (choice l a wish) 0
-chosenBy Held l a wish = a .chosen
-chosenBy Back l a wish = 0
-chosenBy Slept l a wish = 0
-chosenBy Left l a wish = 0
-chosenBy Came l a wish = 0
-chosenBy Opened l a wish = 0
-chosenBy Asleep l a wish = a .chosen
-chosenBy Done l a wish = a .chosen
-
--- the agent that steps among these places, with this wish, a before and b after: it lives where it lived and has the same row of actions, of which
--- the step uses up what its word says; its stage, its remembered and its chosen place are those that the word says
-pub record Stepped (word : Word) (l : Land) (wish : ℕ) (a b : Agent) : Type 0 where
-  pub home : b .home ≡ a .home
-  pub actions : b .actions ≡ a .actions
-  pub count : b .count ≡ a .count
-  pub next : b .next ≡ a .next + usedUp word
-  pub stage : b .stage ≡ stageBy word a b
-  pub remembered : b .remembered ≡ rememberedBy word l a
-  pub chosen : b .chosen ≡ chosenBy word l a wish
+  pub touches : (q : ℕ) → c .land .used q ≡ false → d .land .used q ≡ false → d .touches q ≡ c .touches q
 
 -- ---- the others, the locks and the places
 
@@ -187,18 +68,20 @@ pub data Waking (p q r : ℕ) (a : Agent) : Agent → Type 0 where
   sleeps-elsewhere : a .stage ≡ asleep → a .remembered ≢ p → a .remembered ≢ q → a .remembered ≢ r → Waking p q r a a
 
 -- "agents of the chosen place go to p, .. the moved agents that aren't done go to stage 0"; "wake all asleep on p or on it, and set to stage 0
--- all that remembered it at stage 1": agent a before place t is dissolved into p, and the agent it becomes
+-- all that remembered it at stage 1"; those that sleep on no place sleep "until any opening, which wakes all such sleepers" (document 02, W11):
+-- agent a before place t is dissolved into p, and the agent it becomes
 pub data Dissolved (p t : ℕ) (a : Agent) : Agent → Type 0 where
   -- it lived in t: it goes to p, and looks unless it is done
   moves : a .home ≡ t → a .stage ≢ done → Dissolved p t a (withHome (atStage a looking 0 0) p)
   moves-done : a .home ≡ t → a .stage ≡ done → Dissolved p t a (withHome (atStage a done 0 0) p)
   -- it had found t
   forgets : a .home ≢ t → a .stage ≡ found → a .remembered ≡ t → Dissolved p t a (atStage a looking 0 0)
-  -- it slept on p or t
-  wakes : a .home ≢ t → a .stage ≡ asleep → (a .remembered ≡ p) ⊎ (a .remembered ≡ t) → Dissolved p t a (atStage a looking 0 0)
+  -- it slept on p or t, or on no place
+  wakes : a .home ≢ t → a .stage ≡ asleep → (a .remembered ≡ p) ⊎ ((a .remembered ≡ t) ⊎ (a .remembered ≡ none))
+      → Dissolved p t a (atStage a looking 0 0)
   -- else it is as it was
   goes-on : a .home ≢ t → a .stage ≢ asleep → (a .stage ≡ found → a .remembered ≢ t) → Dissolved p t a a
-  sleeps-on : a .home ≢ t → a .stage ≡ asleep → a .remembered ≢ p → a .remembered ≢ t → Dissolved p t a a
+  sleeps-on : a .home ≢ t → a .stage ≡ asleep → a .remembered ≢ p → a .remembered ≢ t → a .remembered ≢ none → Dissolved p t a a
 
 -- ---- word by word
 
@@ -250,6 +133,17 @@ pub record ByOpening (c : State) (x : ℕ) (d : State) : Type 0 where
   pub locks : (q : ℕ) → c .lock q ≢ x → letsGo c (c .agent x .chosen) (c .lock q) ≡ false → d .lock q ≡ c .lock q
   pub others : (y : ℕ) → y ≢ x → c .given y ≡ true → Dissolved (c .agent x .remembered) (c .agent x .chosen) (c .agent y) (d .agent y)
 
+-- "puts a new place named n there, under the smallest unused number, with no agents .. and all keys n; it wakes those asleep on its own place,
+-- releases the lock and answers put" (document 02, W11); its own place is the one that x remembers, and the new place's lock is free
+pub record ByPutting (c : State) (x : ℕ) (d : State) : Type 0 where
+  pub new-place : d .land .place (freshNumber (c .land .used)) ≡ linkedPlace (plainName (nameOf (c .agent x))) (c .agent x .remembered)
+  pub places : (q : ℕ) → q ≢ freshNumber (c .land .used) → d .land .place q ≡ c .land .place q
+  pub new-lock : d .lock (freshNumber (c .land .used)) ≡ none
+  pub own-locks : (q : ℕ) → c .land .used q ≡ true → c .lock q ≡ x → d .lock q ≡ none
+  pub locks : (q : ℕ) → q ≢ freshNumber (c .land .used) → c .lock q ≢ x → d .lock q ≡ c .lock q
+  pub others : (y : ℕ) → y ≢ x → c .given y ≡ true
+      → Waking (c .agent x .remembered) (c .agent x .remembered) (c .agent x .remembered) (c .agent y) (d .agent y)
+
 -- what a step of agent x with this word changes from cell c to cell d; held, asleep and done: "nothing changes"
 abbrev pub ChangesBy : Word → State → ℕ → State → Type 0
 ChangesBy Looked c x d = ByLooking c x d
@@ -260,6 +154,7 @@ ChangesBy Slept c x d = ByReleasing c x d
 ChangesBy Left c x d = ByLeaving c x d
 ChangesBy Came c x d = ByComing c x d
 ChangesBy Opened c x d = ByOpening c x d
+ChangesBy Put c x d = ByPutting c x d
 ChangesBy Asleep c x d = d ≡ c
 ChangesBy Done c x d = d ≡ c
 
@@ -271,14 +166,27 @@ Changes (Refused number) c x wish d = d ≡ c
 -- ---- the claims
 
 -- by a step call of agent x with this wish and answer nothing is changed that is not in use; the places in use are the same but for the one that is
--- opened, so are the touches but for that one and the opener's place, and the row but for those that arrive; and of what is in use only that
--- changes which the sentence of the word lists. Together they leave nothing open: only one cell satisfies them
+-- opened or put out, so are the touches but for that one and the opener's place, and the row but for those that arrive; and of what is in use only
+-- that changes which the sentence of the word lists. Together they leave nothing open: only one cell satisfies them
 pub record NoMore (c : State) (x wish : ℕ) (d : State) (answer : Answer) : Type 0 where
   pub untouched : Untouched c d
   pub used : (q : ℕ) → d .land .used q ≡ usedAfter answer (c .agent x) (c .land .used) q
-  pub touches : (q : ℕ) → d .touches q ≡ touchesAfter answer (c .agent x) (c .touches) q
+  pub touches : (q : ℕ) → d .touches q ≡ touchesAfter answer (c .agent x) (c .land .used) (c .touches) q
   pub order : d .land .order ≡ orderAfter answer c x
   pub changes : Changes answer c x wish d
+
+-- number q is in use in none of the cells along a list of calls on table t: after none of its beginnings
+abbrev pub NeverUsed : Cell → List Call → ℕ → Type 0
+NeverUsed t calls q = (first rest : List Call) → calls ≡ first ++ rest → cellOf (run t first) .land .used q ≡ false
+
+-- over a list of calls on table t nothing is changed that never is in use: such a place keeps its name, keys, parent and way, its lock and touches;
+-- an agent that is not given keeps every field, and the same agents are given
+pub record UntouchedAlong (t : Cell) (calls : List Call) : Type 0 where
+  pub place : (q : ℕ) → NeverUsed t calls q → cellOf (run t calls) .land .place q ≡ cellOf t .land .place q
+  pub lock : (q : ℕ) → NeverUsed t calls q → cellOf (run t calls) .lock q ≡ cellOf t .lock q
+  pub agent : (y : ℕ) → cellOf t .given y ≡ false → cellOf (run t calls) .agent y ≡ cellOf t .agent y
+  pub given : cellOf (run t calls) .given ≡ cellOf t .given
+  pub touches : (q : ℕ) → NeverUsed t calls q → cellOf (run t calls) .touches q ≡ cellOf t .touches q
 
 -- "A touch call adds a four-byte number to a place", and that is all: from cell c to cell d the count of place p grows by the number n, by nothing
 -- if the call is refused, and nothing else changes

@@ -8,7 +8,7 @@ use mathlib.Core.Bool.{true, false}
 use native.Mathlib.Omega.{arith}
 use Rattle.table.specs.Base.{upd}
 use Rattle.table.specs.BaseLaws.{Told, yea, nay, told, clash, eq?, upd-other, upd-all}
-use Rattle.table.specs.Cell.{Land, State, freshAgent, linked, nextAction, kindOf, unused, openKind}
+use Rattle.table.specs.Cell.{Land, State, freshAgent, linked, nextAction, kindOf, unused, openKind, none}
 use Rattle.table.specs.Sound.{mostTouches}
 use Rattle.table.specs.declared.Agent.{Agent}
 use Rattle.meaning.specs.Update.{atStage, useUp, released}
@@ -106,7 +106,7 @@ module _ (c : State) (i : Sound c) (x : ℕ) (g : c .given x ≡ true) (s : c .a
       go (finds e) = m e
       go (sleeps e) = absurd (s e)
       go (holds _ _ l) = others i o n l .1
-  ok-other {y} n (sleeps-on h s m₁ m₂) = ok-kept n h (λ _. m₂)
+  ok-other {y} n (sleeps-on h s m₁ m₂ _) = ok-kept n h (λ _. m₂)
 
   -- it lives in a place in use
   home-other : (y : ℕ) {a : Agent} → Dissolved p t (agentIn c y) a → after .used (a .home) ≡ true
@@ -171,9 +171,9 @@ module _ (c : State) (i : Sound c) (x : ℕ) (g : c .given x ≡ true) (s : c .a
 
   -- ---- sleepers
 
-  -- what a sleeper that is neither in t nor on p or t looks at does not change
-  calm : (a : Agent) → a .home ≢ t → a .remembered ≢ p → a .remembered ≢ t → Calm before after a
-  calm a h mp mt = record {
+  -- what a sleeper that is neither in t nor on p, t or no place looks at does not change
+  calm : (a : Agent) → a .home ≢ t → a .remembered ≢ p → a .remembered ≢ t → a .remembered ≢ none → Calm before after a
+  calm a h mp mt mn = record {
     loose = λ e _. linked-same (i .places) (o .under) _ h ∙ e;
     keeps = λ u. record {
       link = linked-same (i .places) (o .under) _ h ∙ u .link;
@@ -183,6 +183,7 @@ module _ (c : State) (i : Sound c) (x : ℕ) (g : c .given x ≡ true) (s : c .a
     names = λ q _ e. name-same (i .places) (o .under) q (linked-before (i .places) (o .under) q e);
     up = λ e. sym (linked-same (i .places) (o .under) _ mt) ∙ e;
     awaits = λ q u e. not-yes _ (λ b. clash (awaits q u (awaited-some before q b)) e);
+    full = λ e. absurd (mn e);
   }
     where
       child : (q : ℕ) → Under after q (a .remembered) → Under before q (a .remembered)
@@ -209,8 +210,8 @@ module _ (c : State) (i : Sound c) (x : ℕ) (g : c .given x ≡ true) (s : c .a
   sleeper-kept z y (forgets h s m) e = absurd (omega arith)
   sleeper-kept z y (wakes h s m) e = absurd (omega arith)
   sleeper-kept z y (goes-on h s m) e = absurd (s e)
-  sleeper-kept z y (sleeps-on h s m₁ m₂) e = sleeper-frame before after (agentIn c y) (kind-of _ (i .fit y) (ok-at 7 s (i .ok y) .0))
-      (calm (agentIn c y) h m₁ m₂) (z y s)
+  sleeper-kept z y (sleeps-on h s m₁ m₂ m₃) e = sleeper-frame before after (agentIn c y) (kind-of _ (i .fit y) (ok-at 7 s (i .ok y) .0))
+      (calm (agentIn c y) h m₁ m₂ m₃) (z y s)
 
   sleep-opened : Reasons c → Reasons (dissolve c x (c .agent x) p t .cell)
   unfolding dissolve

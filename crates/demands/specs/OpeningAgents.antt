@@ -7,7 +7,7 @@ use mathlib.Core.Bool.{_&&_, cond}
 use lib.Dec.{eqb}
 use borrow.Author.Tests.{eqb-true, eqb-false, eq-eqb}
 use Rattle.table.specs.BaseLaws.{Told, yea, nay, told, clash, and-left, and-right}
-use Rattle.table.specs.Cell.{unused}
+use Rattle.table.specs.Cell.{none, unused}
 use Rattle.table.specs.declared.Agent.{Agent}
 use Rattle.meaning.specs.Update.{atStage, withHome}
 use Rattle.meaning.specs.Step.{asleepOn, dissolveAgent}
@@ -26,18 +26,20 @@ dissolved p t a = go (told (eqb (a .home) t))
     in-it h (nay e) = rw e (moves h (eqb-false _ _ e))
 
     sleeping : a .home ≢ t → (a .stage ≡ 1 → a .remembered ≢ t) → Told (eqb (a .stage) 7) → Told (eqb (a .remembered) p) → Told (eqb (a .remembered) t)
-        → Dissolved p t a (cond (asleepOn p t t a) (atStage a 0 0 0) a)
-    sleeping h m (yea e) (yea f) _ = rw (e, f) (wakes h (eqb-true _ _ e) (inl (eqb-true _ _ f)))
-    sleeping h m (yea e) (nay f) (yea k) = rw (e, f, k) (wakes h (eqb-true _ _ e) (inr (eqb-true _ _ k)))
-    sleeping h m (yea e) (nay f) (nay k) = rw (e, f, k) (sleeps-on h (eqb-true _ _ e) (eqb-false _ _ f) (eqb-false _ _ k))
-    sleeping h m (nay e) _ _ = rw e (goes-on h (eqb-false _ _ e) m)
+        → Told (eqb (a .remembered) none) → Dissolved p t a (cond (asleepOn p t none a) (atStage a 0 0 0) a)
+    sleeping h m (yea e) (yea f) _ _ = rw (e, f) (wakes h (eqb-true _ _ e) (inl (eqb-true _ _ f)))
+    sleeping h m (yea e) (nay f) (yea k) _ = rw (e, f, k) (wakes h (eqb-true _ _ e) (inr (inl (eqb-true _ _ k))))
+    sleeping h m (yea e) (nay f) (nay k) (yea n) = rw (e, f, k, n) (wakes h (eqb-true _ _ e) (inr (inr (eqb-true _ _ n))))
+    sleeping h m (yea e) (nay f) (nay k) (nay n) = rw (e, f, k, n)
+        (sleeps-on h (eqb-true _ _ e) (eqb-false _ _ f) (eqb-false _ _ k) (eqb-false _ _ n))
+    sleeping h m (nay e) _ _ _ = rw e (goes-on h (eqb-false _ _ e) m)
 
     out : a .home ≢ t → Told (eqb (a .stage) 1 && eqb (a .remembered) t)
-        → Dissolved p t a (cond (eqb (a .stage) 1 && eqb (a .remembered) t) (atStage a 0 0 0) (cond (asleepOn p t t a) (atStage a 0 0 0) a))
+        → Dissolved p t a (cond (eqb (a .stage) 1 && eqb (a .remembered) t) (atStage a 0 0 0) (cond (asleepOn p t none a) (atStage a 0 0 0) a))
     out h (yea e) = rw e (forgets h (eqb-true _ _ (and-left (eqb (a .stage) 1) (eqb (a .remembered) t) e))
         (eqb-true _ _ (and-right (eqb (a .stage) 1) (eqb (a .remembered) t) e)))
     out h (nay e) = rw e (sleeping h (λ s m. clash (rw (eq-eqb (a .stage) 1 s, eq-eqb (a .remembered) t m)) e)
-        (told (eqb (a .stage) 7)) (told (eqb (a .remembered) p)) (told (eqb (a .remembered) t)))
+        (told (eqb (a .stage) 7)) (told (eqb (a .remembered) p)) (told (eqb (a .remembered) t)) (told (eqb (a .remembered) none)))
 
     go : Told (eqb (a .home) t) → Dissolved p t a (dissolveAgent p t a)
     go (yea e) = rw e (in-it (eqb-true _ _ e) (told (eqb (a .stage) 8)))
@@ -51,7 +53,7 @@ module _ {p t : ℕ} {a : Agent} where
   not-dissolved (forgets h s m) n e f = absurd (f s)
   not-dissolved (wakes h s m) n e f = absurd (e s)
   not-dissolved (goes-on h s m) n e f = refl
-  not-dissolved (sleeps-on h s m k) n e f = refl
+  not-dissolved (sleeps-on h s m k z) n e f = refl
 
   -- it is as it was, or at stage 0 or 8
   pub dissolved-reset : {b : Agent} → Dissolved p t a b → SameOrReset a b
@@ -60,7 +62,7 @@ module _ {p t : ℕ} {a : Agent} where
   dissolved-reset (forgets h s m) = inr (inl refl)
   dissolved-reset (wakes h s m) = inr (inl refl)
   dissolved-reset (goes-on h s m) = inl refl
-  dissolved-reset (sleeps-on h s m k) = inl refl
+  dissolved-reset (sleeps-on h s m k z) = inl refl
 
   -- it lives where it lived, or in p where that was t
   pub home-after : {b : Agent} → Dissolved p t a b → ((a .home ≡ t) × (b .home ≡ p)) ⊎ ((a .home ≢ t) × (b .home ≡ a .home))
@@ -69,7 +71,7 @@ module _ {p t : ℕ} {a : Agent} where
   home-after (forgets h s m) = inr (h, refl)
   home-after (wakes h s m) = inr (h, refl)
   home-after (goes-on h s m) = inr (h, refl)
-  home-after (sleeps-on h s m k) = inr (h, refl)
+  home-after (sleeps-on h s m k z) = inr (h, refl)
 
   -- its row of actions is as it was
   pub unused-same : {b : Agent} → Dissolved p t a b → unused b ≡ unused a
@@ -79,7 +81,7 @@ module _ {p t : ℕ} {a : Agent} where
   unused-same (forgets h s m) = refl
   unused-same (wakes h s m) = refl
   unused-same (goes-on h s m) = refl
-  unused-same (sleeps-on h s m k) = refl
+  unused-same (sleeps-on h s m k z) = refl
 
   pub fit-same : {b : Agent} → Dissolved p t a b → Fit a → Fit b
   unfolding unused
@@ -88,4 +90,4 @@ module _ {p t : ℕ} {a : Agent} where
   fit-same (forgets h s m) f = fit-stage a 0 0 0 f
   fit-same (wakes h s m) f = fit-stage a 0 0 0 f
   fit-same (goes-on h s m) f = f
-  fit-same (sleeps-on h s m k) f = f
+  fit-same (sleeps-on h s m k z) f = f

@@ -1,5 +1,5 @@
 -- Where every place is linked, what the calculus permits an agent is what its action fires on, where the agent would look.
--- By the three kinds of a move; nothing is on its way, so a place that stands somewhere is linked there.
+-- By the kinds of a move; nothing is on its way, so a place that stands somewhere is linked there.
 use mathlib.Core.Path.{_≡_, refl, sym, ap, _∙_, subst}
 use mathlib.Core.Logic.{_≢_}
 use mathlib.Core.Bool.{true, false}
@@ -12,7 +12,7 @@ use Rattle.table.specs.declared.Agent.{Agent}
 use Rattle.meaning.specs.Step.{awaited, qualifies, stays}
 use Rattle.meaning.specs.Calculus.{Tree, nextOf, move}
 use Rattle.meaning.specs.Plain.{treeOf}
-use Rattle.calculus.specs.MoveCases.{MoveCase, by-enter, by-exit, by-open, case-kind}
+use Rattle.calculus.specs.MoveCases.{MoveCase, by-enter, by-exit, by-open, by-release, case-kind}
 use Rattle.demands.specs.Reading.{parentIn, nameIn, agentIn}
 use Rattle.demands.specs.Invariant.{Under, Travels, Sound}
 use Rattle.demands.specs.Facts.{not-yes, Comes, Whole, awaited-some, link-used, fits-linked, stays-under, enters-of, exits-of, opens-of}
@@ -29,7 +29,7 @@ none-whole c i f q u n = go (told (linked (c .land) q))
     go (yea e) = e
     go (nay e) = let m = i .mover q u n e in absurd (f (m .who) (m .goes))
 
--- an agent whose place is still linked to the remembered one (an opener: that remembers its home) holds that where it would look
+-- an agent whose place is still linked to the remembered one (an opener or a release agent: that remembers its home) holds that where it would look
 pub looks-same : (l : Land) (a : Agent) → kindOf a ≤ lastKind → (openKind ≤ kindOf a → a .remembered ≡ a .home) → stays l a ≡ true → a .remembered ≡ looksAt l a
 looks-same l a k o st = go (told (looksHome (kindOf a)))
   where
@@ -63,6 +63,7 @@ module _ (c : State) (i : Sound c) (a : ℕ) (g : c .given a ≡ true) where
   off-floor (by-enter m k h s d n) z e = h (home ∙ e)
   off-floor (by-exit k h n) z e = h (home ∙ e)
   off-floor (by-open m k s n) z e = let y = own-kind k in omega arith
+  off-floor (by-release m k l f) z e = let y = own-kind k in omega arith
 
   module _ (whole : Whole c) where
     -- the place that the action fires on, with the tree that the move makes
@@ -88,7 +89,7 @@ module _ (c : State) (i : Sound c) (a : ℕ) (g : c .given a ≡ true) where
       result = r;
     }
 
-    -- every move that the calculus permits by one of the keys has one
+    -- every move that the calculus permits by one of the keys has one: all but that of release
     pub target : {u : Tree} → kindOf own ≤ openKind → MoveCase (treeOf c) a u → Target u
     unfolding treeOf parentIn nameIn
     target b (by-enter m k h s d n) =
@@ -113,3 +114,4 @@ module _ (c : State) (i : Sound c) (a : ℕ) (g : c .given a ≡ true) where
         found (own .home) m (omega arith) (rw (kind-home (kindOf own) (omega arith) (omega arith)))
         (opens-of (c .land) _ _ _ _ m e (record { under = under; name = own-name n }) (unawaited m))
         (sym (move-open c a g (i .fit a) m e))
+    target b (by-release m k l f) = absurd (let y = own-kind k in omega arith)

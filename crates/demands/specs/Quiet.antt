@@ -8,15 +8,16 @@ use native.Mathlib.Omega.{arith}
 use lib.Dec.{eqb}
 use Rattle.table.specs.Base.{upd}
 use Rattle.table.specs.BaseLaws.{clash, eq?, upd-same, upd-other}
-use Rattle.table.specs.Cell.{State, none, linked, nextAction, kindOf, nameOf, enterKind, exitKind, openKind}
-use Rattle.table.specs.Kinds.{Kind, is-enter, is-exit, is-open}
+use Rattle.table.specs.Cell.{State, none, linked, freshNumber, nextAction, kindOf, nameOf, enterKind, exitKind, openKind, releaseKind}
+use Rattle.table.specs.FreshLaws.{fresh-none}
+use Rattle.table.specs.Kinds.{Kind, is-enter, is-exit, is-open, is-release}
 use Rattle.table.specs.Sound.{secondPlace}
 use Rattle.table.specs.declared.Agent.{Agent}
 use Rattle.meaning.specs.Update.{atStage, withLocks, released}
 use Rattle.meaning.specs.Step.{choice, qualifies, stays}
 use Rattle.demands.specs.Reading.{parentIn, agentIn}
 use Rattle.demands.specs.ReadingLaws.{agent-given, agent-turned}
-use Rattle.demands.specs.Invariant.{Under, Has, Ready, Travels, Sleeper, alone, stuck, Sound, Holds, near, far, own, destination}
+use Rattle.demands.specs.Invariant.{Under, Has, Ready, Travels, Sleeper, alone, stuck, full, Sound, Holds, near, far, own, destination}
 use Rattle.demands.specs.Invariant.{Ok, ok0, ok1, ok2, ok3-move, ok3-open, ok5, ok6, ok7}
 use Rattle.demands.specs.Ways.{goesOn, takesLock, givesBack}
 use Rattle.demands.specs.Facts.{not-yes, link-used, stays-under, second-move, second-open}
@@ -157,7 +158,7 @@ module _ (c : State) (i : Sound c) (x : ℕ) (g : c .given x ≡ true) where
       (ok1 refl (record { some = ok-at 0 e (ok-given c i x g); known = i .places .parent-used _; opener = λ z. absurd (omega arith) }))
       (λ q. holds-none (omega arith)) (stay 1 _ 0 (omega arith) (inl (omega arith))) (λ z. absurd (omega arith))
 
-  -- stage 0 of open
+  -- stage 0 of open and release
   pub keep-look-home : c .agent x .stage ≡ 0 → Keeps c x (goesOn c x 1 (c .agent x .home) 0)
   unfolding nextAction
   keep-look-home e = go-on 1 _ 0
@@ -169,7 +170,7 @@ module _ (c : State) (i : Sound c) (x : ℕ) (g : c .given x ≡ true) where
       → Keeps c x (goesOn c x 7 (c .agent x .home) 0)
   unfolding nextAction
   keep-sleep-alone e k l = go-on 7 _ 0
-      (ok7 refl (ok-at 0 e (ok-given c i x g)) (home-given c i x g))
+      (ok7 refl (ok-at 0 e (ok-given c i x g)) (inl (home-given c i x g)))
       (λ q. holds-none (omega arith)) (stay 7 _ 0 (omega arith) (inr refl)) (λ z. alone k refl l)
 
   -- stage 1 with the lock free
@@ -191,7 +192,7 @@ module _ (c : State) (i : Sound c) (x : ℕ) (g : c .given x ≡ true) where
       → 64 ≤ choice (c .land) (c .agent x) wish
       → Keeps c x (givesBack c x (c .agent x .remembered) (c .agent x .remembered) 7 (c .agent x .remembered))
   unfolding nextAction stays
-  keep-sleep-stuck wish e b st ch = give-on _ _ 7 _ (r .known) (r .known) (returned-two c i x g e) (ok7 refl (r .some) (r .known))
+  keep-sleep-stuck wish e b st ch = give-on _ _ 7 _ (r .known) (r .known) (returned-two c i x g e) (ok7 refl (r .some) (inl (r .known)))
       (stay 7 _ 0 (omega arith) (inr refl)) (λ z. stuck b (r .opener) st nothing)
     where
       r : Ready (c .land) (c .agent x)
@@ -200,6 +201,14 @@ module _ (c : State) (i : Sound c) (x : ℕ) (g : c .given x ≡ true) where
       nothing : (q : ℕ) → qualifies (c .land) (kindOf (c .agent x)) (nameOf (c .agent x)) (c .agent x .home) (c .agent x .remembered) q ≡ false
       nothing q = not-yes _ (λ t. clash t (choice-none (c .land) (c .agent x) wish (i .places .order) ch q
           (i .places .small q (link-used (c .land) q (fits-linked (c .land) _ _ _ _ q (kind-of _ (fit-given c i x g) (r .some)) t)))))
+
+  -- stage 2 of release with all numbers in use
+  pub keep-sleep-full : c .agent x .stage ≡ 2 → kindOf (c .agent x) ≡ releaseKind → 64 ≤ freshNumber (c .land .used)
+      → Keeps c x (givesBack c x (c .agent x .remembered) (c .agent x .remembered) 7 none)
+  unfolding nextAction
+  keep-sleep-full e k f = let u = ok-at 2 e (ok-given c i x g) .0 .known in
+      give-on _ _ 7 _ u u (returned-two c i x g e) (ok7 refl (omega arith) (inr (k, refl)))
+      (stay 7 _ 0 (omega arith) (inr refl)) (λ z. full k refl (λ q s. fresh-none (c .land .used) f q (omega arith)))
 
   -- stage 2 when it fires and the second lock is free
   pub keep-take-second : (wish q : ℕ) → c .agent x .stage ≡ 2 → kindOf (c .agent x) ≤ openKind → stays (c .land) (c .agent x) ≡ true
@@ -229,11 +238,13 @@ module _ (c : State) (i : Sound c) (x : ℕ) (g : c .given x ≡ true) where
       in-use (is-enter k) = ap (c .land .used) (second-move (kindOf a) (a .home) q (omega arith)) ∙ home-given c i x g
       in-use (is-exit k) = ap (c .land .used) (second-move (kindOf a) (a .home) q (omega arith)) ∙ home-given c i x g
       in-use (is-open k) = ap (c .land .used) (second-open (kindOf a) (a .home) q k) ∙ link-used (c .land) q (opens-fits (c .land) _ _ _ _ q k fits .0 .under .link)
+      in-use (is-release k) = absurd (omega (arith, b))
 
       second : Kind (kindOf a) → secondPlace (kindOf a) (a .home) q ≡ secondPlace (kindOf a) (a .home) (cond (eqb (kindOf a) exitKind) 0 q)
       second (is-enter k) = rw k
       second (is-exit k) = rw k
       second (is-open k) = rw k
+      second (is-release k) = rw k
 
       lock′ : ℕ → ℕ
       lock′ = upd (c .lock) (secondPlace (kindOf a) (a .home) q) x
@@ -251,6 +262,7 @@ module _ (c : State) (i : Sound c) (x : ℕ) (g : c .given x ≡ true) where
           at (is-enter k) = moves (omega arith)
               (λ _. subst (λ (r : ℕ). Under (c .land) r (a .remembered)) (rw k) (enters-fits (c .land) _ _ _ _ q k fits .0 .under))
           at (is-exit k) = moves (omega arith) (λ z. absurd (omega arith))
+          at (is-release k) = absurd (omega (arith, b))
           at (is-open k) =
               let chosen : q ≡ cond (eqb (kindOf a) exitKind) 0 q = rw k in
               ok3-open refl (ready 3 _ (o .0)) k (has _ (o .1))

@@ -8,12 +8,12 @@ use lib.Dec.{eqb}
 use borrow.Author.Tests.{eqb-true, ne-eqb}
 use Rattle.table.specs.Base.{upd}
 use Rattle.table.specs.BaseLaws.{Told, yea, nay, told, and-right, upd-same, upd-other, upd-all}
-use Rattle.table.specs.Cell.{Land, State, noName, noPlace, freshAgent, linked, travels, looking}
+use Rattle.table.specs.Cell.{Land, State, noName, plainName, noPlace, freshAgent, linked, travels, looking}
 use Rattle.table.specs.declared.Name.{Name}
 use Rattle.table.specs.declared.Place.{Place}
 use Rattle.table.specs.declared.Agent.{Agent}
-use Rattle.meaning.specs.Update.{withParent, atStage, withAgent}
-use Rattle.meaning.specs.Step.{sendTo, linkUp, dissolveLand, asleepOn, wake, dissolveAgent}
+use Rattle.meaning.specs.Update.{linkedPlace, withParent, atStage, withAgent}
+use Rattle.meaning.specs.Step.{sendTo, linkUp, putLand, dissolveLand, asleepOn, wake, dissolveAgent}
 use Rattle.calculus.specs.MoveCases.{and-no}
 use Rattle.demands.specs.Reading.{parentIn, nameIn, agentIn}
 
@@ -84,6 +84,33 @@ module _ (l : Land) (h : ℕ) where
   pub travels-linked : travels (linkUp l h) ≡ upd (travels l) h false
   unfolding travels
   travels-linked = written readTravels l (l .used) h _ (λ q n. refl) ∙ ap (upd (travels l) h) (and-no (l .used h) (not (eqb h 0)))
+
+-- ---- a new place q named n is put into p
+
+module _ (l : Land) (q n p : ℕ) where
+  -- one value of what is read is changed: that of a place in use
+  put-read : {A : Type 0} (read : ℕ → Bool → Place → A)
+      → (λ r. read r (upd (l .used) q true r) (upd (l .place) q (linkedPlace (plainName n) p) r))
+      ≡ upd (λ r. read r (l .used r) (l .place r)) q (read q true (linkedPlace (plainName n) p))
+  put-read read = written read l (upd (l .used) q true) q (linkedPlace (plainName n) p) (λ r d. upd-other (l .used) q r true d)
+      ∙ ap (λ (b : Bool). upd (λ r. read r (l .used r) (l .place r)) q (read q b (linkedPlace (plainName n) p))) (upd-same (l .used) q true)
+
+  pub linked-put : linked (putLand l q n p) ≡ upd (linked l) q true
+  unfolding linked
+  linked-put = put-read readLinked
+
+  pub parent-put : parentIn (putLand l q n p) ≡ upd (parentIn l) q p
+  unfolding parentIn
+  parent-put = put-read readParent
+
+  pub name-put : nameIn (putLand l q n p) ≡ upd (nameIn l) q (plainName n)
+  unfolding nameIn
+  name-put = put-read readName
+
+  -- it does not travel
+  pub travels-put : l .used q ≡ false → travels (putLand l q n p) ≡ travels l
+  unfolding travels
+  travels-put e = put-read readTravels ∙ upd-self (travels l) q _ (and-no true (not (eqb q 0)) ∙ sym (rw e))
 
 -- ---- place t is dissolved into p
 

@@ -11,11 +11,11 @@ use Rattle.table.specs.Cell.{State, cellOf}
 use Rattle.table.specs.declared.Cell.{Cell}
 use Rattle.table.specs.Sound.{sound}
 use Rattle.table.specs.Idle.{restsAt, idle}
-use Rattle.meaning.specs.Step.{Outcome, still, leave, dissolve, arrive}
+use Rattle.meaning.specs.Step.{Outcome, still, put, leave, dissolve, arrive}
 use Rattle.meaning.specs.Run.{made, stepOf, isRest, saysRest, rests}
 use Rattle.demands.specs.Invariant.{Inv}
 use Rattle.demands.specs.Ways.{Way, is-done, is-asleep, held-first, held-second, held-own, held-destination, looks-up, looks-home}
-use Rattle.demands.specs.Ways.{sleeps-alone, takes-first, goes-back, sleeps-stuck, takes-second, gives-up, enters, exits, opens}
+use Rattle.demands.specs.Ways.{sleeps-alone, takes-first, goes-back, sleeps-stuck, takes-second, puts, sleeps-full, gives-up, enters, exits, opens}
 use Rattle.demands.specs.Ways.{takes-own, takes-destination, comes}
 use Rattle.demands.specs.StepWays.{step-way}
 use Rattle.demands.specs.RunKeeps.{call-made, call-refused}
@@ -26,7 +26,7 @@ module _ (c : State) (x : ℕ) where
 
   -- the word says asleep or done exactly at stages 7 and 8
   way-rests : {wish : ℕ} {o : Outcome} → Way c x wish o → isRest (o .word) ≡ restsAt (c .agent x .stage)
-  unfolding still leave dissolve arrive
+  unfolding still put leave dissolve arrive
   way-rests (is-done s) = sym (le-leb 7 (c .agent x .stage) (omega arith))
   way-rests (is-asleep s) = sym (le-leb 7 (c .agent x .stage) (omega arith))
   way-rests (held-first s _) = awake 1 s refl
@@ -40,6 +40,8 @@ module _ (c : State) (x : ℕ) where
   way-rests (goes-back s _) = awake 2 s refl
   way-rests (sleeps-stuck s _ _ _) = awake 2 s refl
   way-rests (takes-second _ s _ _ _ _ _) = awake 2 s refl
+  way-rests (puts _ s _ _ _) = awake 2 s refl
+  way-rests (sleeps-full s _ _) = awake 2 s refl
   way-rests (gives-up s _) = awake 3 s refl
   way-rests (enters s _ _) = awake 3 s refl
   way-rests (exits s _ _) = awake 3 s refl

@@ -1,4 +1,5 @@
--- A run of calls on a table whose cell has the invariant keeps the plain tree beside the cell, by one permitted move for each left or opened.
+-- A run of calls on a table whose cell has the invariant keeps the plain tree beside the cell, by one permitted move for each left, opened
+-- or put.
 -- By induction over the calls: a step call for an agent that is not given is refused with 11 and changes nothing, any other is a step; a commit
 -- is a step call, or it is refused; a touch call changes touches, of which the plain tree knows nothing.
 use mathlib.Core.Path.{_≡_, refl, sym, ap, _∙_, subst}

@@ -1,5 +1,7 @@
--- What a step does to the cell the plain tree does too, by the answered word alone: steps that change no place, leaving, coming and opening.
--- Idea: its pick at the second took is the cell's choice, since both read places alike; leaving and opening are then the same move in both.
+-- What a step does to the cell the plain tree does too, by the answered word alone: steps that change no place, leaving, coming, opening and putting
+-- out.
+-- Idea: its pick at the second took is the cell's choice, since both read places alike; leaving and opening are then the same move in both,
+-- and a put is, since the smallest unused number is the same.
 use mathlib.Core.Path.{_≡_, refl, sym, ap, ap₂, _∙_, subst, fun-ext}
 use mathlib.Core.Logic.{_≢_, inl}
 use mathlib.Core.Bool.{Bool, true, false}
@@ -10,17 +12,17 @@ use borrow.Author.Tests.{eqb-true, ne-eqb}
 use Rattle.order.specs.Row.{later, latest}
 use Rattle.table.specs.Base.{upd}
 use Rattle.table.specs.BaseLaws.{Told, yea, nay, told, upd-same, upd-other, upd-all}
-use Rattle.table.specs.Cell.{State, linked, travels, nextAction, kindOf, nameOf, enterKind, exitKind, openKind, looksHome}
-use Rattle.table.specs.Kinds.{Kind, is-enter, is-exit, is-open, home-kind, around-kind}
+use Rattle.table.specs.Cell.{State, linked, travels, freshNumber, nextAction, kindOf, nameOf, enterKind, exitKind, openKind, releaseKind, looksHome, chooses}
+use Rattle.table.specs.Kinds.{Kind, is-enter, is-exit, is-open, is-release, home-kind, around-kind}
 use Rattle.table.specs.declared.Action.{Action}
 use Rattle.table.specs.declared.Agent.{Agent}
-use Rattle.meaning.specs.declared.Word.the-variants.{Took, Left, Came, Opened}
+use Rattle.meaning.specs.declared.Word.the-variants.{Took, Left, Came, Opened, Put}
 use Rattle.meaning.specs.Update.{atStage, useUp, withLocks}
-use Rattle.meaning.specs.Step.{choose, choice, stays, leave, childOf, dissolve, arrive, beyond, restStage, dissolveAgent}
-use Rattle.meaning.specs.Calculus.{nextOf, standsAt, putInto, openUp, move}
-use Rattle.meaning.specs.Plain.{Plain, withPicks, treeOf, landIn, heldIn, chooses, pickOf, plainWord}
+use Rattle.meaning.specs.Step.{choose, choice, stays, put, leave, childOf, dissolve, arrive, beyond, restStage, dissolveAgent}
+use Rattle.meaning.specs.Calculus.{nextOf, standsAt, putInto, openUp, putOut, move}
+use Rattle.meaning.specs.Plain.{Plain, withPicks, treeOf, landIn, heldIn, pickOf, plainWord}
 use Rattle.demands.specs.Reading.{parentIn, agentIn}
-use Rattle.demands.specs.ReadingLaws.{travels-sent, travels-linked, travels-dissolved, agent-given, agent-turned, wakeAgent}
+use Rattle.demands.specs.ReadingLaws.{travels-sent, travels-linked, travels-put, travels-dissolved, agent-given, agent-turned, wakeAgent}
 use Rattle.demands.specs.ReadingLaws.{agent-woken, agent-dissolved}
 use Rattle.demands.specs.Invariant.{Under, Sound}
 use Rattle.demands.specs.Facts.{link-used, parent-read, stays-under}
@@ -31,9 +33,9 @@ use Rattle.demands.specs.StepWays.{kind-given}
 use Rattle.demands.specs.OpeningAgents.{dissolved, dissolved-reset}
 use Rattle.demands.specs.Frame.{rouses, roused-reset}
 use Rattle.demands.specs.OpeningPlaces.{linked-not-floor, child-not-self}
-use Rattle.demands.specs.TreeOf.{tree-quiet, tree-came, tree-left, tree-opened}
+use Rattle.demands.specs.TreeOf.{tree-quiet, tree-came, tree-left, tree-put, tree-opened}
 use Rattle.demands.specs.SamePlaces.{choose-alike}
-use Rattle.demands.specs.SameTree.{given-home, given-next, given-around, given-beyond, move-enter, move-exit, move-open}
+use Rattle.demands.specs.SameTree.{given-home, given-next, given-around, given-beyond, move-enter, move-exit, move-open, move-release}
 use Rattle.demands.specs.SamePlain.{Picked, Same, same-places}
 
 module _ (c : State) (i : Sound c) (x : ℕ) (g : c .given x ≡ true) (t : Plain) (m : Same c t) where
@@ -88,11 +90,12 @@ module _ (c : State) (i : Sound c) (x : ℕ) (g : c .given x ≡ true) (t : Plai
   kind : nextOf (t .tree) x .kind ≡ kindOf a
   kind = ap (λ v. v .kind) next
 
-  -- an action that is left and no exit chooses
+  -- an action that is left, no exit and no release, chooses
   still-chooses : Kind (kindOf a) → kindOf a ≤ openKind → kindOf a ≢ exitKind → chooses (nextOf (t .tree) x .kind) ≡ true
   still-chooses (is-enter e) b n = ap chooses (kind ∙ e)
   still-chooses (is-exit e) b n = absurd (n e)
   still-chooses (is-open e) b n = ap chooses (kind ∙ e)
+  still-chooses (is-release e) b n = absurd (omega arith)
 
   -- where p is the place that the agent holds, the plain tree picks what the cell chooses for enter and open
   pub plain-choice : (wish : ℕ) → a .stage ≡ 2 → kindOf a ≤ openKind → kindOf a ≢ exitKind → heldIn (t .tree) x ≡ a .remembered
@@ -192,6 +195,29 @@ module _ (c : State) (i : Sound c) (x : ℕ) (g : c .given x ≡ true) (t : Plai
       gone : Agent
       gone = atStage (useUp a) (restStage (useUp a)) 0 0
 
+  -- the smallest unused number is the same in both
+  same-fresh : freshNumber (t .tree .used) ≡ freshNumber (c .land .used)
+  unfolding treeOf
+  same-fresh = ap (λ v. freshNumber (v .used)) (m .tree)
+
+  -- put: the move is made in both, and the new place is the latest
+  pub plain-put : (q wish : ℕ) → a .remembered ≡ a .home → c .land .used q ≡ false → freshNumber (c .land .used) ≡ q
+      → move (t .tree) x (freshNumber (t .tree .used)) ≡ putOut (treeOf c) x q
+      → Same (put c x a q .cell) (plainWord t x wish Put)
+  unfolding plainWord agentIn put
+  plain-put q wish h u f e = record {
+    tree = e ∙ sym (tree-put c x g q (i .fit x) h);
+    travels = m .travels ∙ sym (travels-put (c .land) q (nameOf a) (a .remembered) u);
+    pick = picks (t .pick) (λ y. wakeAgent (a .remembered) (a .remembered) (a .remembered) (agentIn c y)) gone
+        (agent-woken c (a .remembered) (a .remembered) (a .remembered) x gone g)
+        (λ s. absurd (not-between (rest-stage (useUp a)) (omega arith) (omega arith))) (λ y _. refl)
+        (λ y. roused-reset (rouses (a .remembered) (a .remembered) (a .remembered) (agentIn c y)));
+    order = ap₂ latest (same-fresh ∙ f) (m .order);
+  }
+    where
+      gone : Agent
+      gone = atStage (useUp a) (restStage (useUp a)) 0 0
+
   -- ---- the moves of the plain tree
 
   -- enter goes into the chosen place
@@ -206,3 +232,8 @@ module _ (c : State) (i : Sound c) (x : ℕ) (g : c .given x ≡ true) (t : Plai
   -- open dissolves the chosen place
   pub open-result : a .stage ≡ 3 → kindOf a ≡ openKind → move (t .tree) x (t .pick x) ≡ openUp (treeOf c) x (a .chosen)
   open-result s k = ap₂ (λ v q. move v x q) (m .tree) (chosen-pick s (λ z. absurd (omega arith))) ∙ move-open c x g (i .fit x) (a .chosen) k
+
+  -- release puts out a place under the smallest unused number
+  pub release-result : (q : ℕ) → kindOf a ≡ releaseKind → freshNumber (c .land .used) ≡ q
+      → move (t .tree) x (freshNumber (t .tree .used)) ≡ putOut (treeOf c) x q
+  release-result q k e = ap₂ (λ v r. move v x r) (m .tree) (same-fresh ∙ e) ∙ move-release c x g (i .fit x) q k

@@ -4,9 +4,9 @@ use mathlib.Core.Path.{_≡_, refl, ap, _∙_}
 use mathlib.Core.Bool.{Bool, true, false, cond}
 use Prim.Native.Nat.{ℕ}
 use Rattle.table.specs.Base.{tab}
-use Rattle.table.specs.Cell.{State, freshAgent, nextAction, kindOf, nameOf, rowEnd, unused, enterKind, exitKind, openKind}
+use Rattle.table.specs.Cell.{State, freshAgent, nextAction, kindOf, nameOf, rowEnd, unused, enterKind, exitKind, openKind, releaseKind}
 use Rattle.table.specs.declared.Agent.{Agent}
-use Rattle.meaning.specs.Calculus.{firstOf, nextOf, putInto, openUp, move}
+use Rattle.meaning.specs.Calculus.{firstOf, nextOf, putInto, openUp, putOut, move}
 use Rattle.meaning.specs.Plain.{treeOf}
 use Rattle.demands.specs.Reading.{parentIn, agentIn}
 use Rattle.demands.specs.ReadingLaws.{agent-given}
@@ -72,3 +72,7 @@ module _ (c : State) (x : ℕ) (g : c .given x ≡ true) (fit : Fit (agentIn c x
   pub move-open : (m : ℕ) → kindOf (c .agent x) ≡ openKind → move (treeOf c) x m ≡ openUp (treeOf c) x m
   unfolding move
   move-open m k = rw (given-kind ∙ k)
+
+  pub move-release : (m : ℕ) → kindOf (c .agent x) ≡ releaseKind → move (treeOf c) x m ≡ putOut (treeOf c) x m
+  unfolding move
+  move-release m k = rw (given-kind ∙ k)

@@ -21,7 +21,7 @@ use Rattle.demands.specs.Actions.{end-most, end-past}
 
 -- ---- one action
 
--- a kind 1 to 3 and a name that is not 0
+-- a kind 1 to 4 and a name that is not 0
 pub record InRange (x : Action) : Type 0 where
   pub low : 1 ≤ x .kind
   pub high : x .kind ≤ lastKind

@@ -1,19 +1,19 @@
 -- What soundness asks of one agent: the test and the proposition say the same.
 -- By cases on the stage: at each stage the test is a short conjunction, and each of its parts is one of the proposition's.
 use mathlib.Core.Path.{_≡_, refl, ap, _∙_}
-use mathlib.Core.Logic.{_≢_}
+use mathlib.Core.Logic.{_≢_, inl, inr}
 use mathlib.Core.Bool.{Bool, true, false, _&&_, cond}
 use Prim.Native.Nat.{ℕ, zero, suc, _≤_, _<_}
 use native.Mathlib.Omega.{arith}
 use lib.Dec.{eqb}
 use borrow.Author.Tests.{eqb-true, eq-eqb, ne-eqb, lt-leb, not-true}
 use Rattle.table.specs.BaseLaws.{Told, yea, nay, told, clash, and-left, and-right}
-use Rattle.table.specs.Cell.{Land, State, none, hasAction, kindOf, linkedTo, enterKind, exitKind, looksHome}
-use Rattle.table.specs.Kinds.{Kind, is-enter, is-exit, is-open, home-kind, kind-home}
-use Rattle.table.specs.Sound.{actionsFit, remembers, ready, holdsBoth, stageFits, firstHeld, secondPlace, secondHeld, secondHeldIn, standsIn, lockIs, agentFits}
+use Rattle.table.specs.Cell.{Land, State, none, hasAction, kindOf, linkedTo, enterKind, exitKind, releaseKind, looksHome, asleep}
+use Rattle.table.specs.Kinds.{Kind, is-enter, is-exit, is-open, is-release, home-kind, kind-home}
+use Rattle.table.specs.Sound.{actionsFit, sleepsNowhere, remembers, ready, holdsBoth, stageFits, firstHeld, secondPlace, secondHeld, secondHeldIn, standsIn, lockIs, agentFits}
 use Rattle.table.specs.declared.Agent.{Agent}
 use Rattle.demands.specs.Reading.{parentIn}
-use Rattle.demands.specs.Invariant.{Places, Has, Fit, Ready, Away, Ok, ok0, ok1, ok2, ok3-move, ok3-open, ok4, ok5, ok6, ok7, ok8, Travels}
+use Rattle.demands.specs.Invariant.{Places, Has, Fit, Ready, Away, SleepsOn, Ok, ok0, ok1, ok2, ok3-move, ok3-open, ok4, ok5, ok6, ok7, ok8, Travels}
 use Rattle.demands.specs.Facts.{under-fits, under-of, link-used, second-move, second-open}
 use Rattle.demands.specs.Actions.{kind-small, kind-some, has-some, kind-of, unused-none}
 use Rattle.demands.specs.SoundTestActions.{fit-true, fit-holds, none-left}
@@ -39,6 +39,37 @@ module _ (c : State) (x : ℕ) (a : Agent) where
   abbrev l : Land
   l = c .land
 
+  -- ---- what an agent remembers: a place in use, or asleep, for release, no place
+
+  remembers-true : a .stage ≡ asleep → SleepsOn l a → remembers (l .used) a ≡ true
+  remembers-true s (inl u) = rw u
+  remembers-true s (inr (k, n)) =
+      rw (eq-eqb (a .remembered) none n, eq-eqb (a .stage) asleep s, eq-eqb (kindOf a) releaseKind k) (go (l .used (a .remembered)))
+    where
+      go : (b : Bool) → cond b true true ≡ true
+      go true = refl
+      go false = refl
+
+  remembers-holds : remembers (l .used) a ≡ true → SleepsOn l a
+  remembers-holds e = go (told (l .used (a .remembered)))
+    where
+      go : Told (l .used (a .remembered)) → SleepsOn l a
+      go (yea u) = inl u
+      go (nay u) =
+          let f : sleepsNowhere a ≡ true = rw u at e in
+          let r = and-right (eqb (a .remembered) none) _ f in
+          inr (eqb-true _ _ (and-right (eqb (a .stage) asleep) _ r), eqb-true _ _ (and-left (eqb (a .remembered) none) _ f))
+
+  -- one that is not asleep remembers a place in use
+  remembers-awake : a .stage ≢ asleep → remembers (l .used) a ≡ true → l .used (a .remembered) ≡ true
+  remembers-awake n e = go (told (l .used (a .remembered)))
+    where
+      go : Told (l .used (a .remembered)) → l .used (a .remembered) ≡ true
+      go (yea u) = u
+      go (nay u) =
+          let f : sleepsNowhere a ≡ true = rw u at e in
+          absurd (n (eqb-true _ _ (and-left (eqb (a .stage) asleep) _ (and-right (eqb (a .remembered) none) _ f))))
+
   -- ---- an agent with an action left that remembers a place
 
   abbrev readyTest : Bool
@@ -52,13 +83,13 @@ module _ (c : State) (x : ℕ) (a : Agent) where
       go (yea e) = rw (e, eq-eqb (a .remembered) (a .home) (r .opener (home-kind (kindOf a) e)))
       go (nay e) = rw e
 
-  ready-holds : Fit a → readyTest ≡ true → Ready l a
+  ready-holds : Fit a → a .stage ≢ asleep → readyTest ≡ true → Ready l a
   unfolding ready
-  ready-holds f e =
+  ready-holds f n e =
       let rest = and-right (hasAction a) _ e in
       record {
         some = kind-some a f (and-left (hasAction a) _ e);
-        known = and-left (remembers (l .used) a) _ rest;
+        known = remembers-awake n (and-left (remembers (l .used) a) _ rest);
         opener = λ k. eqb-true _ _ (rw (kind-home (kindOf a) k (kind-small a f)) at (and-right (remembers (l .used) a) _ rest));
       }
 
@@ -98,6 +129,7 @@ module _ (c : State) (x : ℕ) (a : Agent) where
       move (is-enter e) k h t = rw (e, h, t e)
       move (is-exit e) k h t = rw (e, h)
       move (is-open e) k h t = absurd (omega arith)
+      move (is-release e) k h t = absurd (omega arith)
 
       go : Ok l (c .lock) x a → agentFits c x a ≡ true
       go (ok0 s k) = at 0 s (has-some a k) free free
@@ -110,7 +142,7 @@ module _ (c : State) (x : ℕ) (a : Agent) where
       go (ok4 s w) = at 4 s refl free free
       go (ok5 s w h) = at 5 s refl (lock-true c x _ u h) free
       go (ok6 s w h₁ h₂) = at 6 s refl (lock-true c x _ u h₁) (rw (stands-parent l (a .home) u) (lock-true c x _ (p .parent-used (a .home)) h₂))
-      go (ok7 s k m) = at 7 s (rw (has-some a k, m)) free free
+      go (ok7 s k m) = at 7 s (rw (has-some a k) (remembers-true s m)) free free
       go (ok8 s e) = at 8 s (rw (none-left a f e)) free free
 
   -- ---- the parts of the test
@@ -185,19 +217,21 @@ module _ (c : State) (x : ℕ) (a : Agent) where
           let b : there ≡ true = rw k at t in
           let v = under-fits l (a .chosen) (a .remembered) b in
           ok3-open s r k h (has (a .chosen) (link-used l _ (v .link)) (rw (second-open (kindOf a) (a .home) (a .chosen) k) at m)) v
+      three (is-release k) s r h t m = clash t (rw k)
 
       go : (n : ℕ) → a .stage ≡ n → stageTest n ≡ true → lockIs c x (firstAt a n) ≡ true → lockIs c x (second n) ≡ true → Ok l (c .lock) x a
       go zero s t p m = ok0 s (kind-some a fit t)
-      go (suc zero) s t p m = ok1 s (ready-holds fit t)
-      go (suc (suc zero)) s t p m = let r = ready-holds fit t in ok2 s r (has (a .remembered) (r .known) p)
+      go (suc zero) s t p m = ok1 s (ready-holds fit (λ z. omega arith) t)
+      go (suc (suc zero)) s t p m = let r = ready-holds fit (λ z. omega arith) t in ok2 s r (has (a .remembered) (r .known) p)
       go (suc (suc (suc zero))) s t p m =
-          let r = ready-holds fit (and-left readyTest _ t) in
+          let r = ready-holds fit (λ z. omega arith) (and-left readyTest _ t) in
           three (kind-of a fit (r .some)) s r (has (a .remembered) (r .known) p) (and-right readyTest _ t) m
       go (suc (suc (suc (suc zero)))) s t p m = ok4 s (on-way 4 s (omega arith) (omega arith))
       go (suc (suc (suc (suc (suc zero))))) s t p m = ok5 s (on-way 5 s (omega arith) (omega arith)) (has (a .home) home p)
       go (suc (suc (suc (suc (suc (suc zero)))))) s t p m = ok6 s (on-way 6 s (omega arith) (omega arith)) (has (a .home) home p)
           (has (parentIn l (a .home)) above (rw (stands-parent l (a .home) home) at m))
-      go (suc (suc (suc (suc (suc (suc (suc zero))))))) s t p m = ok7 s (kind-some a fit (and-left (hasAction a) _ t)) (and-right (hasAction a) _ t)
+      go (suc (suc (suc (suc (suc (suc (suc zero))))))) s t p m = ok7 s (kind-some a fit (and-left (hasAction a) _ t))
+          (remembers-holds (and-right (hasAction a) _ t))
       go (suc (suc (suc (suc (suc (suc (suc (suc zero)))))))) s t p m = ok8 s (unused-none a (not-true (hasAction a) t))
       go (suc (suc (suc (suc (suc (suc (suc (suc (suc n))))))))) s t p m = clash t
           (over (suc (suc (suc (suc (suc (suc (suc (suc (suc n))))))))) (omega arith))

@@ -95,7 +95,7 @@ module _ {l : Land} {lock : ℕ → ℕ} {x : ℕ} {a : Agent} where
   travels-away t (ok7 s k u) = absurd (omega arith)
   travels-away t (ok8 s e) = absurd (omega arith)
 
--- "After opened or came the agent is at stage 0, or 8 if no action is left"
+-- "After opened or came", or put, "the agent is at stage 0, or 8 if no action is left"
 pub rest-ok : {l : Land} {lock : ℕ → ℕ} {x : ℕ} (a : Agent) → Fit a → Ok l lock x (atStage a (restStage a) 0 0)
 unfolding nextAction unused
 rest-ok {l} {lock} {x} a f = go (told (hasAction a))

@@ -9,16 +9,16 @@ use native.Mathlib.Omega.{arith}
 use lib.Dec.{ltb, eqb}
 use borrow.Author.Tests.{eqb-true, eqb-false, ltb-true, ltb-false}
 use Rattle.table.specs.BaseLaws.{Told, yea, nay, told}
-use Rattle.table.specs.Cell.{State, none, linked, kindOf, enterKind, exitKind, openKind, lastKind, looksHome}
+use Rattle.table.specs.Cell.{State, none, linked, kindOf, enterKind, exitKind, openKind, releaseKind, lastKind, looksHome, freshNumber}
 use Rattle.table.specs.Kinds.{home-kind, around-kind}
 use Rattle.meaning.specs.Update.{atStage}
 use Rattle.meaning.specs.declared.Word.the-variants.{Took, Held}
-use Rattle.meaning.specs.Step.{step, stepAt, look, lockFirst, hold, lockSecond, act, travel, take, release, turn, still, choice, stays, fires}
+use Rattle.meaning.specs.Step.{step, stepAt, look, lockFirst, hold, putOrSleep, lockSecond, act, travel, take, release, turn, still, choice, stays, fires}
 use Rattle.demands.specs.Reading.{parentIn}
 use Rattle.demands.specs.Invariant.{Sound, Ready, Ok, ok0, ok1, ok2, ok3-move, ok3-open, ok4, ok5, ok6, ok7, ok8}
 use Rattle.demands.specs.Ways.{Way, takesLock, is-done, is-asleep, held-first, held-second, held-own, held-destination, looks-up}
-use Rattle.demands.specs.Ways.{looks-home, sleeps-alone, takes-first, goes-back, sleeps-stuck, takes-second, gives-up, enters, exits}
-use Rattle.demands.specs.Ways.{opens, takes-own, takes-destination, comes}
+use Rattle.demands.specs.Ways.{looks-home, sleeps-alone, takes-first, goes-back, sleeps-stuck, takes-second, puts, sleeps-full, gives-up, enters}
+use Rattle.demands.specs.Ways.{exits, opens, takes-own, takes-destination, comes}
 use Rattle.demands.specs.Facts.{parent-read}
 use Rattle.demands.specs.Actions.{kind-small}
 use Rattle.demands.specs.Stages.{ok-at, ok-given, fit-given, home-given}
@@ -31,7 +31,7 @@ module _ (c : State) (i : Sound c) (x : ℕ) (g : c .given x ≡ true) where
   remembered-third : c .agent x .stage ≡ 3 → Ready (c .land) (c .agent x)
   remembered-third s = ok-at 3 s (ok-given c i x g) .0
 
-  -- at stage 3 it enters, exits or opens
+  -- at stage 3 it enters, exits or opens: no release agent is there
   third-kind : c .agent x .stage ≡ 3 → kindOf (c .agent x) ≤ openKind
   third-kind s = ⊎-elim (λ m. omega (arith, m .kind)) (λ o. omega (arith, o .kind)) (ok-at 3 s (ok-given c i x g) .2)
 
@@ -68,13 +68,26 @@ module _ (c : State) (i : Sound c) (x : ℕ) (g : c .given x ≡ true) where
             rw l (take-way _ _ _ _ (λ f. takes-second _ s k e refl small f) (λ h. held-second s k e small h))
         go (nay l) = rw l (sleeps-stuck s k e (ltb-false (choice (c .land) (c .agent x) w) 64 l))
 
+    -- release puts a place out, or sleeps with all numbers in use
+    out-way : c .agent x .stage ≡ 2 → kindOf (c .agent x) ≡ releaseKind → Way c x w (putOrSleep c x (c .agent x) (freshNumber (c .land .used)))
+    unfolding putOrSleep release
+    out-way s k = go (told (ltb (freshNumber (c .land .used)) 64))
+      where
+        go : Told (ltb (freshNumber (c .land .used)) 64) → Way c x w (putOrSleep c x (c .agent x) (freshNumber (c .land .used)))
+        go (yea l) = rw l (puts _ s k refl (ltb-true (freshNumber (c .land .used)) 64 l))
+        go (nay l) = rw l (sleeps-full s k (ltb-false (freshNumber (c .land .used)) 64 l))
+
     hold-way : c .agent x .stage ≡ 2 → Way c x w (hold c x (c .agent x) w)
     unfolding hold release
-    hold-way s = go (told (stays (c .land) (c .agent x)))
+    hold-way s = go (told (stays (c .land) (c .agent x))) (told (eqb (kindOf (c .agent x)) releaseKind))
       where
-        go : Told (stays (c .land) (c .agent x)) → Way c x w (hold c x (c .agent x) w)
-        go (yea e) = rw e (second-way s kind-given e)
-        go (nay e) = rw e (goes-back s e)
+        three : eqb (kindOf (c .agent x)) releaseKind ≡ false → kindOf (c .agent x) ≤ openKind
+        three e = let n = eqb-false (kindOf (c .agent x)) releaseKind e in omega (arith, kind-given)
+
+        go : Told (stays (c .land) (c .agent x)) → Told (eqb (kindOf (c .agent x)) releaseKind) → Way c x w (hold c x (c .agent x) w)
+        go (yea e) (yea k) = rw (e, k) (out-way s (eqb-true (kindOf (c .agent x)) releaseKind k))
+        go (yea e) (nay k) = rw (e, k) (second-way s (three k) e)
+        go (nay e) _ = rw e (goes-back s e)
 
     act-way : c .agent x .stage ≡ 3 → Way c x w (act c x (c .agent x))
     unfolding act release

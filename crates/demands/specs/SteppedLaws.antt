@@ -4,16 +4,18 @@ use mathlib.Core.Path.{_≡_, refl, sym, ap, _∙_}
 use mathlib.Core.Bool.{true, false, cond}
 use Prim.Native.Nat.{ℕ, _+_, _≤_}
 use native.Mathlib.Nat.{add-zero}
+use native.Mathlib.Omega.{arith}
 use lib.Dec.{eqb, leb}
+use borrow.Author.Tests.{eq-eqb, ne-eqb}
 use Rattle.table.specs.BaseLaws.{Told, yea, nay, told}
-use Rattle.table.specs.Cell.{Land, hasAction, kindOf, exitKind, openKind, lastKind}
+use Rattle.table.specs.Cell.{Land, none, hasAction, kindOf, exitKind, openKind, releaseKind, lastKind}
 use Rattle.table.specs.Kinds.{kind-home, kind-around}
 use Rattle.table.specs.declared.Agent.{Agent}
 use Rattle.meaning.specs.declared.Word.{Word}
 use Rattle.meaning.specs.declared.Word.the-variants.{Looked, Took, Held, Slept, Asleep, Done}
 use Rattle.meaning.specs.Update.{atStage, useUp}
 use Rattle.meaning.specs.Step.{choice}
-use Rattle.demands.specs.NoMore.{usedUp, stageBy, rememberedBy, chosenBy, Stepped}
+use Rattle.demands.specs.ByWord.{usedUp, stageBy, rememberedBy, chosenBy, Stepped}
 
 module _ (word : Word) (l : Land) (wish : ℕ) (a : Agent) where
   -- at another stage, with no action used up
@@ -63,8 +65,11 @@ module _ (l : Land) (wish : ℕ) (a : Agent) where
   pub sleeps-at-home : a .stage ≡ 0 → rememberedBy Slept l a ≡ a .home
   sleeps-at-home s = rw (ap (λ (n : ℕ). eqb n 0) s)
 
-  pub sleeps-around : a .stage ≡ 2 → rememberedBy Slept l a ≡ a .remembered
-  sleeps-around s = rw (ap (λ (n : ℕ). eqb n 0) s)
+  pub sleeps-around : a .stage ≡ 2 → kindOf a ≤ openKind → rememberedBy Slept l a ≡ a .remembered
+  sleeps-around s k = rw (ap (λ (n : ℕ). eqb n 0) s, ne-eqb (kindOf a) releaseKind (λ z. omega arith))
+
+  pub sleeps-nowhere : a .stage ≡ 2 → kindOf a ≡ releaseKind → rememberedBy Slept l a ≡ none
+  sleeps-nowhere s k = rw (ap (λ (n : ℕ). eqb n 0) s, eq-eqb (kindOf a) releaseKind k)
 
   pub took-near : (n : ℕ) → leb n 2 ≡ true → a .stage ≡ n → rememberedBy Took l a ≡ a .remembered
   took-near n e s = rw (ap (λ (m : ℕ). leb m 2) s ∙ e)

@@ -1,4 +1,5 @@
--- The sum of the touches over places in use: a touch call adds to it, an opening pools two counts into one, and any other step keeps each.
+-- The sum of the touches over places in use: a touch call adds to it, an opening pools two counts into one, any other step keeps
+-- each, and a place that is put out has none.
 -- Idea: a sum changes by what one of its parts changes; an opening changes two parts, and what one loses the other gains.
 use mathlib.Core.Path.{_≡_, ap, _∙_}
 use mathlib.Core.Logic.{_≢_, _⊎_, inl, inr}

@@ -39,12 +39,11 @@ module _ (c : State) (q n : ℕ) where
 
   pub touch-untouched : c .land .used q ≡ true → Untouched c (addTouches c q n)
   touch-untouched u = record {
-    place = λ r v. refl;
-    lock = λ r v. refl;
-    unused = λ r v. v;
+    place = λ r v w. refl;
+    lock = λ r v w. refl;
     agent = λ y g. refl;
     given = refl;
-    touches = upd-outside (c .land .used) (c .touches) q _ u;
+    touches = λ r v _. upd-outside (c .land .used) (c .touches) q _ u r v;
   }
 
   module _ (u : c .land .used q ≡ true) (l : touchSum c + n ≤ mostTouches) where

@@ -1,4 +1,4 @@
--- How the tree of a cell reads after each kind of step: only leaving and opening change it, as the calculus says.
+-- How the tree of a cell reads after each kind of step: only leaving, opening and putting out change it, as the calculus says.
 -- The tree is read off the places and the agents, and a step changes the homes and the unused actions of no other agent, but for opening.
 use mathlib.Core.Path.{_≡_, refl, sym, ap, _∙_, fun-ext}
 use mathlib.Core.Logic.{_≢_, ⊎-elim}
@@ -8,17 +8,18 @@ use lib.Dec.{eqb}
 use borrow.Author.Tests.{eq-eqb, ne-eqb}
 use Rattle.table.specs.Base.{upd}
 use Rattle.table.specs.BaseLaws.{upd-same, upd-other, upd-all}
-use Rattle.table.specs.Cell.{Land, State, unused}
+use Rattle.table.specs.Cell.{Land, State, plainName, nextAction, nameOf, unused}
 use Rattle.table.specs.declared.Agent.{Agent}
 use Rattle.meaning.specs.Update.{atStage, useUp, withLocks}
-use Rattle.meaning.specs.Step.{dissolveAgent, leave, dissolve, arrive, sendTo, linkUp, dissolveLand, restStage, beyond}
-use Rattle.meaning.specs.Calculus.{Tree, withTreeUsed, withTreeNames, withTreeParents, withTreeHomes, withTreeUnused, restOf, putInto, openUp}
+use Rattle.meaning.specs.Step.{dissolveAgent, put, putLand, leave, dissolve, arrive, sendTo, linkUp, dissolveLand, restStage, beyond}
+use Rattle.meaning.specs.Calculus.{Tree, withTreeUsed, withTreeNames, withTreeParents, withTreeHomes, withTreeUnused, firstOf, restOf, putInto, openUp, putOut}
 use Rattle.meaning.specs.Plain.{treeFrom, treeOf}
 use Rattle.demands.specs.Reading.{parentIn, nameIn, agentIn}
-use Rattle.demands.specs.ReadingLaws.{parent-sent, name-sent, parent-linked, name-linked, used-dissolved, name-dissolved}
+use Rattle.demands.specs.ReadingLaws.{parent-put, name-put, parent-sent, name-sent, parent-linked, name-linked, used-dissolved, name-dissolved}
 use Rattle.demands.specs.ReadingLaws.{parent-dissolved, agent-given, agent-turned, wakeAgent, agent-woken, agent-dissolved}
+use Rattle.demands.specs.Invariant.{Fit}
 use Rattle.demands.specs.Ways.{goesOn}
-use Rattle.demands.specs.Actions.{rest-unused}
+use Rattle.demands.specs.Actions.{first-unused, rest-unused}
 use Rattle.demands.specs.Frame.{rouses, roused-home, roused-unused}
 use Rattle.demands.specs.OpeningAgents.{dissolved, home-after, unused-same}
 use Rattle.demands.specs.SameTree.{tree-home, tree-unused}
@@ -127,6 +128,38 @@ module _ (c : State) (x : ℕ) (g : c .given x ≡ true) where
           (withTreeHomes (withTreeParents (withTreeNames (readTree l (agentIn c)) (name-sent l (own .home) d j)) (to j))
           (fun-ext (turned-home h b refl (λ y. roused-home (rouses (own .remembered) (own .home) (own .home) (agentIn c y)))) j))
           (fun-ext (spent-unused h b refl (λ y. roused-unused (rouses (own .remembered) (own .home) (own .home) (agentIn c y)))) j)
+
+  -- putting out a new place q, into the agent's own place
+  pub tree-put : (q : ℕ) → Fit (agentIn c x) → own .remembered ≡ own .home → treeOf (put c x own q .cell) ≡ putOut (treeOf c) x q
+  unfolding agentIn unused put
+  tree-put q fit e = tree-read (put c x own q .cell) ∙ ap (readTree (putLand l q (nameOf own) p)) (agent-woken c p p p x b g) ∙ moved
+      ∙ ap (λ v. putOut v x q) (sym (tree-read c))
+    where
+      l : Land
+      l = c .land
+
+      p : ℕ
+      p = own .remembered
+
+      h : ℕ → Agent
+      h y = wakeAgent p p p (agentIn c y)
+
+      b : Agent
+      b = atStage (useUp own) (restStage (useUp own)) 0 0
+
+      to : parentIn (putLand l q (nameOf own) p) ≡ upd (parentIn l) q (agentIn c x .home)
+      to = parent-put l q (nameOf own) p ∙ ap (upd (parentIn l) q) (e ∙ sym (ap (λ v. v .home) same-own))
+
+      named : nameIn (putLand l q (nameOf own) p) ≡ upd (nameIn l) q (plainName (firstOf (unused (agentIn c x)) .name))
+      named = name-put l q (nameOf own) p ∙ ap (λ (n : ℕ). upd (nameIn l) q (plainName n))
+          (sym (ap (λ v. v .name) (first-unused (agentIn c x) fit ∙ ap nextAction same-own)))
+
+      moved : readTree (putLand l q (nameOf own) p) (upd h x b) ≡ putOut (readTree l (agentIn c)) x q
+      moved = unfold readTree nameIn parentIn putOut in λ j. withTreeUnused
+          (withTreeHomes
+          (withTreeParents (withTreeNames (withTreeUsed (readTree l (agentIn c)) (upd (l .used) q true)) (named j)) (to j))
+          (fun-ext (turned-home h b refl (λ y. roused-home (rouses p p p (agentIn c y)))) j))
+          (fun-ext (spent-unused h b refl (λ y. roused-unused (rouses p p p (agentIn c y)))) j)
 
   -- opening t, into the agent's own place p
   pub tree-opened : (p t : ℕ) → p ≡ own .home → own .home ≢ t → t ≢ 0 → treeOf (dissolve c x own p t .cell) ≡ openUp (treeOf c) x t

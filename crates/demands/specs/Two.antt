@@ -11,18 +11,18 @@ use borrow.Author.Tests.{eqb-true}
 use Rattle.table.specs.Base.{iter}
 use Rattle.table.specs.BaseLaws.{Told, yea, nay, told, eq?, upd-same}
 use Rattle.table.specs.Bounds.{Sized}
-use Rattle.table.specs.Cell.{Land, State, none, linked, nextAction, kindOf, nameOf, cellOf, exitKind, openKind, looksHome}
-use Rattle.table.specs.Kinds.{Kind, is-enter, is-exit, is-open, around-kind}
+use Rattle.table.specs.Cell.{Land, State, none, linked, nextAction, kindOf, nameOf, cellOf, freshNumber, exitKind, openKind, releaseKind, looksHome}
+use Rattle.table.specs.Kinds.{Kind, is-enter, is-exit, is-open, is-release, around-kind}
 use Rattle.table.specs.Sound.{secondPlace}
 use Rattle.table.specs.declared.Agent.{Agent}
 use Rattle.table.specs.declared.Cell.{Cell}
 use Rattle.meaning.specs.Update.{atStage, useUp}
-use Rattle.meaning.specs.Step.{stays, choice, qualifies, fires, targetOf, destinationOf, leave, dissolve, arrive}
+use Rattle.meaning.specs.Step.{stays, choice, qualifies, fires, targetOf, destinationOf, put, leave, dissolve, arrive}
 use Rattle.meaning.specs.Run.{settled}
-use Rattle.meaning.specs.Calculus.{Tree, Move, putInto, openUp, move}
+use Rattle.meaning.specs.Calculus.{Tree, Move, putInto, openUp, putOut, move}
 use Rattle.meaning.specs.Plain.{treeOf}
 use Rattle.calculus.specs.Up.{acyclic}
-use Rattle.calculus.specs.MoveCases.{MoveCase, move-case}
+use Rattle.calculus.specs.MoveCases.{MoveCase, move-case, release-only}
 use Rattle.demands.specs.Reading.{parentIn, agentIn}
 use Rattle.demands.specs.ReadingLaws.{agent-given}
 use Rattle.demands.specs.Invariant.{Under, Ready, Holds, Sound, Inv}
@@ -31,11 +31,11 @@ use Rattle.demands.specs.Choice.{choice-wish}
 use Rattle.demands.specs.Actions.{kind-of, kind-small}
 use Rattle.demands.specs.Stages.{BothMove, BothOpen, ok-at, holds-none, holds-two, holds-four, holds-five}
 use Rattle.demands.specs.OpeningPlaces.{linked-not-floor, child-not-self}
-use Rattle.demands.specs.TreeOf.{tree-came, tree-left, tree-opened}
-use Rattle.demands.specs.SameTree.{given-beyond, move-enter, move-exit, move-open}
+use Rattle.demands.specs.TreeOf.{tree-came, tree-left, tree-put, tree-opened}
+use Rattle.demands.specs.SameTree.{given-kind, given-beyond, move-enter, move-exit, move-open}
 use Rattle.demands.specs.AtRest.{no-move}
 use Rattle.demands.specs.Live.{second-under}
-use Rattle.demands.specs.Ahead.{looksAt, ahead-look, ahead-first, ahead-second, ahead-back, ahead-leave, ahead-open, ahead-own}
+use Rattle.demands.specs.Ahead.{looksAt, ahead-look, ahead-first, ahead-second, ahead-put, ahead-back, ahead-leave, ahead-open, ahead-own}
 use Rattle.demands.specs.Ahead.{ahead-destination, ahead-arrive}
 use Rattle.demands.specs.TwoSteps.{Reaches}
 use Rattle.demands.specs.TwoAlone.{Low, rest-low, settled-low, low-whole}
@@ -126,6 +126,8 @@ module _ (a : ℕ) where
         go (is-exit k) (inr b) = absurd (omega (arith, b .kind))
         go (is-open k) (inl b) = absurd (omega (arith, b .kind))
         go (is-open k) (inr b) = opened k (b .under)
+        go (is-release k) (inl b) = absurd (omega (arith, b .kind))
+        go (is-release k) (inr b) = absurd (omega (arith, b .kind))
 
   -- ---- stages 0 to 2: the agent goes for what is permitted
 
@@ -138,6 +140,20 @@ module _ (a : ℕ) where
       go : Told (eqb (kindOf b) exitKind) → targetOf (atStage b 3 (b .remembered) (cond (eqb (kindOf b) exitKind) 0 q)) ≡ q
       go (yea e) = rw e (sym (exits-fits l _ _ _ _ q (eqb-true _ _ e) f .0))
       go (nay e) = rw e
+
+  -- release puts its place out
+  from-release : (t : Cell) {u : Tree} → Alone t a → MoveCase (tree t) a u → own t .stage ≡ 2 → kindOf (own t) ≡ releaseKind → Reaches 1 a t u
+  unfolding put
+  from-release t {u} p m s k = one-more 0 0 t _ (omega arith) p (ahead-put (cellOf t) a 0 _ s k refl (room .0))
+      (λ v q f. subst (Reaches 0 a v) (ap treeOf f ∙ tree-put (cellOf t) a (p .given) _ (sound t p .fit a) mine ∙ sym (room .1))
+      (none-more 0 v q (subst (λ (b : Agent). Low (b .stage)) (sym (ap (λ (z : State). z .agent a) f ∙ upd-same _ a _))
+      (rest-low (useUp (own t))))))
+    where
+      room : (freshNumber (land t .used) < 64) × (u ≡ putOut (tree t) a (freshNumber (land t .used)))
+      room = unfold treeOf in release-only m (given-kind (cellOf t) a (p .given) (sound t p .fit a) ∙ k)
+
+      mine : own t .remembered ≡ own t .home
+      mine = ok-at 2 s (own-ok t p) .0 .opener (omega arith)
 
   -- an agent that chooses a place wishes for the one that its move goes to
   from-choice : (t : Cell) {u : Tree} → Alone t a → MoveCase (tree t) a u → own t .stage ≡ 2 → kindOf (own t) ≤ openKind → stays (land t) (own t) ≡ true
@@ -181,9 +197,13 @@ module _ (a : ℕ) where
           ∙ ap (move (tree t) a) (target-is (land t) (own t) q fits) ∙ sym (g .result))
           (from-three v r (ap (λ w. w .stage) e) (ap (λ (k : Land). fires k (own v)) l ∙ ap (fires (land t)) e ∙ fire))
 
-  -- at stage 2 every kind chooses a place
+  -- at stage 2 release puts its place out, and every other kind chooses a place
   from-two : (t : Cell) {u : Tree} → Alone t a → MoveCase (tree t) a u → own t .stage ≡ 2 → stays (land t) (own t) ≡ true → Reaches 5 a t u
-  from-two t p m s st = from-choice t p m s (kind-small (own t) (own-fit t p)) st
+  from-two t {u} p m s st = go (eq? (kindOf (own t)) releaseKind)
+    where
+      go : (kindOf (own t) ≡ releaseKind) ⊎ (kindOf (own t) ≢ releaseKind) → Reaches 5 a t u
+      go (inl k) = raise (omega arith) (from-release t p m s k)
+      go (inr n) = from-choice t p m s (let l = kind-small (own t) (own-fit t p) in omega arith) st
 
   -- a remembered place is free
   first-free : (t : Cell) (p : Alone t a) → own t .stage ≡ 1 → cellOf t .lock (own t .remembered) ≡ none

@@ -5,12 +5,12 @@ use mathlib.Core.Bool.{true, false, cond}
 use Prim.Native.Nat.{ℕ, _≤_, _<_}
 use lib.Dec.{eqb}
 use Rattle.table.specs.Base.{upd}
-use Rattle.table.specs.Cell.{State, none, linked, kindOf, enterKind, exitKind, openKind}
+use Rattle.table.specs.Cell.{State, none, linked, freshNumber, kindOf, enterKind, exitKind, openKind, releaseKind}
 use Rattle.table.specs.Cell.{looking, found, holding, holdingBoth, onWay, onWayOwn, onWayBoth, asleep, done}
 use Rattle.table.specs.Sound.{secondPlace}
 use Rattle.meaning.specs.declared.Word.the-variants.{Looked, Took, Held, Back, Slept, Asleep, Done}
 use Rattle.meaning.specs.Update.{atStage, withAgent, withLocks, released}
-use Rattle.meaning.specs.Step.{Outcome, still, choice, stays, fires, leave, dissolve, arrive}
+use Rattle.meaning.specs.Step.{Outcome, still, choice, stays, fires, put, leave, dissolve, arrive}
 use Rattle.demands.specs.Reading.{parentIn}
 
 -- agent x goes on to a stage, with a remembered and a chosen place
@@ -56,6 +56,10 @@ pub data Way (c : State) (x wish : ℕ) : Outcome → Type 0 where
       → c .lock (secondPlace (kindOf (c .agent x)) (c .agent x .home) q) ≡ none
       → Way c x wish (still (takesLock c x (secondPlace (kindOf (c .agent x)) (c .agent x .home) q) holdingBoth (c .agent x .remembered)
       (cond (eqb (kindOf (c .agent x)) exitKind) 0 q)) Took)
+  puts : (q : ℕ) → c .agent x .stage ≡ holding → kindOf (c .agent x) ≡ releaseKind → freshNumber (c .land .used) ≡ q → q < 64
+      → Way c x wish (put c x (c .agent x) q)
+  sleeps-full : c .agent x .stage ≡ holding → kindOf (c .agent x) ≡ releaseKind → 64 ≤ freshNumber (c .land .used)
+      → Way c x wish (still (givesBack c x (c .agent x .remembered) (c .agent x .remembered) asleep none) Slept)
   -- stage 3
   gives-up : c .agent x .stage ≡ holdingBoth → fires (c .land) (c .agent x) ≡ false
       → Way c x wish (still (givesBack c x (c .agent x .remembered)

@@ -2,78 +2,24 @@
 -- Number by number: each place, lock and agent is one of those that the word's sentence lists, or as it was.
 use mathlib.Core.Path.{_≡_, refl, sym, ap, ap₂, _∙_, subst, fun-ext}
 use mathlib.Core.Logic.{_≢_, _⊎_, inl, inr}
-use mathlib.Core.Bool.{Bool, true, cond}
-use mathlib.Core.List.{List}
+use mathlib.Core.Bool.{true, false, not, cond, and-false}
 use Prim.Native.Nat.{ℕ}
 use lib.Dec.{eqb, ltb}
 use borrow.Author.Tests.{eqb-true, eq-eqb, ne-eqb}
 use Rattle.table.specs.BaseLaws.{Told, yea, nay, told, eq?}
-use Rattle.table.specs.Cell.{Land, State}
-use Rattle.table.specs.declared.Name.{Name}
-use Rattle.table.specs.declared.Place.{Place}
-use Rattle.table.specs.declared.Action.{Action}
+use Rattle.table.specs.Cell.{Land, State, none, freshNumber}
 use Rattle.table.specs.declared.Agent.{Agent}
 use Rattle.meaning.specs.declared.Word.{Word}
-use Rattle.meaning.specs.declared.Word.the-variants.{Looked, Took, Held, Back, Slept, Left, Came, Opened, Asleep, Done}
+use Rattle.meaning.specs.declared.Word.the-variants.{Looked, Took, Held, Back, Slept, Left, Came, Opened, Put, Asleep, Done}
 use Rattle.meaning.specs.declared.Answer.{Answer}
 use Rattle.meaning.specs.declared.Answer.the-variants.{Did, Refused}
 use Rattle.meaning.specs.Update.{atStage}
 use Rattle.meaning.specs.Step.{letsGo, asleepOn, dissolveAgent}
-use Rattle.demands.specs.NoMore.{Untouched, stageBy, Stepped, Returned, OnlyAgent, OnlyPlace, needed, Waking, is-woken, is-awake, sleeps-elsewhere}
+use Rattle.demands.specs.FieldLaws.{place-same, agent-same, state-same}
+use Rattle.demands.specs.ByWord.{usedAfter, stageBy, Stepped}
+use Rattle.demands.specs.NoMore.{Untouched, Returned, OnlyAgent, OnlyPlace, needed, Waking, is-woken, is-awake, sleeps-elsewhere}
 use Rattle.demands.specs.NoMore.{Dissolved, moves, moves-done, forgets, wakes, goes-on, sleeps-on}
-use Rattle.demands.specs.NoMore.{ByTaking, ByOpening, ChangesBy, Changes, NoMore}
-
--- ---- field by field
-
--- a place with the same name, keys, parent and way is the same
-place-same : {p q : Place} → p .name ≡ q .name → p .parent ≡ q .parent → p .way ≡ q .way → p ≡ q
-place-same {p} {q} n r w =
-    ap₂ (λ (m : Name) (s : ℕ). the-place m s (p .way)) n r ∙ ap (λ (s : ℕ). the-place (q .name) (q .parent) s) w
-  where
-    the-place : Name → ℕ → ℕ → Place
-    the-place m s v = record { name = m; parent = s; way = v }
-
--- an agent, field by field
-agent-of : ℕ → ℕ → ℕ → ℕ → ℕ → ℕ → List Action → Agent
-agent-of home stage remembered chosen next count actions = record {
-  home = home;
-  stage = stage;
-  remembered = remembered;
-  chosen = chosen;
-  next = next;
-  count = count;
-  actions = actions;
-}
-
--- one with the same fields is the same
-agent-same : {a b : Agent} → a .home ≡ b .home → a .stage ≡ b .stage → a .remembered ≡ b .remembered → a .chosen ≡ b .chosen → a .next ≡ b .next
-    → a .count ≡ b .count → a .actions ≡ b .actions → a ≡ b
-unfolding agent-of
-agent-same {a} {b} h s r q n k row =
-    ap₂ (λ (u v : ℕ). agent-of u v (a .remembered) (a .chosen) (a .next) (a .count) (a .actions)) h s
-    ∙ ap₂ (λ (u v : ℕ). agent-of (b .home) (b .stage) u v (a .next) (a .count) (a .actions)) r q
-    ∙ ap₂ (λ (u v : ℕ). agent-of (b .home) (b .stage) (b .remembered) (b .chosen) u v (a .actions)) n k
-    ∙ ap (λ (u : List Action). agent-of (b .home) (b .stage) (b .remembered) (b .chosen) (b .next) (b .count) u) row
-
--- a cell, field by field
-state-of : (ℕ → Place) → (ℕ → Bool) → List ℕ → (ℕ → ℕ) → (ℕ → Agent) → (ℕ → Bool) → (ℕ → ℕ) → State
-state-of place used order lock agent given touches = record {
-  land = record { place = place; used = used; order = order };
-  lock = lock;
-  agent = agent;
-  given = given;
-  touches = touches;
-}
-
--- one with the same fields is the same
-state-same : {d e : State} → d .land .place ≡ e .land .place → d .land .used ≡ e .land .used → d .land .order ≡ e .land .order → d .lock ≡ e .lock
-    → d .agent ≡ e .agent → d .given ≡ e .given → d .touches ≡ e .touches → d ≡ e
-unfolding state-of
-state-same {d} {e} p u o l a g t =
-    ap₂ (λ (v : ℕ → Place) (w : ℕ → Bool). state-of v w (d .land .order) (d .lock) (d .agent) (d .given) (d .touches)) p u
-    ∙ ap₂ (λ (v : List ℕ) (w : ℕ → ℕ). state-of (e .land .place) (e .land .used) v w (d .agent) (d .given) (d .touches)) o l
-    ∙ ap₂ (λ (v : ℕ → Agent) (w : ℕ → Bool). state-of (e .land .place) (e .land .used) (e .land .order) (e .lock) v w (d .touches)) a g
-    ∙ ap (state-of (e .land .place) (e .land .used) (e .land .order) (e .lock) (e .agent) (e .given)) t
+use Rattle.demands.specs.NoMore.{ByTaking, ByOpening, ByPutting, ChangesBy, Changes, NoMore}
 
 -- ---- one agent
 
@@ -103,6 +49,7 @@ stage-same Slept a b b′ n k = refl
 stage-same Left a b b′ n k = refl
 stage-same Came a b b′ n k = ap₂ (λ (u v : ℕ). cond (ltb u v) 0 8) n k
 stage-same Opened a b b′ n k = ap₂ (λ (u v : ℕ). cond (ltb u v) 0 8) n k
+stage-same Put a b b′ n k = ap₂ (λ (u v : ℕ). cond (ltb u v) 0 8) n k
 stage-same Asleep a b b′ n k = refl
 stage-same Done a b b′ n k = refl
 
@@ -121,18 +68,31 @@ dissolved-is {p} {t} {a} (moves-done h s) = rw (eq-eqb (a .home) t h, eq-eqb (a 
 dissolved-is {p} {t} {a} (forgets h s m) = rw (ne-eqb (a .home) t h, eq-eqb (a .stage) 1 s, eq-eqb (a .remembered) t m)
 dissolved-is {p} {t} {a} (wakes h s (inl e)) =
     rw (ne-eqb (a .home) t h, ap (λ (n : ℕ). eqb n 1) s, ap (λ (n : ℕ). eqb n 7) s, eq-eqb (a .remembered) p e)
-dissolved-is {p} {t} {a} (wakes h s (inr e)) = go (told (eqb (a .remembered) p))
+dissolved-is {p} {t} {a} (wakes h s (inr (inl e))) = go (told (eqb (a .remembered) p))
   where
     go : Told (eqb (a .remembered) p) → atStage a 0 0 0 ≡ dissolveAgent p t a
     go (yea f) = rw (ne-eqb (a .home) t h, ap (λ (n : ℕ). eqb n 1) s, ap (λ (n : ℕ). eqb n 7) s, f)
     go (nay f) = rw (ne-eqb (a .home) t h, ap (λ (n : ℕ). eqb n 1) s, ap (λ (n : ℕ). eqb n 7) s, f, eq-eqb (a .remembered) t e)
+dissolved-is {p} {t} {a} (wakes h s (inr (inr e))) = go (told (eqb (a .remembered) p)) (told (eqb (a .remembered) t))
+  where
+    go : Told (eqb (a .remembered) p) → Told (eqb (a .remembered) t) → atStage a 0 0 0 ≡ dissolveAgent p t a
+    go (yea f) _ = rw (ne-eqb (a .home) t h, ap (λ (n : ℕ). eqb n 1) s, ap (λ (n : ℕ). eqb n 7) s, f)
+    go (nay f) (yea j) = rw (ne-eqb (a .home) t h, ap (λ (n : ℕ). eqb n 1) s, ap (λ (n : ℕ). eqb n 7) s, f, j)
+    go (nay f) (nay j) =
+        rw (ne-eqb (a .home) t h, ap (λ (n : ℕ). eqb n 1) s, ap (λ (n : ℕ). eqb n 7) s, f, j, eq-eqb (a .remembered) none e)
 dissolved-is {p} {t} {a} (goes-on h n m) = go (told (eqb (a .stage) 1))
   where
     go : Told (eqb (a .stage) 1) → a ≡ dissolveAgent p t a
     go (yea e) = rw (ne-eqb (a .home) t h, e, ne-eqb (a .remembered) t (m (eqb-true _ _ e)), ne-eqb (a .stage) 7 n)
     go (nay e) = rw (ne-eqb (a .home) t h, e, ne-eqb (a .stage) 7 n)
-dissolved-is {p} {t} {a} (sleeps-on h s m k) =
-    rw (ne-eqb (a .home) t h, ap (λ (n : ℕ). eqb n 1) s, ap (λ (n : ℕ). eqb n 7) s, ne-eqb (a .remembered) p m, ne-eqb (a .remembered) t k)
+dissolved-is {p} {t} {a} (sleeps-on h s m k j) = rw (
+  ne-eqb (a .home) t h,
+  ap (λ (n : ℕ). eqb n 1) s,
+  ap (λ (n : ℕ). eqb n 7) s,
+  ne-eqb (a .remembered) p m,
+  ne-eqb (a .remembered) t k,
+  ne-eqb (a .remembered) none j,
+)
 
 -- ---- number by number
 
@@ -157,6 +117,10 @@ moved-one {c} {d} {e} {h} a b q = go (eq? q h)
         (place-same (a .name ∙ sym (b .name)) (a .parent ∙ sym (b .parent)) (a .way ∙ sym (b .way)))
     go (inr n) = a .others q n ∙ sym (b .others q n)
 
+-- what is not in use does not come into use
+abbrev NoneNew : State → State → Type 0
+NoneNew c d = (q : ℕ) → c .land .used q ≡ false → d .land .used q ≡ false
+
 module _ {c d e : State} (u : Untouched c d) (v : Untouched c e) (x : ℕ) where
   -- agent x is the same in both, and so is every other that is given
   agents : d .agent x ≡ e .agent x → ((y : ℕ) → y ≢ x → c .given y ≡ true → d .agent y ≡ e .agent y) → (y : ℕ) → d .agent y ≡ e .agent y
@@ -176,13 +140,13 @@ module _ {c d e : State} (u : Untouched c d) (v : Untouched c e) (x : ℕ) where
   }
 
   -- x has given its locks back
-  returned-one : Returned c x (d .lock) → Returned c x (e .lock) → (q : ℕ) → d .lock q ≡ e .lock q
-  returned-one a b q = go (eq? (c .lock q) x) (told (c .land .used q))
+  returned-one : NoneNew c d → NoneNew c e → Returned c x (d .lock) → Returned c x (e .lock) → (q : ℕ) → d .lock q ≡ e .lock q
+  returned-one m n a b q = go (eq? (c .lock q) x) (told (c .land .used q))
     where
       go : (c .lock q ≡ x) ⊎ (c .lock q ≢ x) → Told (c .land .used q) → d .lock q ≡ e .lock q
-      go (inr n) _ = a .others q n ∙ sym (b .others q n)
+      go (inr k) _ = a .others q k ∙ sym (b .others q k)
       go (inl z) (yea w) = a .ours q w z ∙ sym (b .ours q w z)
-      go (inl z) (nay w) = u .lock q w ∙ sym (v .lock q w)
+      go (inl z) (nay w) = u .lock q w (m q w) ∙ sym (v .lock q w (n q w))
 
   -- x has taken the lock that it needs
   taken-one : ByTaking c x d → ByTaking c x e → d .agent x ≡ e .agent x → (q : ℕ) → d .lock q ≡ e .lock q
@@ -196,8 +160,8 @@ module _ {c d e : State} (u : Untouched c d) (v : Untouched c e) (x : ℕ) where
       go (inr n) = a .locks q n ∙ sym (b .locks q (λ z. n (z ∙ sym at)))
 
   -- a place is opened
-  opened-one : ByOpening c x d → ByOpening c x e → d .agent x ≡ e .agent x → Alike d e
-  opened-one a b s = record {
+  opened-one : NoneNew c d → NoneNew c e → ByOpening c x d → ByOpening c x e → d .agent x ≡ e .agent x → Alike d e
+  opened-one nd ne a b s = record {
     place = λ q. place q (eq? q t) (eq? (c .land .place q .parent) t) (told (c .land .used q));
     lock = λ q. lock q (eq? (c .lock q) x) (told (letsGo c t (c .lock q))) (told (c .land .used q));
     agent = agents s (λ y n g. dissolved-is (a .others y n g) ∙ sym (dissolved-is (b .others y n g)));
@@ -211,42 +175,82 @@ module _ {c d e : State} (u : Untouched c d) (v : Untouched c e) (x : ℕ) where
       place q (inl z) _ _ = subst (λ (n : ℕ). d .land .place n ≡ e .land .place n) (sym z) (a .dissolved ∙ sym (b .dissolved))
       place q (inr n) (inr m) _ = a .places q n m ∙ sym (b .places q n m)
       place q (inr n) (inl m) (yea w) = a .children q w n m ∙ sym (b .children q w n m)
-      place q (inr n) (inl m) (nay w) = u .place q w ∙ sym (v .place q w)
+      place q (inr n) (inl m) (nay w) = u .place q w (nd q w) ∙ sym (v .place q w (ne q w))
 
       lock : (q : ℕ) → (c .lock q ≡ x) ⊎ (c .lock q ≢ x) → Told (letsGo c t (c .lock q)) → Told (c .land .used q) → d .lock q ≡ e .lock q
-      lock q _ _ (nay w) = u .lock q w ∙ sym (v .lock q w)
+      lock q _ _ (nay w) = u .lock q w (nd q w) ∙ sym (v .lock q w (ne q w))
       lock q (inl z) _ (yea w) = a .own-locks q w z ∙ sym (b .own-locks q w z)
       lock q (inr n) (yea m) (yea w) = a .moved-locks q w m ∙ sym (b .moved-locks q w m)
       lock q (inr n) (nay m) (yea w) = a .locks q n m ∙ sym (b .locks q n m)
 
-  -- each word
-  by-word : (word : Word) → ChangesBy word c x d → ChangesBy word c x e → d .agent x ≡ e .agent x → Alike d e
-  by-word Looked a b s = only (a .only) (b .only) s (λ q. ap (λ (f : ℕ → ℕ). f q) (a .locks ∙ sym (b .locks)))
-  by-word Took a b s = only (a .only) (b .only) s (taken-one a b s)
-  by-word Held a b s = alike a b
-  by-word Back a b s = only (a .only) (b .only) s (returned-one (a .locks) (b .locks))
-  by-word Slept a b s = only (a .only) (b .only) s (returned-one (a .locks) (b .locks))
-  by-word Left a b s = record {
-    place = moved-one (a .place) (b .place);
-    lock = returned-one (a .locks) (b .locks);
+  -- a place is put
+  put-one : ((q : ℕ) → q ≢ freshNumber (c .land .used) → c .land .used q ≡ false → (d .land .used q ≡ false) × (e .land .used q ≡ false))
+      → ByPutting c x d → ByPutting c x e → d .agent x ≡ e .agent x → Alike d e
+  put-one unused a b s = record {
+    place = λ q. place q (eq? q new);
+    lock = λ q. lock q (eq? q new) (eq? (c .lock q) x) (told (c .land .used q));
     agent = agents s (λ y n g. waking-same (a .others y n g) (b .others y n g));
   }
-  by-word Came a b s = record {
-    place = moved-one (a .place) (b .place);
-    lock = returned-one (a .locks) (b .locks);
-    agent = agents s (λ y n g. waking-same (a .others y n g) (b .others y n g));
-  }
-  by-word Opened a b s = opened-one a b s
-  by-word Asleep a b s = alike a b
-  by-word Done a b s = alike a b
+    where
+      new : ℕ
+      new = freshNumber (c .land .used)
+
+      place : (q : ℕ) → (q ≡ new) ⊎ (q ≢ new) → d .land .place q ≡ e .land .place q
+      place q (inl z) = subst (λ (n : ℕ). d .land .place n ≡ e .land .place n) (sym z) (a .new-place ∙ sym (b .new-place))
+      place q (inr n) = a .places q n ∙ sym (b .places q n)
+
+      lock : (q : ℕ) → (q ≡ new) ⊎ (q ≢ new) → (c .lock q ≡ x) ⊎ (c .lock q ≢ x) → Told (c .land .used q) → d .lock q ≡ e .lock q
+      lock q (inl z) _ _ = subst (λ (n : ℕ). d .lock n ≡ e .lock n) (sym z) (a .new-lock ∙ sym (b .new-lock))
+      lock q (inr n) (inr m) _ = a .locks q n m ∙ sym (b .locks q n m)
+      lock q (inr n) (inl m) (yea w) = a .own-locks q w m ∙ sym (b .own-locks q w m)
+      lock q (inr n) (inl m) (nay w) = u .lock q w (unused q n w .0) ∙ sym (v .lock q w (unused q n w .1))
+
+-- the numbers in use after an answer
+abbrev UsedAfter : Answer → State → ℕ → State → Type 0
+UsedAfter answer c x d = (q : ℕ) → d .land .used q ≡ usedAfter answer (c .agent x) (c .land .used) q
+
+-- opened: none comes into use
+opened-none-new : (c d : State) (x woken : ℕ) → UsedAfter (Did Opened woken) c x d → NoneNew c d
+opened-none-new c d x woken m q w = m q ∙ rw w (and-false (not (eqb q (c .agent x .chosen))))
+
+-- put: none but one
+put-none-new : (c d : State) (x woken : ℕ) → UsedAfter (Did Put woken) c x d
+    → (q : ℕ) → q ≢ freshNumber (c .land .used) → c .land .used q ≡ false → d .land .used q ≡ false
+put-none-new c d x woken m q n w = m q ∙ rw (ne-eqb q (freshNumber (c .land .used)) n, w)
+
+-- each word
+by-word : {c d e : State} → Untouched c d → Untouched c e → (x : ℕ) (word : Word) (woken : ℕ) → UsedAfter (Did word woken) c x d
+    → UsedAfter (Did word woken) c x e → ChangesBy word c x d → ChangesBy word c x e → d .agent x ≡ e .agent x → Alike d e
+by-word u v x Looked woken m n a b s = only u v x (a .only) (b .only) s (λ q. ap (λ (f : ℕ → ℕ). f q) (a .locks ∙ sym (b .locks)))
+by-word u v x Took woken m n a b s = only u v x (a .only) (b .only) s (taken-one u v x a b s)
+by-word u v x Held woken m n a b s = alike a b
+by-word u v x Back woken m n a b s =
+    only u v x (a .only) (b .only) s (returned-one u v x (λ q w. m q ∙ w) (λ q w. n q ∙ w) (a .locks) (b .locks))
+by-word u v x Slept woken m n a b s =
+    only u v x (a .only) (b .only) s (returned-one u v x (λ q w. m q ∙ w) (λ q w. n q ∙ w) (a .locks) (b .locks))
+by-word u v x Left woken m n a b s = record {
+  place = moved-one (a .place) (b .place);
+  lock = returned-one u v x (λ q w. m q ∙ w) (λ q w. n q ∙ w) (a .locks) (b .locks);
+  agent = agents u v x s (λ y d g. waking-same (a .others y d g) (b .others y d g));
+}
+by-word u v x Came woken m n a b s = record {
+  place = moved-one (a .place) (b .place);
+  lock = returned-one u v x (λ q w. m q ∙ w) (λ q w. n q ∙ w) (a .locks) (b .locks);
+  agent = agents u v x s (λ y d g. waking-same (a .others y d g) (b .others y d g));
+}
+by-word {c} {d} {e} u v x Opened woken m n a b s = opened-one u v x (opened-none-new c d x woken m) (opened-none-new c e x woken n) a b s
+by-word {c} {d} {e} u v x Put woken m n a b s =
+    put-one u v x (λ q k w. (put-none-new c d x woken m q k w, put-none-new c e x woken n q k w)) a b s
+by-word u v x Asleep woken m n a b s = alike a b
+by-word u v x Done woken m n a b s = alike a b
 
 -- two cells that satisfy the claim for one cell, agent, wish and answer are the same
 pub no-more-whole : {c d e : State} {x wish : ℕ} (answer : Answer) → NoMore c x wish d answer → NoMore c x wish e answer → d ≡ e
-no-more-whole {c} {d} {e} {x} {wish} answer m n = go (both answer (m .changes) (n .changes))
+no-more-whole {c} {d} {e} {x} {wish} answer m n = go (both answer (m .used) (n .used) (m .changes) (n .changes))
   where
-    both : (w : Answer) → Changes w c x wish d → Changes w c x wish e → Alike d e
-    both (Did word number) p q = by-word (m .untouched) (n .untouched) x word (p .1) (q .1) (stepped-one (p .0) (q .0))
-    both (Refused number) p q = alike p q
+    both : (w : Answer) → UsedAfter w c x d → UsedAfter w c x e → Changes w c x wish d → Changes w c x wish e → Alike d e
+    both (Did word woken) i j p q = by-word (m .untouched) (n .untouched) x word woken i j (p .1) (q .1) (stepped-one (p .0) (q .0))
+    both (Refused number) i j p q = alike p q
 
     go : Alike d e → d ≡ e
     go s = state-same (fun-ext (s .place)) (fun-ext (λ q. m .used q ∙ sym (n .used q))) (m .order ∙ sym (n .order)) (fun-ext (s .lock))

@@ -12,7 +12,7 @@ use Rattle.sets.specs.WordLaws.{count-ext}
 use Rattle.table.specs.Base.{upd}
 use Rattle.table.specs.BaseLaws.{Told, yea, nay, told, upd-all, getD-tab}
 use Rattle.table.specs.Bounds.{Sized}
-use Rattle.table.specs.Cell.{State, noAgent, cellOf, tableOf, looking, asleep}
+use Rattle.table.specs.Cell.{State, none, noAgent, cellOf, tableOf, looking, asleep}
 use Rattle.table.specs.CellLaws.{bounded}
 use Rattle.table.specs.Sound.{sound}
 use Rattle.table.specs.declared.Agent.{Agent}
@@ -20,13 +20,13 @@ use Rattle.table.specs.declared.Cell.{Cell}
 use Rattle.meaning.specs.declared.Answer.{Answer}
 use Rattle.meaning.specs.declared.Answer.the-variants.{Did, Refused}
 use Rattle.meaning.specs.Update.{atStage}
-use Rattle.meaning.specs.Step.{Outcome, still, asleepOn, wake, leave, dissolveAgent, wokenBy, dissolve, arrive, step}
+use Rattle.meaning.specs.Step.{Outcome, still, asleepOn, wake, put, leave, dissolveAgent, wokenBy, dissolve, arrive, step}
 use Rattle.meaning.specs.Run.{stepOf, made, turnedAway}
 use Rattle.meaning.specs.Ask.{commitOf}
 use Rattle.meaning.specs.AskLaws.{committed}
 use Rattle.demands.specs.Invariant.{Sound}
 use Rattle.demands.specs.Ways.{Way, is-done, is-asleep, held-first, held-second, held-own, held-destination, looks-up, looks-home}
-use Rattle.demands.specs.Ways.{sleeps-alone, takes-first, goes-back, sleeps-stuck, takes-second, gives-up, enters, exits, opens}
+use Rattle.demands.specs.Ways.{sleeps-alone, takes-first, goes-back, sleeps-stuck, takes-second, puts, sleeps-full, gives-up, enters, exits, opens}
 use Rattle.demands.specs.Ways.{takes-own, takes-destination, comes}
 use Rattle.demands.specs.StepWays.{step-way}
 use Rattle.demands.specs.SoundTest.{sound-bounded}
@@ -85,14 +85,15 @@ wake-one true k a = go k (told (eqb (a .stage) 7))
 module _ (p t : ℕ) (a : Agent) where
   open-asleep : eqb (a .stage) 7 ≡ true → wokenBy p t a ≡ (eqb (a .stage) 7 && eqb (dissolveAgent p t a .stage) 0)
   unfolding wokenBy dissolveAgent asleepOn
-  open-asleep e = go (told (eqb (a .home) t)) (told (eqb (a .remembered) p)) (told (eqb (a .remembered) t))
+  open-asleep e = go (told (eqb (a .home) t)) (told (eqb (a .remembered) p)) (told (eqb (a .remembered) t)) (told (eqb (a .remembered) none))
     where
-      go : Told (eqb (a .home) t) → Told (eqb (a .remembered) p) → Told (eqb (a .remembered) t)
+      go : Told (eqb (a .home) t) → Told (eqb (a .remembered) p) → Told (eqb (a .remembered) t) → Told (eqb (a .remembered) none)
           → wokenBy p t a ≡ (eqb (a .stage) 7 && eqb (dissolveAgent p t a .stage) 0)
-      go (yea h) _ _ = rw (h, e, asleep-only (a .stage) 8 (λ e. absurd (omega arith)) e)
-      go (nay h) (yea i) _ = rw (h, i, e, asleep-only (a .stage) 1 (λ e. absurd (omega arith)) e)
-      go (nay h) (nay i) (yea j) = rw (h, i, j, e, asleep-only (a .stage) 1 (λ e. absurd (omega arith)) e)
-      go (nay h) (nay i) (nay j) = rw (h, i, j, e, asleep-only (a .stage) 1 (λ e. absurd (omega arith)) e, asleep-only (a .stage) 0 (λ e. absurd (omega arith)) e)
+      go (yea h) _ _ _ = rw (h, e, asleep-only (a .stage) 8 (λ e. absurd (omega arith)) e)
+      go (nay h) (yea i) _ _ = rw (h, i, e, asleep-only (a .stage) 1 (λ e. absurd (omega arith)) e)
+      go (nay h) (nay i) (yea j) _ = rw (h, i, j, e, asleep-only (a .stage) 1 (λ e. absurd (omega arith)) e)
+      go (nay h) (nay i) (nay j) (yea k) = rw (h, i, j, k, e, asleep-only (a .stage) 1 (λ e. absurd (omega arith)) e)
+      go (nay h) (nay i) (nay j) (nay k) = rw (h, i, j, k, e, asleep-only (a .stage) 1 (λ e. absurd (omega arith)) e, asleep-only (a .stage) 0 (λ e. absurd (omega arith)) e)
 
   open-one : (g : Bool) → (g && wokenBy p t a) ≡ (g && (eqb (a .stage) 7 && eqb (cond g (dissolveAgent p t a) a .stage) 0))
   unfolding wokenBy
@@ -140,6 +141,10 @@ module _ (c : State) (x : ℕ) where
   unfolding leave wake asleepOn
   leave-counts d s = others-woken _ _ _ (awake-at 3 (λ e. absurd (omega arith)) s) (λ y. wake-one (c .given y) _ (c .agent y))
 
+  put-counts : (q : ℕ) → c .agent x .stage ≡ 2 → CountsWoken c (put c x (c .agent x) q)
+  unfolding put wake asleepOn
+  put-counts q s = others-woken _ _ _ (awake-at 2 (λ e. absurd (omega arith)) s) (λ y. wake-one (c .given y) _ (c .agent y))
+
   arrive-counts : (d : ℕ) → c .agent x .stage ≡ 6 → CountsWoken c (arrive c x (c .agent x) d)
   unfolding arrive wake asleepOn
   arrive-counts d s = others-woken _ _ _ (awake-at 6 (λ e. absurd (omega arith)) s) (λ y. wake-one (c .given y) _ (c .agent y))
@@ -163,6 +168,8 @@ module _ (c : State) (x : ℕ) where
   way-counts (goes-back s _) = one-changes _ (awake-at 2 (λ e. absurd (omega arith)) s)
   way-counts (sleeps-stuck s _ _ _) = one-changes _ (awake-at 2 (λ e. absurd (omega arith)) s)
   way-counts (takes-second _ s _ _ _ _ _) = one-changes _ (awake-at 2 (λ e. absurd (omega arith)) s)
+  way-counts (puts q s _ _ _) = put-counts q s
+  way-counts (sleeps-full s _ _) = one-changes _ (awake-at 2 (λ e. absurd (omega arith)) s)
   way-counts (gives-up s _) = one-changes _ (awake-at 3 (λ e. absurd (omega arith)) s)
   way-counts (enters s _ _) = leave-counts _ s
   way-counts (exits s _ _) = leave-counts _ s

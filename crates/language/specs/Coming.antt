@@ -7,7 +7,7 @@ use native.Mathlib.Omega.{arith}
 use native.Mathlib.Bridge.{le-by-compare, IsLe}
 use lib.ListN.{length, drop}
 use Rattle.table.specs.Base.{tab}
-use Rattle.table.specs.Cell.{enterKind, exitKind, openKind, lastKind}
+use Rattle.table.specs.Cell.{enterKind, exitKind, openKind, releaseKind, lastKind}
 use Rattle.meaning.specs.Text.{decimal}
 use Rattle.meaning.specs.Listing.{kindText}
 use Rattle.language.specs.declared.Field.{Field}
@@ -162,6 +162,8 @@ good-next g (Ways.name-digit {b = b} h e) = good-to (good-digits {f = PlaceName}
 good-next g (Ways.letter-e w e) = good-to good-e
 good-next g (Ways.letter-o w e) = good-to (good-spell {k = openKind} {i = 1} (omega arith) (omega arith)
     (unfold kindText in unfold tab in le-by-compare 2 (length (kindText openKind)) tt))
+good-next g (Ways.letter-r w e) = good-to (good-spell {k = releaseKind} {i = 1} (omega arith) (omega arith)
+    (unfold kindText in unfold tab in le-by-compare 2 (length (kindText releaseKind)) tt))
 good-next g (Ways.empty-place e) = good-to good-after
 good-next g (Ways.end-bar h e) = good-to good-space
 good-next g (Ways.end-out h e) = good-to good-after

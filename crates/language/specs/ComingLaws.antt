@@ -8,7 +8,7 @@ use native.Mathlib.Numerals.{add-one}
 use lib.ListN.{length, getD, drop}
 use lib.Seq.{drop-cons, drop-length}
 use Rattle.table.specs.Base.{tab}
-use Rattle.table.specs.Cell.{enterKind, exitKind, openKind, lastKind}
+use Rattle.table.specs.Cell.{enterKind, exitKind, openKind, releaseKind, lastKind}
 use Rattle.meaning.specs.Text.{decimal}
 use Rattle.meaning.specs.Listing.{kindText, slashed}
 use Rattle.language.specs.declared.Field.{Field}
@@ -100,6 +100,11 @@ open-word : kindText openKind ≡ 111 ∷ drop 1 (kindText openKind)
 unfolding kindText tab
 open-word = refl
 
+-- `r` begins `release`
+release-word : kindText releaseKind ≡ 114 ∷ drop 1 (kindText releaseKind)
+unfolding kindText tab
+release-word = refl
+
 -- a byte put back
 byte : (F : Text → Type 0) (b w : ℕ) (s : Text) → b ≡ w → F (w ∷ s) → F (b ∷ s)
 byte F b w s e r = subst (λ z. F (z ∷ s)) (sym e) r
@@ -162,6 +167,8 @@ rest-back {d = d} {b = b} g (Ways.name-digit h e) s r = opening-rest h d (b ∷ 
 rest-back {d = d} {b = b} g (Ways.letter-e w e) s r = wording-rest w d (b ∷ s) (byte (Worded d) b 101 s e r)
 rest-back {d = d} {b = b} g (Ways.letter-o w e) s r = wording-rest w d (b ∷ s)
     (byte (Worded d) b 111 s e (worded openKind 1 d (111 ∷ []) s (omega arith) (omega arith) open-word r))
+rest-back {d = d} {b = b} g (Ways.letter-r w e) s r = wording-rest w d (b ∷ s)
+    (byte (Worded d) b 114 s e (worded releaseKind 1 d (114 ∷ []) s (omega arith) (omega arith) release-word r))
 rest-back {b = b} g (Ways.empty-place {d = d} e) s r = byte (Inside (suc d)) b 93 s e
     (record {
       inside = nothing;

@@ -19,7 +19,7 @@ use Rattle.meaning.specs.Sorted.{leq, insert, sorted}
 use Rattle.meaning.specs.Listing.{kindText, actionText, agentText, listsIn, textsOf, agentTexts, standsUnder, isPlain, slashed, nameText, bracketed}
 use Rattle.meaning.specs.Listing.{placeTexts}
 use Rattle.meaning.specs.Listing.{inOrder, contentsText, listing}
-use Rattle.meaning.specs.BenchRow.{file, place, agent, enters, exits, opens, keyed}
+use Rattle.meaning.specs.BenchRow.{file, place, agent, enters, exits, opens, releases, keyed}
 use Rattle.language.specs.Grammar.{Text}
 use Rattle.language.specs.Machine.{beginWord, beginPart, closed, ended, leastOf, follow, continues, spelled, next, apply, isOn, land, step, run}
 use Rattle.language.specs.Machine.{endAt, end, reads, taken}
@@ -108,7 +108,16 @@ rows =
     ∷ stops "7[]\n" 16 3
     ∷ stops "enter 7.7[]" 16 8
     ∷ stops "embark" 16 1
-    ∷ stops "release 7" 16 0
+    -- "the listing writes it `release 9`, the reader takes it" (document 02, W11)
+    ∷ lists "release 9" "release 9"
+    ∷ lists "7[] | release 65535 | open 7.release 7" "open 7.release 7 | release 65535 | 7[]"
+    ∷ gives "open 7.release 7" (file (agent 0 0 ∷ opens 0 7 ∷ releases 0 7 ∷ []))
+    ∷ stops "r" 16 1
+    ∷ stops "rel" 16 3
+    ∷ stops "release" 16 7
+    ∷ stops "release 0" 16 8
+    ∷ stops "relay 7" 16 3
+    ∷ stops "open 7.release" 16 14
     -- "fits 63 places, 64 agents and sixteen actions each": "17, at the text's length, for too many of anything"
     ∷ passes (nested 63)
     ∷ overruns (nested 64) 17 192

@@ -22,7 +22,7 @@ pub record Number (least : ℕ) : Type 0 where
   pub low : least ≤ value
   pub high : value ≤ 65535
 
--- an action: a kind, "1 enter, 2 exit, 3 open", and its number
+-- an action: a kind, "1 enter, 2 exit, 3 open" and 4 release (W11), and its number
 pub record TypedAction : Type 0 where
   pub kind : ℕ
   pub from-one : 1 ≤ kind

@@ -5,7 +5,7 @@ use mathlib.Core.Bool.{Bool, true, false, _&&_, cond}
 use mathlib.Core.List.{[], _∷_}
 use lib.Dec.{ltb, leb, eqb}
 use lib.ListN.{length, getD}
-use Rattle.table.specs.Cell.{enterKind, exitKind, openKind}
+use Rattle.table.specs.Cell.{enterKind, exitKind, openKind, releaseKind}
 use Rattle.table.specs.declared.Name.{Name}
 use Rattle.meaning.specs.Listing.{kindText}
 use Rattle.language.specs.declared.Field.{Field}
@@ -24,9 +24,12 @@ use Rattle.language.specs.Grammar.{Text, withKeys}
 abbrev pub isDigit : ℕ → ℕ → Bool
 isDigit least b = leb (48 + least) b && leb b 57
 
--- the word of an action begins: `e` or `o`
+-- the word of an action begins: `e`, `o` or `r`
 unfoldable pub beginWord : ℕ → Event → ℕ → Moved
-beginWord d e b = cond (eqb b 101) (To LetterE d e) (cond (eqb b 111) (To (Spell openKind 1) d e) Off)
+beginWord d e b =
+    cond (eqb b 101) (To LetterE d e)
+    (cond (eqb b 111) (To (Spell openKind 1) d e)
+    (cond (eqb b 114) (To (Spell releaseKind 1) d e) Off))
 
 -- a part begins: a place's name, or an agent's first word
 unfoldable pub beginPart : ℕ → ℕ → Moved

@@ -9,7 +9,7 @@ use lib.Dec.{ltb, leb}
 use borrow.Author.Tests.{ltb-true, ltb-false, le-leb, ne-eqb}
 use Rattle.table.specs.Base.{tab}
 use Rattle.table.specs.BaseLaws.{Told, yea, nay, told}
-use Rattle.table.specs.Kinds.{IsKind, enters, exits, opens, is-kind}
+use Rattle.table.specs.Kinds.{IsKind, enters, exits, opens, releases, is-kind}
 use Rattle.meaning.specs.Text.{decimal}
 use Rattle.meaning.specs.Listing.{kindText, actionText}
 use Rattle.language.specs.declared.Field.{Field}
@@ -125,6 +125,9 @@ module _ {B : Type 0} (o : Builder B) where
   word-run opening-begin opens d x = refl
   word-run opening-part opens d x = refl
   word-run opening-within opens d x = refl
+  word-run opening-begin releases d x = refl
+  word-run opening-part releases d x = refl
+  word-run opening-within releases d x = refl
 
   -- a further word, after a full stop
   next-word-run : {k : ℕ} → IsKind k → (d : ℕ) (x : B) → run o (at Dot d x) (kindText k) ≡ at (Before (ActionNumber k)) d x
@@ -132,6 +135,7 @@ module _ {B : Type 0} (o : Builder B) where
   next-word-run enters d x = refl
   next-word-run exits d x = refl
   next-word-run opens d x = refl
+  next-word-run releases d x = refl
 
   -- ---- first digits
 

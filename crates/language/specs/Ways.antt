@@ -7,7 +7,7 @@ use lib.Dec.{ltb, leb, eqb}
 use lib.ListN.{length, getD}
 use borrow.Author.Tests.{eqb-true, ltb-true, ltb-false, leb-true}
 use Rattle.table.specs.BaseLaws.{Told, yea, nay, told, and-left, and-right}
-use Rattle.table.specs.Cell.{enterKind, exitKind, openKind}
+use Rattle.table.specs.Cell.{enterKind, exitKind, openKind, releaseKind}
 use Rattle.meaning.specs.Listing.{kindText}
 use Rattle.language.specs.declared.Field.{Field}
 use Rattle.language.specs.declared.Field.the-variants.{PlaceName, EnterKey, ExitKey, OpenKey, ActionNumber}
@@ -47,6 +47,7 @@ pub data Way : Control → ℕ → ℕ → Moved → Type 0 where
   name-digit : {c : Control} {d b : ℕ} → Opening c → Digit 1 b → Way c d b (To (Digits PlaceName (b - 48)) d Nothing)
   letter-e : {c : Control} {e : Event} {d b : ℕ} → Wording c e → b ≡ 101 → Way c d b (To LetterE d e)
   letter-o : {c : Control} {e : Event} {d b : ℕ} → Wording c e → b ≡ 111 → Way c d b (To (Spell openKind 1) d e)
+  letter-r : {c : Control} {e : Event} {d b : ℕ} → Wording c e → b ≡ 114 → Way c d b (To (Spell releaseKind 1) d e)
   empty-place : {d b : ℕ} → b ≡ 93 → Way Within (suc d) b (To After d EndPlace)
   end-bar : {c : Control} {e f : Event} {d b : ℕ} → Ending c e f → b ≡ 32 → Way c d b (To Space d e)
   end-out : {c : Control} {e f : Event} {d b : ℕ} → Ending c e f → b ≡ 93 → Way c (suc d) b (To After d f)
@@ -81,7 +82,7 @@ one-of {c} {d} b w m n h k = go (told (eqb b w))
 -- where a word may begin
 way-word : {c : Control} {e : Event} → Wording c e → (d b : ℕ) → Way c d b (beginWord d e b)
 unfolding beginWord
-way-word w d b = one-of b 101 _ _ (letter-e w) (one-of b 111 _ _ (letter-o w) stuck)
+way-word w d b = one-of b 101 _ _ (letter-e w) (one-of b 111 _ _ (letter-o w) (one-of b 114 _ _ (letter-r w) stuck))
 
 -- where a part may begin
 way-part : {c : Control} → Opening c → (d b : ℕ) → Way c d b (beginPart d b)

@@ -1,4 +1,4 @@
--- How long a listing can be: 14,177 bytes at most for every table, since names and keys have 16 bits. Assumes nothing.
+-- How long a listing can be: 16,225 bytes at most for every table, since names and keys have 16 bits. Assumes nothing.
 use mathlib.Core.Path.{_≡_}
 use mathlib.Core.Bool.{Bool, true, false, cond}
 use mathlib.Core.List.{List, [], _∷_, _++_}
@@ -9,7 +9,7 @@ use lib.Dec.{eqb, leb}
 use lib.ListN.{length, length-append, getD}
 use borrow.Author.Tests.{le-leb}
 use Rattle.table.specs.Base.{tab, sumBelow}
-use Rattle.table.specs.Cell.{State, noAction, cellOf}
+use Rattle.table.specs.Cell.{State, noAction, cellOf, enterKind, exitKind, openKind}
 use Rattle.table.specs.BaseLaws.{Told, yea, nay, told}
 use Rattle.table.specs.SumLaws.{sum-most}
 use Rattle.table.specs.Sound.{sound}
@@ -39,15 +39,16 @@ pub record Named (w : ℕ) (c : State) : Type 0 where
   pub place : (q : ℕ) → Short w (c .land .place q .name)
   pub action : (x j : ℕ) → length (decimal (getD (c .agent x .actions) j noAction .name)) ≤ w
 
--- no word of an action is longer than `enter `
+-- no word of an action is longer than `release `
 kind-length : (k : ℕ) → length (kindText k) ≤ longestWord
 unfolding kindText tab
-kind-length k = go (eqb k 1) (eqb k 2)
+kind-length k = go (eqb k enterKind) (eqb k exitKind) (eqb k openKind)
   where
-    go : (a b : Bool) → length (cond a (ascii "enter ") (cond b (ascii "exit ") (ascii "open "))) ≤ longestWord
-    go true b = le-refl longestWord
-    go false true = omega arith
-    go false false = omega arith
+    go : (a b d : Bool) → length (cond a (ascii "enter ") (cond b (ascii "exit ") (cond d (ascii "open ") (ascii "release ")))) ≤ longestWord
+    go true b d = omega arith
+    go false true d = omega arith
+    go false false true = omega arith
+    go false false false = le-refl longestWord
 
 -- what an action takes at most with a full stop
 abbrev actionRoom : ℕ → ℕ
@@ -194,7 +195,7 @@ short n = record {
   opening = digits-short 20 4 _ (omega (arith, n .opening));
 }
 
--- the longest listing of a table has 14,177 bytes
+-- the longest listing of a table has 16,225 bytes
 pub listing-longest : (t : Cell) → Names16 t → length (listing (cellOf t)) ≤ longestListing
 unfolding cellOf
 listing-longest t n = omega (
@@ -205,7 +206,7 @@ listing-longest t n = omega (
   }),
 )
 
--- a listing call that is lent 14,177 bytes is never refused by 12
+-- a listing call that is lent 16,225 bytes is never refused by 12
 pub enough-room : (t : Cell) → Names16 t → (b : List ℕ) → longestListing ≤ length b
     → listAnswer (cellOf t) b ≡ cond (sound (cellOf t)) (Length (length (listing (cellOf t)))) (Unlisted unsoundTable)
 unfolding listAnswer

@@ -14,20 +14,20 @@ longestFile = 6390
 abbrev pub decidingBytes : ℕ
 decidingBytes = 6400
 
--- the longest word of an action with the space after it: `enter `
+-- the longest word of an action with the space after it: `release `
 abbrev pub longestWord : ℕ
-longestWord = 6
+longestWord = 8
 
--- the longest listing where numbers have five digits. An agent has 16 * 11 + 15 bytes, sixteen actions such as `enter 65535` with full stops
--- between them; a place has 25, `65535/65535/65535/65534[]`; a bar of 3 stands before each but one: 64 * 194 + 63 * 28 - 3
+-- the longest listing where numbers have five digits. An agent has 16 * 13 + 15 bytes, sixteen actions such as `release 65535` with full stops
+-- between them; a place has 25, `65535/65535/65535/65534[]`; a bar of 3 stands before each but one: 64 * 226 + 63 * 28 - 3
 abbrev pub longestListing : ℕ
-longestListing = 14177
+longestListing = 16225
 
--- the longest where they have twenty digits, the most that are written: 64 * 434 + 63 * 88 - 3
+-- the longest where they have twenty digits, the most that are written: 64 * 466 + 63 * 88 - 3
 abbrev pub longestAny : ℕ
-longestAny = 33317
+longestAny = 35365
 
 -- the longest report: 16,384 lines of 15 bytes, and two listings of twenty digits with `start `, `end ` and the ends of their lines:
--- 245,760 + 2 * 33,317 + 12
+-- 245,760 + 2 * 35,365 + 12
 abbrev pub longestReport : ℕ
-longestReport = 312406
+longestReport = 316502

@@ -1,4 +1,4 @@
--- How long a report can be: 312,406 bytes at most, so walk's buffer holds every report whole. Assumes nothing.
+-- How long a report can be: 316,502 bytes at most, so walk's buffer holds every report whole. Assumes nothing.
 use mathlib.Core.Path.{_≡_, ap₂, _∙_}
 use mathlib.Core.Bool.{Bool, true, false, cond}
 use mathlib.Core.List.{List, [], _∷_, _++_}
@@ -8,17 +8,17 @@ use lib.Dec.{eqb, ltb, leb}
 use lib.ListN.{length, length-append, getD, take}
 use Rattle.sets.specs.WordLaws.{count-most}
 use Rattle.table.specs.Base.{tab}
-use Rattle.table.specs.Cell.{State, none, linked, kindOf, cellOf, tableOf, openKind, looksHome}
+use Rattle.table.specs.Cell.{State, none, freshNumber, linked, kindOf, cellOf, tableOf, openKind, releaseKind, looksHome}
 use Rattle.table.specs.Sound.{sound}
 use Rattle.table.specs.declared.Agent.{Agent}
 use Rattle.table.specs.declared.Cell.{Cell}
 use Rattle.meaning.specs.Refusals.{unsoundTable, noSuchAgent}
 use Rattle.meaning.specs.declared.Word.{Word}
-use Rattle.meaning.specs.declared.Word.the-variants.{Looked, Took, Held, Back, Slept, Left, Came, Opened, Asleep, Done}
+use Rattle.meaning.specs.declared.Word.the-variants.{Looked, Took, Held, Back, Slept, Left, Came, Opened, Put, Asleep, Done}
 use Rattle.meaning.specs.declared.Answer.{Answer}
 use Rattle.meaning.specs.declared.Answer.the-variants.{Did, Refused}
 use Rattle.meaning.specs.Text.{ascii, decimal}
-use Rattle.meaning.specs.Step.{Outcome, stays, choice, fires, destinationOf, still, turn, take as takes, release, look, lockFirst, lockSecond, hold, leave, dissolve, act, arrive, travel, stepAt, step}
+use Rattle.meaning.specs.Step.{Outcome, stays, choice, fires, destinationOf, still, turn, take as takes, release, look, lockFirst, put, putOrSleep, lockSecond, hold, leave, dissolve, act, arrive, travel, stepAt, step}
 use Rattle.meaning.specs.Run.{made, turnedAway, stepOf}
 use Rattle.meaning.specs.File.{Load, accepted, refused, load}
 use Rattle.meaning.specs.Listing.{listing}
@@ -55,10 +55,15 @@ module _ (c : State) (x : ℕ) where
   unfolding release still
   few-release p q a w = record { most = zero-le }
 
+  few-put : (a : Agent) (q : ℕ) → Few (putOrSleep c x a q)
+  unfolding putOrSleep put
+  few-put a q = few-cond (ltb q 64) {o = put c x a q} (record { most = count-most 64 _ }) (few-release _ _ _ Slept)
+
   few-hold : (a : Agent) (wish : ℕ) → Few (hold c x a wish)
   unfolding hold lockSecond
   few-hold a wish = few-cond (stays (c .land) a)
-      (few-cond (ltb (choice (c .land) a wish) 64) (few-take _ _) (few-release _ _ _ Slept))
+      (few-cond (eqb (kindOf a) releaseKind) (few-put a (freshNumber (c .land .used)))
+      (few-cond (ltb (choice (c .land) a wish) 64) (few-take _ _) (few-release _ _ _ Slept)))
       (few-release _ _ _ Back)
 
   few-act : (a : Agent) → Few (act c x a)
@@ -109,6 +114,7 @@ word-length Slept = omega arith
 word-length Left = omega arith
 word-length Came = omega arith
 word-length Opened = omega arith
+word-length Put = omega arith
 word-length Asleep = omega arith
 word-length Done = omega arith
 

@@ -24,6 +24,7 @@ fn write_word(word: Word, at: usize, buf: &mut [u8]) -> usize
         Word::Left => write_bytes(b"left ", at, buf),
         Word::Came => write_bytes(b"came ", at, buf),
         Word::Opened => write_bytes(b"opened ", at, buf),
+        Word::Put => write_bytes(b"put ", at, buf),
         Word::Asleep => write_bytes(b"asleep ", at, buf),
         Word::Done => write_bytes(b"done ", at, buf),
     }

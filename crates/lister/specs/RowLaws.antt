@@ -13,7 +13,7 @@ use borrow.Author.Tests.{le-leb, lt-leb, lt-ltb, le-ltb, leb-true, leb-false, lt
 use Rattle.sets.specs.declared.Set.{Set}
 use Rattle.table.specs.Base.{foldUp, tab}
 use Rattle.table.specs.BaseLaws.{Told, yea, nay, told, eq?, clash, cond-cong, and-left, and-right}
-use Rattle.table.specs.Cell.{noAgent, noAction, hasUnused, enterKind, exitKind}
+use Rattle.table.specs.Cell.{noAgent, noAction, hasUnused, enterKind, exitKind, openKind}
 use Rattle.table.specs.declared.Action.{Action}
 use Rattle.table.specs.declared.Agent.{Agent}
 use Rattle.meaning.specs.Text.{ascii, decimal, gap, joined}
@@ -206,12 +206,13 @@ unfolding actionText
 action-some x = omega (arith, length-append (kindText (x .kind)) (decimal (x .name)), kind-some (x .kind))
   where
     kind-some : (k : ℕ) → 0 < length (kindText k)
-    kind-some k = unfold kindText tab in go (eqb k enterKind) (eqb k exitKind)
+    kind-some k = unfold kindText tab in go (eqb k enterKind) (eqb k exitKind) (eqb k openKind)
       where
-        go : (a b : Bool) → 0 < length (cond a (ascii "enter ") (cond b (ascii "exit ") (ascii "open ")))
-        go true b = omega arith
-        go false true = omega arith
-        go false false = omega arith
+        go : (a b d : Bool) → 0 < length (cond a (ascii "enter ") (cond b (ascii "exit ") (cond d (ascii "open ") (ascii "release "))))
+        go true b d = omega arith
+        go false true d = omega arith
+        go false false true = omega arith
+        go false false false = omega arith
 
 -- and so has an agent with an unused one
 pub agent-some : (a : Agent) → hasUnused a ≡ true → 0 < length (agentText a)

@@ -10,7 +10,7 @@ ghost use Rattle.lister.specs.Sheet.{dot, rowFrom, rowText};
 use crate::numbers;
 use crate::sheet;
 
-// `enter `, `exit ` or `open `.
+// `enter `, `exit `, `open ` or `release `.
 fn write_kind(kind: u8, at: usize, buf: &mut [u8]) -> usize
     requires { ⌜ Fits (kindText kind) at (now buf) ⌝ }
     ensures { λ r. ⌜ Wrote (kindText kind) at (now (buf .entry)) (now (buf .exit)) r ⌝ }
@@ -32,12 +32,23 @@ fn write_kind(kind: u8, at: usize, buf: &mut [u8]) -> usize
         buf[4] = b' ';
         return at + 5;
     }
-    buf[0] = b'o';
-    buf[1] = b'p';
-    buf[2] = b'e';
-    buf[3] = b'n';
-    buf[4] = b' ';
-    at + 5
+    if kind == 3 {
+        buf[0] = b'o';
+        buf[1] = b'p';
+        buf[2] = b'e';
+        buf[3] = b'n';
+        buf[4] = b' ';
+        return at + 5;
+    }
+    buf[0] = b'r';
+    buf[1] = b'e';
+    buf[2] = b'l';
+    buf[3] = b'e';
+    buf[4] = b'a';
+    buf[5] = b's';
+    buf[6] = b'e';
+    buf[7] = b' ';
+    at + 8
 }
 
 // An action: its kind and its number.

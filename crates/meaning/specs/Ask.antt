@@ -2,7 +2,7 @@
 use Prim.Native.Nat.{ℕ}
 use mathlib.Core.Bool.{Bool, true, _&&_, cond}
 use lib.Dec.{eqb, ltb}
-use Rattle.table.specs.Cell.{Land, State, cellOf, kindOf, exitKind, holding, holdingBoth}
+use Rattle.table.specs.Cell.{Land, State, cellOf, kindOf, chooses, holding, holdingBoth}
 use Rattle.table.specs.Sound.{sound}
 use Rattle.table.specs.declared.Agent.{Agent}
 use Rattle.table.specs.declared.Cell.{Cell}
@@ -26,9 +26,10 @@ choiceTold q = cond (ltb q 64) q noneTold
 -- back where its place is no longer linked to p; at stage 3, where the action no longer fires
 unfoldable pub toldAt : ℕ → Land → Agent → ℕ → ℕ
 toldAt stage l a wish =
-    cond (eqb (kindOf a) exitKind) noneTold
+    cond (chooses (kindOf a))
     (cond (eqb stage holding) (cond (stays l a) (choiceTold (choice l a wish)) noneTold)
     (cond (eqb stage holdingBoth) (cond (fires l a) (a .chosen) noneTold) noneTold))
+    noneTold
 
 -- the place that an ask of agent x with this wish tells
 abbrev pub toldPlace : State → ℕ → ℕ → ℕ

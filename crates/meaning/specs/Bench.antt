@@ -6,23 +6,23 @@ use mathlib.Core.List.{List, [], _∷_, _++_}
 use Prim.Native.Nat.{ℕ}
 use Prim.Native.String.{String}
 use lib.Dec.{eqb}
-use Rattle.sets.specs.Word.{has, wordOf, countOf}
+use Rattle.sets.specs.Word.{has, wordOf, countOf, lowestOf}
 use Rattle.order.specs.Row.{keep, later, firstIn, occurs, counting, countingRow, hasAll, allSmall, rowFits}
 use Rattle.table.specs.Base.{upd, tab, foldUp, allBelow, anyBelow, countBelow, sumBelow, iter}
-use Rattle.table.specs.Cell.{cellOf, tableOf, bareTable, linked, linkedTo, travels, nextAction, rowEnd, unused}
+use Rattle.table.specs.Cell.{cellOf, tableOf, bareTable, linked, linkedTo, travels, freshNumber, nextAction, rowEnd, unused}
 use Rattle.table.specs.Idle.{idle}
 use Rattle.table.specs.Sound.{actionsFit, ready, holdsBoth, stageFits, firstHeld, secondHeld, lockIs, claims, agentFits, goingFrom, goes, placeFits}
 use Rattle.table.specs.Sound.{coreSound, touchSum, booksSound, sound}
 use Rattle.meaning.specs.File.{placeRecord, agentRecord, actionRecord, touchRecord, recordAt, addPlace, addAgent, withAction, addAction, giveTouches}
 use Rattle.meaning.specs.File.{loadRecord, loadFrom, load, loaded, loadOf}
 use Rattle.meaning.specs.Step.{onWayTo, awaited, entersAt, exitsFrom, opensAt, qualifies, chosenOf, choose, fires, stays, still, turn, take, release}
-use Rattle.meaning.specs.Step.{asleepOn, wake, look, lockFirst, lockSecond, hold, leave, dissolveAgent, wokenBy, dissolveLock, dissolve, act}
+use Rattle.meaning.specs.Step.{asleepOn, wake, look, lockFirst, put, putOrSleep, lockSecond, hold, leave, dissolveAgent, wokenBy, dissolveLock, dissolve, act}
 use Rattle.meaning.specs.Step.{arrive, travel, stepAt, step}
 use Rattle.meaning.specs.Touch.{counted, untouched, touchOf, touchesOf}
 use Rattle.meaning.specs.Run.{made, turnedAway, stepOf, callOf, run, answers, settled, rests}
 use Rattle.meaning.specs.Ask.{toldAt, askOf, commitOf, handedOf}
 use Rattle.meaning.specs.Where.{outwards, nearest, holds, common, nearestOf, commonOf}
-use Rattle.meaning.specs.Calculus.{standsAt, mayEnter, mayExit, mayOpen, permits, putInto, openUp, move}
+use Rattle.meaning.specs.Calculus.{standsAt, mayEnter, mayExit, mayOpen, hasRoom, mayRelease, permits, putInto, openUp, putOut, move}
 use Rattle.meaning.specs.Plain.{treeOf, plainOf, landIn, pickOf, plainWord, plainStep, plainRun}
 use Rattle.meaning.specs.Text.{ascii, digits, gap, joinedAll, overlay}
 use Rattle.meaning.specs.Sorted.{leq, insert, sorted}
@@ -46,9 +46,10 @@ use Rattle.meaning.specs.BenchWhere.{hall, shaft, whereRows}
 use Rattle.meaning.specs.BenchOrder.{firstRows, orderRows}
 use Rattle.meaning.specs.BenchKeys.{keyRows, keyNumbers}
 use Rattle.meaning.specs.BenchPlain.{plainRows}
+use Rattle.meaning.specs.BenchRelease.{releaseRows, carrier, releaseNumbers}
 
 pub rows : List Row
-rows = keyRows ++ (firstRows ++ (fileRows ++ (listingRows ++ (paperRows ++ (slipRows ++ stepRows)))))
+rows = keyRows ++ (firstRows ++ (releaseRows ++ (fileRows ++ (listingRows ++ (paperRows ++ (slipRows ++ stepRows))))))
 
 -- two texts are the same
 same : List ℕ → List ℕ → Bool
@@ -70,11 +71,11 @@ allSame (r ∷ rest) = same (report (r .cell) (r .order)) (textOf (r .lines)) &&
 
 -- computed by the checker from the definitions alone
 pub bench : allSame rows ≡ true
-unfolding allSame rows paperRows slipRows fileRows stepRows firstRows keyRows listingRows textOf file manyOpens calls same has wordOf countOf keep later firstIn occurs counting countingRow hasAll allSmall rowFits
+unfolding allSame rows paperRows slipRows fileRows stepRows firstRows releaseRows keyRows listingRows textOf file manyOpens calls same has wordOf countOf lowestOf freshNumber keep later firstIn occurs counting countingRow hasAll allSmall rowFits
     chosenOf upd tab foldUp allBelow anyBelow countBelow iter cellOf tableOf bareTable linked linkedTo travels nextAction actionsFit ready
     holdsBoth stageFits firstHeld secondHeld lockIs claims agentFits goingFrom goes placeFits coreSound sumBelow touchSum booksSound sound placeRecord agentRecord actionRecord touchRecord
     recordAt addPlace addAgent withAction addAction giveTouches loadRecord loadFrom load onWayTo awaited entersAt exitsFrom opensAt qualifies choose
-    fires stays still turn take release asleepOn wake look lockFirst lockSecond hold leave dissolveAgent wokenBy dissolveLock dissolve act
+    fires stays still turn take release asleepOn wake look lockFirst put putOrSleep lockSecond hold leave dissolveAgent wokenBy dissolveLock dissolve act
     arrive travel stepAt step made turnedAway stepOf digits gap kindText actionText agentText listsIn textsOf agentTexts standsUnder isPlain slashed nameText bracketed placeTexts leq insert sorted joinedAll inOrder
     contentsText listing wordText stepLine refusedLine listingLine callsIn reportRun reportOf report
 bench = refl
@@ -86,14 +87,14 @@ allMeant [] = true
 allMeant (r ∷ rest) = same (r .value) (r .meant) && allMeant rest
 
 -- what walk cannot show: the plain tree and the calculus, keys and the row of places in a table, the calls and answers of a host, touches, ask
--- and commit, where a place is, the table after each kind of step, and soundness clause by clause
-pub numbers : allMeant (plainRows ++ (keyNumbers ++ (orderRows ++ (callRows ++ (touchRows ++ (askRows ++ (whereRows ++ (afterRows ++ soundRows)))))))) ≡ true
-unfolding allMeant soundRows callRows afterRows askRows yard toldAt askOf commitOf handedOf whereRows hall shaft outwards nearest holds common nearestOf commonOf touchRows orderRows keyNumbers plainRows treeOf plainOf landIn pickOf plainWord plainStep plainRun
-    standsAt mayEnter mayExit mayOpen permits putInto openUp move answers rowEnd unused crib counted untouched touchOf touchesOf callOf run sample topmost checkOf idleOf idle loadOf loaded listAnswer listBuffer overlay settled rests file manyOpens
-    calls same has wordOf countOf keep later firstIn occurs counting countingRow hasAll allSmall rowFits chosenOf upd tab foldUp allBelow anyBelow countBelow iter cellOf tableOf bareTable linked
+-- and commit, where a place is, release, the table after each kind of step, and soundness clause by clause
+pub numbers : allMeant (plainRows ++ (keyNumbers ++ (orderRows ++ (callRows ++ (touchRows ++ (askRows ++ (whereRows ++ (releaseNumbers ++ (afterRows ++ soundRows))))))))) ≡ true
+unfolding allMeant soundRows callRows afterRows releaseNumbers carrier askRows yard toldAt askOf commitOf handedOf whereRows hall shaft outwards nearest holds common nearestOf commonOf touchRows orderRows keyNumbers plainRows treeOf plainOf landIn pickOf plainWord plainStep plainRun
+    standsAt mayEnter mayExit mayOpen hasRoom mayRelease permits putInto openUp putOut move answers rowEnd unused crib counted untouched touchOf touchesOf callOf run sample topmost checkOf idleOf idle loadOf loaded listAnswer listBuffer overlay settled rests file manyOpens
+    calls same has wordOf countOf lowestOf freshNumber keep later firstIn occurs counting countingRow hasAll allSmall rowFits chosenOf upd tab foldUp allBelow anyBelow countBelow iter cellOf tableOf bareTable linked
     linkedTo travels nextAction actionsFit ready holdsBoth stageFits firstHeld secondHeld lockIs claims agentFits goingFrom goes placeFits
     coreSound sumBelow touchSum booksSound sound placeRecord agentRecord actionRecord touchRecord recordAt addPlace addAgent withAction addAction giveTouches loadRecord loadFrom load onWayTo awaited
-    entersAt exitsFrom opensAt qualifies choose fires stays still turn take release asleepOn wake look lockFirst lockSecond hold leave
+    entersAt exitsFrom opensAt qualifies choose fires stays still turn take release asleepOn wake look lockFirst put putOrSleep lockSecond hold leave
     dissolveAgent wokenBy dissolveLock dissolve act arrive travel stepAt step made turnedAway stepOf digits gap kindText actionText
     agentText listsIn textsOf agentTexts standsUnder isPlain slashed nameText bracketed placeTexts leq insert sorted joinedAll inOrder contentsText listing wordText stepLine refusedLine listingLine callsIn reportRun
     reportOf report

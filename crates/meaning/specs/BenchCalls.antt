@@ -1,7 +1,7 @@
 -- Rows on the calls as a host makes them: answers as numbers, calls on unsound tables, the listing's buffer, idle, settled and at rest.
 use mathlib.Core.List.{List, [], _∷_}
 use Rattle.table.specs.Cell.{bareTable, cellOf, tableOf}
-use Rattle.meaning.specs.declared.Word.the-variants.{Looked, Took, Held, Back, Slept, Left, Came, Opened, Asleep, Done}
+use Rattle.meaning.specs.declared.Word.the-variants.{Looked, Took, Held, Back, Slept, Left, Came, Opened, Put, Asleep, Done}
 use Rattle.meaning.specs.declared.Answer.the-variants.{Did, Refused}
 use Rattle.meaning.specs.declared.Verdict.the-variants.{Accepted, Rejected}
 use Rattle.meaning.specs.declared.Listed.the-variants.{Length, Unlisted}
@@ -27,6 +27,7 @@ callRows =
     ∷ number 5 (wordNumber Left)
     ∷ number 6 (wordNumber Came)
     ∷ number 7 (wordNumber Opened)
+    ∷ number 8 (wordNumber Put)
     ∷ number 9 (wordNumber Asleep)
     ∷ number 10 (wordNumber Done)
     -- a step's answer: the word in bits 8 to 15, the number woken in bits 16 to 23; or the refusal's number

@@ -48,9 +48,9 @@ fileRows =
     -- an action: its agent's number too large, not given either: 14 before 5
     ∷ row (hex "03 40 01 09 00 04") [] ("refused 14 0" ∷ [])
     -- its agent not given, its kind unknown: 5 before 7
-    ∷ row (hex "03 00 04 09 00 04") [] ("refused 5 0" ∷ [])
-    -- "7 action kind not 1 to 3", with name 0: 7 before 6
-    ∷ row (hex "02 00 00 03 00 04 00 00 04") [] ("refused 7 3" ∷ [])
+    ∷ row (hex "03 00 05 09 00 04") [] ("refused 5 0" ∷ [])
+    -- "7 action kind not 1 to 3", and since W11 not 4, with name 0: 7 before 6
+    ∷ row (hex "02 00 00 03 00 05 00 00 04") [] ("refused 7 3" ∷ [])
     -- kind 0
     ∷ row (hex "02 00 00 03 00 00 09 00 04") [] ("refused 7 3" ∷ [])
     -- "6 name 0 in a place or action"

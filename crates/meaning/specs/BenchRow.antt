@@ -46,6 +46,9 @@ exits number name = 3 ∷ number ∷ 2 ∷ name % 256 ∷ name / 256 ∷ []
 abbrev pub opens : ℕ → ℕ → List ℕ
 opens number name = 3 ∷ number ∷ 3 ∷ name % 256 ∷ name / 256 ∷ []
 
+abbrev pub releases : ℕ → ℕ → List ℕ
+releases number name = 3 ∷ number ∷ 4 ∷ name % 256 ∷ name / 256 ∷ []
+
 -- "place number 0 to 63, then four bytes, low byte first"
 abbrev pub touches : ℕ → ℕ → List ℕ
 touches number n = 5 ∷ number ∷ n % 256 ∷ n / 256 % 256 ∷ n / 65536 % 256 ∷ n / 16777216 ∷ []

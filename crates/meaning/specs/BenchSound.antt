@@ -34,7 +34,7 @@ soundRows =
     ∷ number 0 (checked (staged 1 7 3 0 sample))
     -- "names, actions and stages are in range"
     ∷ number 10 (checked (placed 3 0 0 0 sample))
-    ∷ number 10 (checked (acting 0 0 4 9 sample))
+    ∷ number 10 (checked (acting 0 0 5 9 sample))
     ∷ number 10 (checked (acting 2 1 0 9 sample))
     ∷ number 10 (checked (acting 2 1 2 0 sample))
     ∷ number 10 (checked (counted 0 16 17 sample))

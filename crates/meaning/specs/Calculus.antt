@@ -1,13 +1,14 @@
 -- The ambient calculus on a tree of places (document 01, "The plain tree"): what it permits and what a move makes.
--- Red Enter and Red Exit of source 002 section 2.3 and Red Open of source 004, by themselves: no lock, stage or wish plays a part.
+-- Red Enter and Red Exit of source 002 section 2.3 and Red Open of source 004, by themselves: no lock, stage or wish plays a part. Beside them
+-- release: "Release counts as a move of the calculus, permitted while a number is unused" (document 02, W11).
 -- A name holds its keys as in source 002 section 4.4, and "named n" is read with the key of the action's kind (document 02, W6).
 use Prim.Native.Nat.{ℕ}
 use mathlib.Core.Path.{_≡_}
 use mathlib.Core.Bool.{Bool, true, false, not, _&&_, cond}
 use mathlib.Core.List.{List, [], _∷_}
-use lib.Dec.{eqb}
+use lib.Dec.{ltb, eqb}
 use Rattle.table.specs.Base.{upd}
-use Rattle.table.specs.Cell.{noName, noAction, enterKind, exitKind, openKind, keyOf}
+use Rattle.table.specs.Cell.{noName, plainName, noAction, enterKind, exitKind, openKind, releaseKind, keyOf, freshNumber}
 use Rattle.table.specs.declared.Name.{Name}
 use Rattle.table.specs.declared.Action.{Action}
 
@@ -74,13 +75,23 @@ unfoldable pub mayOpen : Tree → ℕ → ℕ → Bool
 unfolding standsAt
 mayOpen t a m = standsAt t m (t .home a) && eqb (keyOf openKind (t .name m)) (nextOf t a .name)
 
--- the calculus permits agent a its next action on place m: the one entered, left or opened
+-- "a number is unused"
+unfoldable pub hasRoom : Tree → Bool
+hasRoom t = ltb (freshNumber (t .used)) 64
+
+-- release n "permitted while a number is unused": release n.P; m is the number that the new place gets, "the smallest number unused"
+unfoldable pub mayRelease : Tree → ℕ → Bool
+unfolding hasRoom
+mayRelease t m = hasRoom t && eqb m (freshNumber (t .used))
+
+-- the calculus permits agent a its next action on place m: the one entered, left, opened or put out
 unfoldable pub permits : Tree → ℕ → ℕ → Bool
-unfolding mayEnter mayExit mayOpen
+unfolding mayEnter mayExit mayOpen mayRelease
 permits t a m =
     cond (eqb (nextOf t a .kind) enterKind) (mayEnter t a m)
     (cond (eqb (nextOf t a .kind) exitKind) (mayExit t a m)
-    (cond (eqb (nextOf t a .kind) openKind) (mayOpen t a m) false))
+    (cond (eqb (nextOf t a .kind) openKind) (mayOpen t a m)
+    (cond (eqb (nextOf t a .kind) releaseKind) (mayRelease t m) false)))
 
 -- ---- what a move makes
 
@@ -101,13 +112,21 @@ openUp t a m = usedUp
     (λ x. cond (eqb (t .home x) m) (t .home a) (t .home x)))
     a
 
--- the tree after agent a's next action on m: enter m, exit to where the place around its own stands, or open m
+-- "`release n.P` becomes `n[] | P`": a new place m named n, with "all keys n", stands in the agent's own place, the action is used up
+unfoldable pub putOut : Tree → ℕ → ℕ → Tree
+putOut t a m = usedUp
+    (withTreeParents (withTreeNames (withTreeUsed t (upd (t .used) m true)) (upd (t .name) m (plainName (nextOf t a .name))))
+    (upd (t .parent) m (t .home a)))
+    a
+
+-- the tree after agent a's next action on m: enter m, exit to where the place around its own stands, open m, or put out m
 unfoldable pub move : Tree → ℕ → ℕ → Tree
-unfolding putInto openUp
+unfolding putInto openUp putOut
 move t a m =
     cond (eqb (nextOf t a .kind) enterKind) (putInto t a m)
     (cond (eqb (nextOf t a .kind) exitKind) (putInto t a (t .parent (t .parent (t .home a))))
-    (openUp t a m))
+    (cond (eqb (nextOf t a .kind) openKind) (openUp t a m)
+    (putOut t a m)))
 
 -- one move of agent a that the calculus permits, from t to u
 pub record Move (t : Tree) (a : ℕ) (u : Tree) : Type 0 where

@@ -6,7 +6,7 @@ use Rattle.table.specs.Sound.{sound}
 use Rattle.table.specs.Idle.{idle}
 use Rattle.table.specs.declared.Cell.{Cell}
 use Rattle.meaning.specs.declared.Word.{Word}
-use Rattle.meaning.specs.declared.Word.the-variants.{Looked, Took, Held, Back, Slept, Left, Came, Opened, Asleep, Done}
+use Rattle.meaning.specs.declared.Word.the-variants.{Looked, Took, Held, Back, Slept, Left, Came, Opened, Put, Asleep, Done}
 use Rattle.meaning.specs.declared.Answer.{Answer}
 use Rattle.meaning.specs.declared.Answer.the-variants.{Did, Refused}
 use Rattle.meaning.specs.declared.Asked.{Asked}
@@ -37,7 +37,7 @@ idleOf t = cond (sound (cellOf t)) (cond (idle (cellOf t)) Idle Busy) (Unknown u
 
 -- ---- answers as numbers
 
--- "0 looked, 1 took, 2 held, 3 back, 4 slept, 5 left, 6 came, 7 opened, 9 asleep, 10 done"
+-- "0 looked, 1 took, 2 held, 3 back, 4 slept, 5 left, 6 came, 7 opened, 8 put, 9 asleep, 10 done"
 abbrev pub wordNumber : Word → ℕ
 wordNumber Looked = 0
 wordNumber Took = 1
@@ -47,6 +47,7 @@ wordNumber Slept = 4
 wordNumber Left = 5
 wordNumber Came = 6
 wordNumber Opened = 7
+wordNumber Put = 8
 wordNumber Asleep = 9
 wordNumber Done = 10
 

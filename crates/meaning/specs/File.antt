@@ -51,7 +51,7 @@ agentRecord taken known number home =
     (cond taken (Faulty givenTwice)
     (cond known (AgentRecord number home) (Faulty notYetGiven))))
 
--- an action of a given agent: 7 kind not 1 to 3, 6 name 0, 8 seventeenth action
+-- an action of a given agent: 7 kind not 1 to 4, 6 name 0, 8 seventeenth action
 abbrev pub givenAction : Bool → ℕ → ℕ → ℕ → Record
 givenAction full agent kind name =
     cond (ltb kind 1) (Faulty wrongKind)

@@ -30,6 +30,7 @@ pub mod BenchWhere
 pub mod BenchOrder
 pub mod BenchKeys
 pub mod BenchPlain
+pub mod BenchRelease
 pub mod Bench
 pub mod FileLaws
 pub mod OrderLaws

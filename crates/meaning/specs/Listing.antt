@@ -6,7 +6,7 @@ use mathlib.Core.List.{List, [], _∷_, _++_}
 use lib.Dec.{ltb, leb, eqb}
 use lib.ListN.{length, getD}
 use Rattle.table.specs.Base.{tab, foldUp}
-use Rattle.table.specs.Cell.{Land, State, noAction, hasUnused, enterKind, exitKind}
+use Rattle.table.specs.Cell.{Land, State, noAction, hasUnused, enterKind, exitKind, openKind}
 use Rattle.table.specs.Sound.{sound}
 use Rattle.table.specs.declared.Name.{Name}
 use Rattle.table.specs.declared.Action.{Action}
@@ -21,7 +21,11 @@ use Rattle.meaning.specs.Sorted.{sorted}
 
 unfoldable pub kindText : ℕ → List ℕ
 unfolding tab
-kindText kind = cond (eqb kind enterKind) (ascii "enter ") (cond (eqb kind exitKind) (ascii "exit ") (ascii "open "))
+kindText kind =
+    cond (eqb kind enterKind) (ascii "enter ")
+    (cond (eqb kind exitKind) (ascii "exit ")
+    (cond (eqb kind openKind) (ascii "open ")
+    (ascii "release ")))
 
 -- an action, such as `enter 9`
 unfoldable pub actionText : Action → List ℕ

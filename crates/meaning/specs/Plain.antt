@@ -7,10 +7,10 @@ use mathlib.Core.List.{List, [], _∷_}
 use lib.Dec.{eqb}
 use Rattle.order.specs.Row.{later, latest}
 use Rattle.table.specs.Base.{upd}
-use Rattle.table.specs.Cell.{Land, State, none, noName, unused, enterKind, openKind, looksHome}
+use Rattle.table.specs.Cell.{Land, State, none, noName, unused, looksHome, chooses, freshNumber}
 use Rattle.table.specs.declared.Action.{Action}
 use Rattle.meaning.specs.declared.Word.{Word}
-use Rattle.meaning.specs.declared.Word.the-variants.{Looked, Took, Held, Back, Slept, Left, Came, Opened, Asleep, Done}
+use Rattle.meaning.specs.declared.Word.the-variants.{Looked, Took, Held, Back, Slept, Left, Came, Opened, Put, Asleep, Done}
 use Rattle.meaning.specs.declared.Answer.the-variants.{Did, Refused}
 use Rattle.meaning.specs.Step.{choose}
 use Rattle.meaning.specs.Calculus.{Tree, nextOf, standsAt, move, Move}
@@ -76,12 +76,8 @@ landIn t = record {
 abbrev pub heldIn : Tree → ℕ → ℕ
 heldIn t a = cond (looksHome (nextOf t a .kind)) (t .home a) (t .parent (t .home a))
 
--- "Enter and open choose the wished place": the kinds of action that choose a place; an exit chooses none, and neither does an agent with no
+-- "the place that stage 2 would choose here with this wish, if any"; an exit and a release choose none, and neither does an agent with no
 -- action left, whose next action has kind 0
-abbrev pub chooses : ℕ → Bool
-chooses kind = eqb kind enterKind || eqb kind openKind
-
--- "the place that stage 2 would choose here with this wish, if any"
 unfoldable pub pickOf : Plain → ℕ → ℕ → ℕ
 unfolding landIn
 pickOf t a wish =
@@ -94,13 +90,15 @@ pickOf t a wish =
 -- "took: the agent's pick becomes the place that stage 2 would choose here. left: its own place now stands in the pick (enter), or where the
 -- place around it stands (exit), and travels; the action is used up. opened: places and agents in the pick go to its own place, the
 -- pick's number becomes unused; the action is used up. came: its own place travels no more." "A place that comes is the latest; children freed
--- by an opening become the latest and keep their order among themselves" (document 02, W5)
+-- by an opening become the latest and keep their order among themselves" (document 02, W5). "The plain tree .. takes one such move for each put,
+-- under the smallest number unused in it", and "a put place is the latest of W5" (W11)
 unfoldable pub plainWord : Plain → ℕ → ℕ → Word → Plain
-unfolding pickOf later standsAt
+unfolding pickOf later standsAt freshNumber
 plainWord t a wish Took = withPicks t (upd (t .pick) a (pickOf t a wish))
 plainWord t a wish Left = withTravels (withTree t (move (t .tree) a (t .pick a))) (upd (t .travels) (t .tree .home a) true)
 plainWord t a wish Opened = withRow (withTree t (move (t .tree) a (t .pick a))) (later (λ q. standsAt (t .tree) q (t .pick a)) (t .order))
 plainWord t a wish Came = withRow (withTravels t (upd (t .travels) (t .tree .home a) false)) (latest (t .tree .home a) (t .order))
+plainWord t a wish Put = withRow (withTree t (move (t .tree) a (freshNumber (t .tree .used)))) (latest (freshNumber (t .tree .used)) (t .order))
 plainWord t a wish Looked = t
 plainWord t a wish Held = t
 plainWord t a wish Back = t
@@ -124,10 +122,11 @@ plainRun t (k ∷ calls) (a ∷ answers) = plainRun (plainStep t k a) calls answ
 
 -- ---- the history of a tree
 
--- "one calculus move for each call answered left or opened"
+-- "one calculus move for each call answered left or opened", and "for each put" (document 02, W11)
 abbrev pub isMove : Word → Bool
 isMove Left = true
 isMove Opened = true
+isMove Put = true
 isMove Looked = false
 isMove Took = false
 isMove Held = false
@@ -143,7 +142,7 @@ saysMove (stepReply (Refused number)) = false
 saysMove (touchReply answer) = false
 
 -- "the loaded tree after one calculus move for each call answered left or opened, in the order of the calls, each a move that the calculus
--- permits in the tree before it", and no change of the tree for any other answer
+-- permits in the tree before it", put "in its order among the leavings and openings", and no change of the tree for any other answer
 pub data History : Tree → List Call → List Reply → Tree → Type 0 where
   start : {t : Tree} → History t [] [] t
   moved : {t u v : Tree} {k : Call} {calls : List Call} {a : Reply} {answers : List Reply}

@@ -5,7 +5,7 @@ use Rattle.table.specs.Base.{tab}
 use Rattle.table.specs.Cell.{State, cellOf, tableOf}
 use Rattle.table.specs.declared.Cell.{Cell}
 use Rattle.meaning.specs.declared.Word.{Word}
-use Rattle.meaning.specs.declared.Word.the-variants.{Looked, Took, Held, Back, Slept, Left, Came, Opened, Asleep, Done}
+use Rattle.meaning.specs.declared.Word.the-variants.{Looked, Took, Held, Back, Slept, Left, Came, Opened, Put, Asleep, Done}
 use Rattle.meaning.specs.declared.Answer.{Answer}
 use Rattle.meaning.specs.declared.Answer.the-variants.{Did, Refused}
 use Rattle.meaning.specs.Text.{ascii, decimal}
@@ -26,6 +26,7 @@ wordText Slept = ascii "slept"
 wordText Left = ascii "left"
 wordText Came = ascii "came"
 wordText Opened = ascii "opened"
+wordText Put = ascii "put"
 wordText Asleep = ascii "asleep"
 wordText Done = ascii "done"
 

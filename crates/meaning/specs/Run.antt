@@ -7,7 +7,7 @@ use Rattle.table.specs.Cell.{State, none, travels}
 use Rattle.table.specs.Base.{allBelow}
 use Rattle.table.specs.declared.Cell.{Cell}
 use Rattle.meaning.specs.declared.Word.{Word}
-use Rattle.meaning.specs.declared.Word.the-variants.{Looked, Took, Held, Back, Slept, Left, Came, Opened, Asleep, Done}
+use Rattle.meaning.specs.declared.Word.the-variants.{Looked, Took, Held, Back, Slept, Left, Came, Opened, Put, Asleep, Done}
 use Rattle.meaning.specs.declared.Answer.{Answer}
 use Rattle.meaning.specs.declared.Answer.the-variants.{Did, Refused}
 use Rattle.meaning.specs.declared.Stepped.{Stepped}
@@ -92,6 +92,7 @@ isRest Slept = false
 isRest Left = false
 isRest Came = false
 isRest Opened = false
+isRest Put = false
 isRest Asleep = true
 isRest Done = true
 

@@ -1,19 +1,19 @@
 -- One lock step (document 01, "One step"), over total functions: the agent's stage decides the step.
 use Prim.Native.Nat.{ℕ, _+_, _%_, _^_}
-use mathlib.Core.Bool.{Bool, not, _&&_, _||_, cond}
+use mathlib.Core.Bool.{Bool, true, not, _&&_, _||_, cond}
 use mathlib.Core.List.{List}
 use lib.Dec.{ltb, leb, eqb}
 use Rattle.sets.specs.Word.{countOf, upto}
 use Rattle.order.specs.Row.{later, latest, firstIn}
 use Rattle.table.specs.Base.{upd, anyBelow}
-use Rattle.table.specs.Cell.{Land, State, none, noPlace, linked, linkedTo, travels, hasAction, kindOf, nameOf, enterKind, exitKind, openKind}
-use Rattle.table.specs.Cell.{looksHome, keyOf, looking, found, holding, holdingBoth, onWay, onWayOwn, onWayBoth, asleep, done}
+use Rattle.table.specs.Cell.{Land, State, none, plainName, noPlace, linked, linkedTo, travels, freshNumber, hasAction, kindOf, nameOf}
+use Rattle.table.specs.Cell.{enterKind, exitKind, openKind, releaseKind, looksHome, keyOf, looking, found, holding, holdingBoth, onWay, onWayOwn, onWayBoth, asleep, done}
 use Rattle.table.specs.Sound.{secondPlace}
 use Rattle.table.specs.declared.Place.{Place}
 use Rattle.table.specs.declared.Agent.{Agent}
 use Rattle.meaning.specs.declared.Word.{Word}
-use Rattle.meaning.specs.declared.Word.the-variants.{Looked, Took, Held, Back, Slept, Left, Came, Opened, Asleep, Done}
-use Rattle.meaning.specs.Update.{withParent, withWay, withHome, atStage, useUp, withPlaces, withUsed, withOrder, withLand, withLocks, withAgents, withAgent, withTouches, released}
+use Rattle.meaning.specs.declared.Word.the-variants.{Looked, Took, Held, Back, Slept, Left, Came, Opened, Put, Asleep, Done}
+use Rattle.meaning.specs.Update.{linkedPlace, withParent, withWay, withHome, atStage, useUp, withPlaces, withUsed, withOrder, withLand, withLocks, withAgents, withAgent, withTouches, released}
 
 -- "The answer is a word and how many agents the step woke", with the cell after the step
 pub record Outcome : Type 0 where
@@ -77,7 +77,7 @@ targetOf a = cond (eqb (kindOf a) exitKind) (a .remembered) (a .chosen)
 unfoldable pub fires : Land → Agent → Bool
 fires l a = qualifies l (kindOf a) (nameOf a) (a .home) (a .remembered) (targetOf a)
 
--- its place is still linked to p; an opener does not ask
+-- its place is still linked to p; an opener and a release agent do not ask
 unfoldable pub stays : Land → Agent → Bool
 stays l a = looksHome (kindOf a) || linkedTo l (a .home) (a .remembered)
 
@@ -123,7 +123,7 @@ wokenOn c p q r = countOf 64 (sleeper c p q r)
 -- ---- stage 0, looking
 
 -- "Open: remember its own place; looked, stage 1. Enter or exit: remember the parent; looked, stage 1. With no linked parent:
--- slept, stage 7 on its own place."
+-- slept, stage 7 on its own place." Release: "the agent looks at its own place" (document 02, W11)
 unfoldable pub look : State → ℕ → Agent → Outcome
 look c x a =
     cond (looksHome (kindOf a)) (turn c x (atStage a found (a .home) 0) Looked)
@@ -135,6 +135,31 @@ look c x a =
 -- "Lock the remembered place p: took, stage 2, or held."
 unfoldable pub lockFirst : State → ℕ → Agent → Outcome
 lockFirst c x a = take c x (a .remembered) (atStage a holding (a .remembered) 0)
+
+-- ---- stage 2, release (document 02, W11)
+
+-- "After opened or came the agent is at stage 0, or 8 if no action is left"; after put "the stage then as after opened"
+abbrev pub restStage : Agent → ℕ
+restStage a = cond (hasAction a) looking done
+
+-- "a new place named n .., with no agents, .. all keys n", number q, linked to p; "a put place is the latest of W5"
+abbrev pub putLand : Land → ℕ → ℕ → ℕ → Land
+putLand l q n p = withOrder (withUsed (withPlaces l (upd (l .place) q (linkedPlace (plainName n) p))) (upd (l .used) q true)) (latest q (l .order))
+
+-- "puts a new place named n there, under the smallest unused number, with no agents, touches 0 and all keys n; it wakes those asleep on its own
+-- place, releases the lock and answers put, the action used up": q is that number; the new place's lock is free
+unfoldable pub put : State → ℕ → Agent → ℕ → Outcome
+put c x a q = record {
+  cell = withTouches (withLand (withLocks (withAgents c
+      (upd (wake c (a .remembered) (a .remembered) (a .remembered)) x (atStage (useUp a) (restStage (useUp a)) 0 0)))
+      (released (c .lock) (a .remembered) q)) (putLand (c .land) q (nameOf a) (a .remembered))) (upd (c .touches) q 0);
+  word = Put;
+  woken = wokenOn c (a .remembered) (a .remembered) (a .remembered);
+}
+
+-- "With all numbers in use it releases the lock and sleeps (slept, on no place)": q is the smallest unused number, or 64
+unfoldable pub putOrSleep : State → ℕ → Agent → ℕ → Outcome
+putOrSleep c x a q = cond (ltb q 64) (put c x a q) (release c x (a .remembered) (a .remembered) (atStage a asleep none 0) Slept)
 
 -- ---- stage 2, holding p
 
@@ -149,14 +174,10 @@ lockSecond c x a q =
 unfoldable pub hold : State → ℕ → Agent → ℕ → Outcome
 hold c x a wish =
     cond (stays (c .land) a)
-    (lockSecond c x a (choice (c .land) a wish))
+    (cond (eqb (kindOf a) releaseKind) (putOrSleep c x a (freshNumber (c .land .used))) (lockSecond c x a (choice (c .land) a wish)))
     (release c x (a .remembered) (a .remembered) (atStage a looking 0 0) Back)
 
 -- ---- stage 3, holding both
-
--- "After opened or came the agent is at stage 0, or 8 if no action is left"
-abbrev pub restStage : Agent → ℕ
-restStage a = cond (hasAction a) looking done
 
 -- place h is on its way to d
 abbrev pub sendTo : Land → ℕ → ℕ → Land
@@ -189,16 +210,16 @@ dissolveLand l p t = withOrder (withUsed
     (later (childOf l t) (l .order))
 
 -- "agents of the chosen place go to p, the moved agents that aren't done go to stage 0"; "wake all asleep on p or on it, and set to
--- stage 0 all that remembered it at stage 1"
+-- stage 0 all that remembered it at stage 1". A release agent that sleeps on no place sleeps "until any opening, which wakes all such sleepers"
 unfoldable pub dissolveAgent : ℕ → ℕ → Agent → Agent
 dissolveAgent p t a =
     cond (eqb (a .home) t) (withHome (atStage a (cond (eqb (a .stage) done) done looking) 0 0) p)
     (cond (eqb (a .stage) found && eqb (a .remembered) t) (atStage a looking 0 0)
-    (cond (asleepOn p t t a) (atStage a looking 0 0) a))
+    (cond (asleepOn p t none a) (atStage a looking 0 0) a))
 
 -- "The count of woken agents is of those that were at stage 7": a moved agent that slept is woken too
 unfoldable pub wokenBy : ℕ → ℕ → Agent → Bool
-wokenBy p t a = eqb (a .stage) asleep && (eqb (a .home) t || (eqb (a .remembered) p || eqb (a .remembered) t))
+wokenBy p t a = eqb (a .stage) asleep && (eqb (a .home) t || (eqb (a .remembered) p || (eqb (a .remembered) t || eqb (a .remembered) none)))
 
 -- "a lock that one of them held at stage 2": agent y is given, lives in t and is at stage 2
 abbrev pub letsGo : State → ℕ → ℕ → Bool

@@ -38,6 +38,7 @@ pub enum Word {
     Left,
     Came,
     Opened,
+    Put,
     Asleep,
     Done,
 }

@@ -1,6 +1,7 @@
-// A place moves: it goes on its way, it is linked, or it is dissolved.
+// A place moves: it goes on its way, it is linked, it is dissolved, or a new one is put.
 mod open;
 mod places;
+mod putting;
 mod waking;
 
 use meaning::Stepped;
@@ -19,6 +20,8 @@ pub enum Motion {
     Arrive(u8),
     // The chosen place is dissolved into the remembered one.
     Dissolve,
+    // A new place under this number is put into the remembered one.
+    Put(u8),
 }
 
 // A place moves.
@@ -29,6 +32,7 @@ pub fn shift(c: Cell, x: u8, a: Agent, motion: Motion) -> Stepped
         Motion::Leave(to) => places::leave(c, x, a, to),
         Motion::Arrive(to) => places::arrive(c, x, a, to),
         Motion::Dissolve => open::dissolve(c, x, a, a.remembered, a.chosen),
+        Motion::Put(number) => putting::put(c, x, a, number),
     }
 }
 
@@ -47,5 +51,6 @@ pub fn woken(c: Cell, a: Agent, motion: Motion) -> u8
             waking::sleeping(crew, given, a.home, to, r)
         }
         Motion::Dissolve => waking::freed(crew, given, a.remembered, a.chosen),
+        Motion::Put(_) => waking::sleeping(crew, given, a.remembered, a.remembered, a.remembered),
     }
 }

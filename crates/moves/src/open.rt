@@ -115,7 +115,7 @@ fn touches_of(ts: [u64; 64], q: u8) -> u64
 }
 
 // The touches once those of q are n.
-fn with_touches(ts: [u64; 64], q: u8, n: u64) -> [u64; 64]
+pub(super) fn with_touches(ts: [u64; 64], q: u8, n: u64) -> [u64; 64]
     ensures { λ r. ⌜ r ≡ tab (upd (λ j. getD ts j 0) q n) 64 0 ⌝ }
 {
     let mut us = ts;
@@ -167,13 +167,13 @@ fn dissolve_agent(a: Agent, p: u8, t: u8) -> Agent
     if found(a, t) {
         return at_stage(a, 0, 0, 0);
     }
-    if asleep_on(a, p, t, t) {
+    if asleep_on(a, p, t, 64) {
         return at_stage(a, 0, 0, 0);
     }
     a
 }
 
-// Whether an agent that is given is woken when t is dissolved into p.
+// Whether an agent that is given is woken when t is dissolved into p: one that sleeps on no place (64) is, too.
 pub(super) fn woken_by(a: Agent, p: u8, t: u8) -> bool
     ensures { λ r. ⌜ r ≡ wokenBy p t a ⌝ }
 {
@@ -184,7 +184,10 @@ pub(super) fn woken_by(a: Agent, p: u8, t: u8) -> bool
         if a.remembered == p {
             return true;
         }
-        return a.remembered == t;
+        if a.remembered == t {
+            return true;
+        }
+        return a.remembered == 64;
     }
     false
 }

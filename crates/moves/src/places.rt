@@ -30,7 +30,7 @@ pub(super) fn use_up(a: Agent) -> Agent
     b
 }
 
-// The stage after opened or came: 0, or 8 if no action is left.
+// The stage after opened, put or came: 0, or 8 if no action is left.
 pub(super) fn rest_stage(next: u8, count: u8) -> u8
     ensures { λ r. ⌜ r ≡ cond (ltb next count) 0 8 ⌝ }
 {
@@ -73,7 +73,17 @@ pub(super) fn asleep_on(a: Agent, p: u8, q: u8, r: u8) -> bool
 }
 
 // Place h becomes y, the locks of p and q are released, all asleep on p, q or r are woken, agent x, if there is such a number, becomes b.
-fn move_place(c: Cell, x: u8, h: u8, y: Place, p: u8, q: u8, r: u8, b: Agent, w: Word) -> Stepped
+pub(super) fn move_place(
+    c: Cell,
+    x: u8,
+    h: u8,
+    y: Place,
+    p: u8,
+    q: u8,
+    r: u8,
+    b: Agent,
+    w: Word,
+) -> Stepped
     ensures { λ z. ⌜ z ≡ made (movePlace (cellOf c) x h y p q r b w) ⌝ }
 {
     let mut d = c;

@@ -31,6 +31,7 @@ pub fn word_number(word: Word) -> u8
         Word::Left => 5,
         Word::Came => 6,
         Word::Opened => 7,
+        Word::Put => 8,
         Word::Asleep => 9,
         Word::Done => 10,
     }

@@ -79,7 +79,8 @@ all-word : allBits ≡ wordOf 64 (λ _. true)
 unfolding wordOf
 all-word = refl
 
-all-has : (q : ℕ) → q < 64 → has allBits q ≡ true
+-- it has every number below 64
+pub all-has : (q : ℕ) → q < 64 → has allBits q ≡ true
 all-has q l = ap (λ (w : ℕ). has w q) all-word ∙ has-word 64 (λ _. true) q l
 
 module _ {order : List ℕ} {seen bits j : ℕ} (size : length order ≡ 64) (a : Gathered order seen bits j) (l : 64 ≤ j) where

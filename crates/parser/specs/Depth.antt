@@ -31,6 +31,7 @@ way-deep (Ways.zero-floor e) = omega arith
 way-deep (Ways.name-digit h e) = omega arith
 way-deep (Ways.letter-e w e) = omega arith
 way-deep (Ways.letter-o w e) = omega arith
+way-deep (Ways.letter-r w e) = omega arith
 way-deep (Ways.empty-place e) = omega arith
 way-deep (Ways.end-bar h e) = omega arith
 way-deep (Ways.end-out h e) = omega arith

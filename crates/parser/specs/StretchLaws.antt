@@ -60,7 +60,7 @@ module _ {s : Text} {i : ℕ} {c : Control} where
           let o : j + 1 + x ≡ j + suc x = omega arith in
           (omega (arith, h .0), ap (λ z. getD s z 0) o ∙ h .1)
 
--- the words of the three kinds
+-- the words of the four kinds
 pub enter-spells : Spells Dot (101 ∷ 110 ∷ 116 ∷ 101 ∷ 114 ∷ 32 ∷ []) (Before (ActionNumber 1))
 unfolding next beginWord spelled kindText tab
 enter-spells = Stretches.byte (λ d. refl) (Stretches.byte (λ d. refl) (Stretches.byte (λ d. refl) (Stretches.byte (λ d. refl) (Stretches.byte (λ d. refl)
@@ -73,6 +73,11 @@ exit-spells = Stretches.byte (λ d. refl) (Stretches.byte (λ d. refl) (Stretche
 pub open-spells : Spells Dot (111 ∷ 112 ∷ 101 ∷ 110 ∷ 32 ∷ []) (Before (ActionNumber 3))
 unfolding next beginWord spelled kindText tab
 open-spells = Stretches.byte (λ d. refl) (Stretches.byte (λ d. refl) (Stretches.byte (λ d. refl) (Stretches.byte (λ d. refl) (Stretches.byte (λ d. refl) Stretches.none))))
+
+pub release-spells : Spells Dot (114 ∷ 101 ∷ 108 ∷ 101 ∷ 97 ∷ 115 ∷ 101 ∷ 32 ∷ []) (Before (ActionNumber 4))
+unfolding next beginWord spelled kindText tab
+release-spells = Stretches.byte (λ d. refl) (Stretches.byte (λ d. refl) (Stretches.byte (λ d. refl) (Stretches.byte (λ d. refl) (Stretches.byte (λ d. refl)
+    (Stretches.byte (λ d. refl) (Stretches.byte (λ d. refl) (Stretches.byte (λ d. refl) Stretches.none)))))))
 
 -- one byte more of a word
 pub alike-more : (s w : List ℕ) (i j : ℕ) → ((n : ℕ) → n < j → getD s (i + n) 0 ≡ getD w n 0) → getD s (i + j) 0 ≡ getD w j 0

@@ -1,5 +1,6 @@
 // The machine of the listing's language: what one byte does. The bytes are 32 for a space, 46 `.`, 47 `/`, 48 to 57 the digits,
-// 91 `[`, 93 `]`, 124 the bar, and 101 `e`, 110 `n`, 111 `o`, 120 `x`; the kinds of actions are 1 enter, 2 exit, 3 open.
+// 91 `[`, 93 `]`, 124 the bar, and 101 `e`, 110 `n`, 111 `o`, 114 `r`, 120 `x`; the kinds of actions are 1 enter, 2 exit, 3 open,
+// 4 release.
 use super::words::spelled_by;
 use language::Control;
 use language::Event;
@@ -18,7 +19,7 @@ pub(super) fn is_digit(least: u8, b: u8) -> bool
     if 48 + least <= b { b <= 57 } else { false }
 }
 
-// The word of an action begins: `e` or `o`.
+// The word of an action begins: `e`, `o` or `r`.
 fn begin_word(d: usize, e: Event, b: u8) -> Moved
     ensures { λ r. ⌜ r ≡ beginWord d e b ⌝ }
 {
@@ -27,6 +28,9 @@ fn begin_word(d: usize, e: Event, b: u8) -> Moved
     }
     if b == 111 {
         return Moved::To(Control::Spell(3, 1), d, e);
+    }
+    if b == 114 {
+        return Moved::To(Control::Spell(4, 1), d, e);
     }
     Moved::Off
 }

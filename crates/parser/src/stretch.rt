@@ -89,6 +89,9 @@ fn action(s: &[u8], i: usize) -> Reached
     if stands(s, i, b"open ") {
         return number(s, i + 5, 3);
     }
+    if stands(s, i, b"release ") {
+        return number(s, i + 8, 4);
+    }
     Reached {
         at: Control::Dot,
         i: i,

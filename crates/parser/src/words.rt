@@ -24,18 +24,20 @@ fn word_byte(k: u8, i: u8) -> u8
     match k {
         1 => byte_of(b"enter ", i),
         2 => byte_of(b"exit ", i),
-        _ => byte_of(b"open ", i),
+        3 => byte_of(b"open ", i),
+        _ => byte_of(b"release ", i),
     }
 }
 
 // Where the word of a kind has its last byte.
 fn word_last(k: u8) -> u8
-    ensures { λ r. ⌜ (r + 1 ≡ length (kindText k)) × (r < 6) ⌝ }
+    ensures { λ r. ⌜ (r + 1 ≡ length (kindText k)) × (r < 8) ⌝ }
 {
     match k {
         1 => 5,
         2 => 4,
-        _ => 4,
+        3 => 4,
+        _ => 7,
     }
 }
 

@@ -146,7 +146,7 @@ fn action_record(known: bool, full: bool, agent: u8, kind: u8, name: u16) -> Rec
         if kind < 1 {
             return Record::Faulty(7);
         }
-        if 3 < kind {
+        if 4 < kind {
             return Record::Faulty(7);
         }
         if name < 1 {

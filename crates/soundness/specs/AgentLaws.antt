@@ -1,7 +1,7 @@
 -- What the program asks of one agent is what soundness asks of it. Assumes nothing.
 -- Idea: a number in use is its own remainder by 64, so a masked read beside a test for use is the plain read.
 use mathlib.Core.Path.{_≡_, refl, sym, ap, ap₂, _∙_, subst}
-use mathlib.Core.Logic.{_⊎_, inl, inr}
+use mathlib.Core.Logic.{_≢_, _⊎_, inl, inr}
 use mathlib.Core.Bool.{Bool, true, false, _&&_, _||_, cond}
 use Prim.Native.Nat.{ℕ, _%_, _≤_, _<_}
 use native.Mathlib.Omega.{arith}
@@ -9,12 +9,12 @@ use lib.Dec.{eqb, ltb, leb}
 use lib.ListN.{getD}
 use borrow.Author.Tests.{eqb-true, eqb-false, ne-eqb, lt-ltb, le-ltb, lt-leb, leb-true}
 use Rattle.sets.specs.Word.{has}
-use Rattle.table.specs.BaseLaws.{Told, yea, nay, told, and-cong}
-use Rattle.table.specs.Cell.{none, noPlace, State, cellOf, linkedTo, hasAction, kindOf}
+use Rattle.table.specs.BaseLaws.{Told, yea, nay, told, clash, and-cong}
+use Rattle.table.specs.Cell.{none, noPlace, State, cellOf, linkedTo, hasAction, kindOf, asleep}
 use Rattle.table.specs.Bounds.{Sized}
 use Rattle.table.specs.CellLaws.{in-use}
 use Rattle.table.specs.Sound.{actionsFit, remembers, stageFits, firstHeld, secondHeld, secondHeldIn, lockIs, agentFits, goingFrom}
-use Rattle.soundness.specs.Pass.{quiet, quietFits, lockIsAt, linkedAt, busyFits}
+use Rattle.soundness.specs.Pass.{quiet, remembersAt, quietFits, lockIsAt, linkedAt, busyFits}
 use Rattle.table.specs.declared.Agent.{Agent}
 use Rattle.table.specs.declared.Cell.{Cell}
 
@@ -27,6 +27,20 @@ quiet-cases s e = go (told (leb s 1))
     go : Told (leb s 1) → (s ≤ 1) ⊎ (7 ≤ s)
     go (yea t) = inl (leb-true s 1 t)
     go (nay t) = inr (leb-true 7 s (sym (ap (λ (b : Bool). b || leb 7 s) t) ∙ e))
+
+-- a stage that is not quiet is not asleep
+busy-awake : (s : ℕ) → quiet s ≡ false → s ≢ asleep
+unfolding quiet
+busy-awake s q e = clash (subst (λ (n : ℕ). quiet n ≡ true) (sym e) refl) q
+
+-- an agent that is not asleep has to remember a place in use
+pub awake-remembers : (s : ℕ) (known : Bool) (remembered kind : ℕ) → s ≢ asleep → remembersAt s known remembered kind ≡ known
+awake-remembers s known remembered kind n = rw (ne-eqb s asleep n) (go known (eqb remembered none))
+  where
+    go : (known nowhere : Bool) → cond known true (nowhere && false) ≡ known
+    go true nowhere = refl
+    go false true = refl
+    go false false = refl
 
 -- at a quiet stage no link is asked for
 quiet-stage : (s : ℕ) (some known same : Bool) (kind : ℕ) (here there : Bool) → quiet s ≡ true → quietFits s some known same kind ≡ stageFits s some known same kind here there
@@ -137,14 +151,15 @@ module _ (c : Cell) (z : Sized c) where
     unfolding cellOf
     second-same k e = ap₂ (secondHeld a) e (ap (λ (n : ℕ). getD (c .places) n noPlace .parent) (same (a .home) here) ∙ sym (rw here))
 
-    -- at any stage
-    pub busy-same : (k f g : ℕ) → k ≡ kindOf a → f ≡ firstHeld a → g ≡ secondHeldIn (cellOf c) a
+    -- at a stage that is not quiet
+    pub busy-same : (k f g : ℕ) → quiet (a .stage) ≡ false → k ≡ kindOf a → f ≡ firstHeld a → g ≡ secondHeldIn (cellOf c) a
         → busyFits (u (a .remembered)) u x a k (getD (c .places) (a .home % 64) noPlace) (getD (c .places) (a .chosen % 64) noPlace)
         f (getD (c .locks) (f % 64) 0) g (getD (c .locks) (g % 64) 0) ≡ agentFits (cellOf c) x a
     unfolding busyFits agentFits
-    busy-same k f g ek ef eg =
+    busy-same k f g q ek ef eg =
         rw (
           ek,
+          ← awake-remembers (a .stage) (u (a .remembered)) (a .remembered) (kindOf a) (busy-awake (a .stage) q),
           ap (λ (b : Bool). linkedAt b (getD (c .places) (a .home % 64) noPlace) (a .remembered)) (sym here) ∙ linked-same (a .home) (a .remembered),
           linked-same (a .chosen) (a .remembered),
           lock-same x f,

@@ -8,7 +8,7 @@ use lib.ListN.{getD}
 use Rattle.sets.specs.Set.{member}
 use Rattle.sets.specs.declared.Set.{Set}
 use Rattle.table.specs.Base.{allBelow, tab}
-use Rattle.table.specs.Cell.{none, noPlace, noAction, hasAction, looking, found, asleep, done}
+use Rattle.table.specs.Cell.{none, noPlace, noAction, hasAction, releaseKind, looking, found, asleep, done}
 use Rattle.table.specs.Sound.{actionFits, ready, stageFits, nameless}
 use Rattle.table.specs.declared.Action.{Action}
 use Rattle.table.specs.declared.Agent.{Agent}
@@ -28,6 +28,10 @@ sixteenFit row = allBelow (λ j. actionFits (getD row j noAction)) 16
 unfoldable pub quiet : ℕ → Bool
 quiet s = leb s found || leb asleep s
 
+-- an agent at stage s remembers a place in use (known), or is asleep with a release next and remembers no place
+abbrev pub remembersAt : ℕ → Bool → ℕ → ℕ → Bool
+remembersAt s known remembered kind = cond known true (eqb remembered none && (eqb s asleep && eqb kind releaseKind))
+
 -- what such a stage asks
 unfoldable pub quietFits : ℕ → Bool → Bool → Bool → ℕ → Bool
 quietFits s some known same kind =
@@ -44,7 +48,7 @@ lockIsAt known q lock x = cond (eqb q none) true (known && eqb lock x)
 unfoldable pub linkedAt : Bool → Place → ℕ → Bool
 linkedAt known x p = known && (eqb (x .way) 0 && eqb (x .parent) p)
 
--- what any stage asks of an agent whose home is in use; first and second: the places that it holds
+-- what a stage that is not quiet asks of an agent whose home is in use; first and second: the places that it holds
 unfoldable pub busyFits : Bool → (ℕ → Bool) → ℕ → Agent → ℕ → Place → Place → ℕ → ℕ → ℕ → ℕ → Bool
 busyFits known used x a kind home chosen first firstLock second secondLock =
     stageFits (a .stage) (hasAction a) known (eqb (a .remembered) (a .home)) kind

@@ -160,7 +160,7 @@ module _ (c : Cell) (z : Sized c) where
           home (nay h) = subst To (sym (glance-out (c .used) a h)) (unfit-by (home-out c z x a h))
 
       -- ---- it is busy
-      module _ (h : member (c .used) (a .home) ≡ true) (r : actionsFit a ≡ true) where
+      module _ (h : member (c .used) (a .home) ≡ true) (r : actionsFit a ≡ true) (q : quiet (a .stage) ≡ false) where
         abbrev home : Place
         home = getD (c .places) (a .home % 64) noPlace
 
@@ -177,7 +177,7 @@ module _ (c : Cell) (z : Sized c) where
             (firstHeld a) (getD (c .locks) (firstHeld a % 64) 0) second (getD (c .locks) (second % 64) 0)) (o .at)
             ∙ ap (λ (s : Set). busyFits (member s (a .remembered)) (has (s .bits)) x a (kindOf a) home (getD (c .places) (a .chosen % 64) noPlace)
             (firstHeld a) (getD (c .locks) (firstHeld a % 64) 0) second (getD (c .locks) (second % 64) 0)) (o .used)
-            ∙ busy-same c z x a h r (kindOf a) (firstHeld a) second refl refl second-is
+            ∙ busy-same c z x a h r (kindOf a) (firstHeld a) second q refl refl second-is
 
         busy-by : (m b : Bool) → member (w .going) (goingFrom a) ≡ m → agentFits (cellOf c) x a ≡ b
             → Reaches c (cond m (stoppedOf w) (cond b
@@ -204,7 +204,7 @@ module _ (c : Cell) (z : Sized c) where
 
           stage : (h : member (c .used) (a .home) ≡ true) (r : actionsFit a ≡ true) → Told (quiet (a .stage)) → To (glanceOf (c .used) a)
           stage h r (yea q) = clash e (ap (λ (g : Sight). g .busy) (glance-still (c .used) a h r q))
-          stage h r (nay q) = subst To (sym (glance-busy (c .used) a h r q)) (busy-so h r)
+          stage h r (nay q) = subst To (sym (glance-busy (c .used) a h r q)) (busy-so h r q)
 
           row : (h : member (c .used) (a .home) ≡ true) → Told (actionsFit a) → To (glanceOf (c .used) a)
           row h (yea r) = stage h r (told (quiet (a .stage)))

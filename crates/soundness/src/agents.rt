@@ -9,9 +9,9 @@ ghost use mathlib.Core.Path.{_≡_};
 ghost use mathlib.Core.Bool.{_&&_};
 ghost use lib.Dec.{eqb};
 ghost use Rattle.sets.specs.Word.{has};
-ghost use Rattle.table.specs.Cell.{kindOf};
+ghost use Rattle.table.specs.Cell.{kindOf, asleep};
 ghost use Rattle.table.specs.Sound.{actionFits, actionsFit, stageFits, firstHeld, secondHeld, goingFrom, ready, holdsBoth};
-ghost use Rattle.soundness.specs.Pass.{Known, sixteenFit, quiet, quietFits, lockIsAt, busyFits};
+ghost use Rattle.soundness.specs.Pass.{Known, sixteenFit, quiet, remembersAt, quietFits, lockIsAt, busyFits};
 
 // ---- actions
 
@@ -33,7 +33,7 @@ fn fault(x: Action) -> u8
     if x.kind < 1 {
         return 1;
     }
-    if x.kind > 3 {
+    if x.kind > 4 {
         return 1;
     }
     if x.name < 1 { 1 } else { 0 }
@@ -91,7 +91,7 @@ pub(super) fn row_of(a: Agent) -> Row
         if this < 1 {
             return OUT_OF_RANGE;
         }
-        if this > 3 {
+        if this > 4 {
             return OUT_OF_RANGE;
         }
         let name = a.actions[k].name;
@@ -115,9 +115,26 @@ pub(super) fn is_quiet(s: u8) -> bool
     if s <= 1 { true } else { s >= 7 }
 }
 
+// Whether an agent asleep remembers a place in use (known) or, with a release next, no place.
+fn sleeps_fit(known: bool, remembered: u8, kind: u8) -> bool
+    ensures { λ r. ⌜ r ≡ remembersAt asleep known remembered kind ⌝ }
+{
+    if known {
+        return true;
+    }
+    if remembered == 64 { kind == 4 } else { false }
+}
+
 // What a quiet stage asks. some: an action is left; known: the remembered place is in use; same: it is the home.
-pub(super) fn quiet_fits(s: u8, some: bool, known: bool, same: bool, kind: u8) -> bool
-    ensures { λ r. ⌜ r ≡ quietFits s some known same kind ⌝ }
+pub(super) fn quiet_fits(
+    s: u8,
+    some: bool,
+    known: bool,
+    remembered: u8,
+    same: bool,
+    kind: u8,
+) -> bool
+    ensures { λ r. ⌜ r ≡ quietFits s some (remembersAt s known remembered kind) same kind ⌝ }
 {
     if s == 0 {
         return some;
@@ -126,7 +143,11 @@ pub(super) fn quiet_fits(s: u8, some: bool, known: bool, same: bool, kind: u8) -
         return is_ready(some, known, same, kind);
     }
     if s == 7 {
-        if some { known } else { false }
+        if some {
+            sleeps_fit(known, remembered, kind)
+        } else {
+            false
+        }
     } else {
         if s == 8 {
             if some { false } else { true }
@@ -187,13 +208,13 @@ fn lock_is(known: bool, q: u8, lock: u8, x: u8) -> bool
 
 // ---- the other stages
 
-// Whether an agent that remembers a place is ready to lock it.
+// Whether an agent that remembers a place is ready to lock it; for open and release that is its home.
 fn is_ready(some: bool, known: bool, same: bool, kind: u8) -> bool
     ensures { λ r. ⌜ r ≡ ready some known same kind ⌝ }
 {
     if some {
         if known {
-            if kind == 3 { same } else { true }
+            if kind >= 3 { same } else { true }
         } else {
             false
         }
@@ -202,14 +223,18 @@ fn is_ready(some: bool, known: bool, same: bool, kind: u8) -> bool
     }
 }
 
-// Whether the places of an agent that holds both are linked as its action asks.
+// Whether the places of an agent that holds both are linked as its action asks; a release agent never holds both.
 fn holds_both(kind: u8, here: bool, there: bool) -> bool
     ensures { λ r. ⌜ r ≡ holdsBoth kind here there ⌝ }
 {
     if kind == 1 {
         if here { there } else { false }
     } else {
-        if kind == 2 { here } else { there }
+        if kind == 2 {
+            here
+        } else {
+            if kind == 3 { there } else { false }
+        }
     }
 }
 
@@ -235,8 +260,8 @@ fn stage_fits(s: u8, some: bool, known: bool, same: bool, kind: u8, here: bool, 
     }
 }
 
-// What any stage asks of the agent x whose home is in use, with its next action's kind, its home and its chosen
-// place, and the places that it holds with their locks. known: the remembered place is in use.
+// What a stage that is not quiet asks of the agent x whose home is in use, with its next action's kind, its home and
+// its chosen place, and the places that it holds with their locks. known: the remembered place is in use.
 pub(super) fn busy_fits(
     known: bool,
     used: Set,

@@ -102,6 +102,7 @@ pub(super) fn glance(w: Walk, a: Agent) -> Sight
             a.stage,
             a.next < a.count,
             known,
+            a.remembered,
             a.remembered == a.home,
             row.kind,
         );

@@ -4,11 +4,11 @@ use mathlib.Core.Path.{_≡_, refl}
 use mathlib.Core.Bool.{Bool, true, false, cond}
 use Prim.Native.Nat.{ℕ}
 use lib.Dec.{ltb, leb, eqb}
-use Rattle.table.specs.Cell.{State, linked, kindOf, openKind, looksHome}
+use Rattle.table.specs.Cell.{State, linked, freshNumber, kindOf, openKind, releaseKind, looksHome}
 use Rattle.table.specs.declared.Agent.{Agent}
-use Rattle.meaning.specs.Step.{Outcome, choice, stays, fires, look, lockFirst, lockSecond, hold, act, travel, stepAt}
+use Rattle.meaning.specs.Step.{Outcome, choice, stays, fires, look, lockFirst, lockSecond, putOrSleep, hold, act, travel, stepAt}
 use Rattle.stages.specs.declared.Change.{Change}
-use Rattle.stages.specs.Changes.{carried, looks, locksSecond, holds, acts, travels, changeAt}
+use Rattle.stages.specs.Changes.{carried, looks, locksSecond, putsOrSleeps, holds, acts, travels, changeAt}
 
 module _ (c : State) (x : ℕ) (a : Agent) where
   -- one of two changes is one of two outcomes
@@ -24,9 +24,16 @@ module _ (c : State) (x : ℕ) (a : Agent) where
   unfolding locksSecond lockSecond
   second-locked q = either (ltb q 64) _ _ _ _ refl refl
 
+  put-or-slept : (q : ℕ) → carried c x a (putsOrSleeps a q) ≡ putOrSleep c x a q
+  unfolding putsOrSleeps putOrSleep
+  put-or-slept q = either (ltb q 64) _ _ _ _ refl refl
+
   held : (wish : ℕ) → carried c x a (holds (c .land) a wish) ≡ hold c x a wish
   unfolding holds hold
-  held wish = either (stays (c .land) a) _ _ _ _ (second-locked (choice (c .land) a wish)) refl
+  held wish =
+      either (stays (c .land) a) _ _ _ _
+      (either (eqb (kindOf a) releaseKind) _ _ _ _ (put-or-slept (freshNumber (c .land .used))) (second-locked (choice (c .land) a wish)))
+      refl
 
   acted : carried c x a (acts (c .land) a) ≡ act c x a
   unfolding acts act

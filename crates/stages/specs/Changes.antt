@@ -5,7 +5,7 @@ use mathlib.Core.Bool.{Bool, _&&_, cond}
 use mathlib.Core.List.{List, []}
 use lib.Dec.{ltb, leb, eqb}
 use Rattle.sets.specs.declared.Set.{Set}
-use Rattle.table.specs.Cell.{Land, State, landOf, linked, linkedTo, kindOf, exitKind, openKind, looksHome}
+use Rattle.table.specs.Cell.{Land, State, landOf, none, linked, linkedTo, freshNumber, kindOf, exitKind, openKind, releaseKind, looksHome}
 use Rattle.table.specs.Cell.{looking, found, holding, holdingBoth, onWay, onWayOwn, onWayBoth, asleep}
 use Rattle.table.specs.Sound.{secondPlace}
 use Rattle.table.specs.declared.Place.{Place}
@@ -14,7 +14,7 @@ use Rattle.meaning.specs.declared.Word.the-variants.{Looked, Back, Slept, Aslee
 use Rattle.meaning.specs.Update.{atStage}
 use Rattle.meaning.specs.Step.{Outcome, named, choice, stays, fires, destinationOf, still, turn, take, release}
 use Rattle.moves.specs.Motions.{shifted}
-use Rattle.moves.specs.declared.Motion.the-variants.{Leave, Arrive, Dissolve}
+use Rattle.moves.specs.declared.Motion.the-variants.{Leave, Arrive, Dissolve, Put}
 use Rattle.stages.specs.declared.Change.{Change}
 use Rattle.stages.specs.declared.Change.the-variants.{Still, Turn, Take, Release, Move}
 
@@ -53,9 +53,16 @@ locksSecond a q =
     cond (ltb q 64) (Take (secondPlace (kindOf a) (a .home) q) holdingBoth (a .remembered) (cond (eqb (kindOf a) exitKind) 0 q))
     (Release (a .remembered) (a .remembered) asleep (a .remembered) Slept)
 
+-- stage 2 of release, with the smallest unused number q
+unfoldable pub putsOrSleeps : Agent → ℕ → Change
+putsOrSleeps a q = cond (ltb q 64) (Move (Put q)) (Release (a .remembered) (a .remembered) asleep none Slept)
+
 -- stage 2, holding p
 unfoldable pub holds : Land → Agent → ℕ → Change
-holds l a wish = cond (stays l a) (locksSecond a (choice l a wish)) (Release (a .remembered) (a .remembered) looking 0 Back)
+holds l a wish =
+    cond (stays l a)
+    (cond (eqb (kindOf a) releaseKind) (putsOrSleeps a (freshNumber (l .used))) (locksSecond a (choice l a wish)))
+    (Release (a .remembered) (a .remembered) looking 0 Back)
 
 -- stage 3, holding both
 unfoldable pub acts : Land → Agent → Change

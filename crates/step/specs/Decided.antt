@@ -12,6 +12,7 @@ use Rattle.table.specs.declared.Cell.{Cell}
 use Rattle.soundness.specs.declared.sound.Seen.{Seen}
 use Rattle.meaning.specs.declared.Word.{Word}
 use Rattle.meaning.specs.declared.Word.the-variants.{Took, Held, Left, Came, Opened}
+use Rattle.meaning.specs.declared.Word.the-variants as words
 use Rattle.meaning.specs.declared.Answer.{Answer}
 use Rattle.meaning.specs.declared.Answer.the-variants.{Did, Refused}
 use Rattle.meaning.specs.declared.Stepped.{Stepped}
@@ -21,7 +22,7 @@ use Rattle.meaning.specs.Run.{made}
 use Rattle.meaning.specs.Ask.{noneTold}
 use Rattle.moves.specs.Motions.{shifted}
 use Rattle.moves.specs.declared.Motion.{Motion}
-use Rattle.moves.specs.declared.Motion.the-variants.{Leave, Arrive, Dissolve}
+use Rattle.moves.specs.declared.Motion.the-variants.{Leave, Arrive, Dissolve, Put}
 use Rattle.stages.specs.Changes.{changeAt}
 use Rattle.stages.specs.declared.Change.{Change}
 use Rattle.stages.specs.declared.Change.the-variants.{Still, Turn, Take, Release, Move}
@@ -38,8 +39,9 @@ abbrev pub motionWord : Motion → Word
 motionWord (Leave d) = Left
 motionWord (Arrive d) = Came
 motionWord Dissolve = Opened
+motionWord (Put q) = words.Put
 
--- the chosen place, of which the agent is about to lock the second lock, or which it enters or opens; exit has none, whatever is said here
+-- the chosen place, of which the agent is about to lock the second lock, or which it enters or opens; exit has none, whatever is said here, and release none
 abbrev pub lockedChoice : ℕ → ℕ → ℕ
 lockedChoice stage chosen = cond (eqb stage holdingBoth) chosen noneTold
 
@@ -47,6 +49,7 @@ abbrev pub motionChoice : Motion → Agent → ℕ
 motionChoice (Leave d) a = a .chosen
 motionChoice (Arrive d) a = noneTold
 motionChoice Dissolve a = a .chosen
+motionChoice (Put q) a = noneTold
 
 -- a place moves, and the agent and the locks are as they were; how many agents it wakes is known when it is carried out
 abbrev pub going : Motion → Agent → List ℕ → Decision

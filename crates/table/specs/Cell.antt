@@ -1,10 +1,10 @@
 -- The cell as total functions over numbers, and the table of such a cell (document 01, "The cell").
 use Prim.Native.Nat.{ℕ, _-_}
-use mathlib.Core.Bool.{Bool, not, _&&_, cond}
+use mathlib.Core.Bool.{Bool, not, _&&_, _||_, cond}
 use mathlib.Core.List.{List, [], _∷_}
-use lib.Dec.{ltb, eqb}
+use lib.Dec.{ltb, leb, eqb}
 use lib.ListN.{getD, replicate}
-use Rattle.sets.specs.Word.{has, wordOf}
+use Rattle.sets.specs.Word.{has, wordOf, lowestOf}
 use Rattle.sets.specs.Set.{member}
 use Rattle.sets.specs.declared.Set.{Set}
 use Rattle.order.specs.Row.{countingRow}
@@ -179,7 +179,12 @@ linkedTo l q p = l .used q && (eqb (l .place q .way) 0 && eqb (l .place q .paren
 unfoldable pub travels : Land → ℕ → Bool
 travels l q = l .used q && (not (eqb q 0) && not (eqb (l .place q .way) 0))
 
--- ---- the kinds of an action: "1 enter, 2 exit, 3 open"
+-- "the smallest unused number" (document 02, W11), 64 "with all numbers in use"; the floor always is in use, so it is from 1 to 63
+unfoldable pub freshNumber : (ℕ → Bool) → ℕ
+unfolding lowestOf
+freshNumber used = lowestOf 64 (λ q. not (used q))
+
+-- ---- the kinds of an action: "1 enter, 2 exit, 3 open", and "Action kind 4, release n" (document 02, W11)
 
 abbrev pub enterKind : ℕ
 enterKind = 1
@@ -190,13 +195,21 @@ exitKind = 2
 abbrev pub openKind : ℕ
 openKind = 3
 
+abbrev pub releaseKind : ℕ
+releaseKind = 4
+
 -- the highest of them
 abbrev pub lastKind : ℕ
-lastKind = 3
+lastKind = releaseKind
 
--- an action of this kind looks at its agent's own place, any other at the place around that: open
+-- an action of this kind looks at its agent's own place, any other at the place around that: open, and release ("the agent looks at its own
+-- place")
 abbrev pub looksHome : ℕ → Bool
-looksHome kind = eqb kind openKind
+looksHome kind = leb openKind kind
+
+-- "Enter and open choose the wished place": the kinds of action that choose a place; an exit and a release choose none
+abbrev pub chooses : ℕ → Bool
+chooses kind = eqb kind enterKind || eqb kind openKind
 
 -- "An action's number is compared with the key of its kind on the place entered, left or opened" (document 02, W6): the key of a kind
 abbrev pub keyOf : ℕ → Name → ℕ

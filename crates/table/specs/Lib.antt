@@ -10,4 +10,5 @@ pub mod Sound
 pub mod SoundParts
 pub mod Idle
 pub mod Kinds
+pub mod FreshLaws
 pub mod TestLaws

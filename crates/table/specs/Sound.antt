@@ -4,7 +4,8 @@
 -- floor; a place on its way has exactly one of its agents at stages 4 to 6, the floor and a linked place none; each lock is held
 -- just by the agent whose stage says so; an agent at stage 3 has its place, and for enter its chosen place too, linked under the
 -- held parent (open: its target linked under its home); an agent at stages 0 to 3 or 7 has an action left, one at 8 has none; an
--- opener at stages 1 to 3 remembers its home."
+-- opener at stages 1 to 3 remembers its home." "In soundness a release agent is held to the opener's rule and is never at stage 3; asleep it,
+-- and no other agent, may remember no place" (document 02, W11).
 use Prim.Native.Nat.{ℕ}
 use mathlib.Core.Bool.{Bool, true, false, not, _&&_, _||_, cond}
 use lib.Dec.{ltb, leb, eqb}
@@ -12,7 +13,7 @@ use lib.ListN.{getD}
 use Rattle.order.specs.Row.{rowFits}
 use Rattle.table.specs.Base.{allBelow, anyBelow, countBelow, sumBelow, iter}
 use Rattle.table.specs.Cell.{looking, holding, holdingBoth, onWay, onWayOwn, onWayBoth, asleep, done}
-use Rattle.table.specs.Cell.{noAction, none, Land, State, hasAction, kindOf, linkedTo, enterKind, exitKind, openKind, lastKind, looksHome}
+use Rattle.table.specs.Cell.{noAction, none, Land, State, hasAction, kindOf, linkedTo, enterKind, exitKind, openKind, releaseKind, lastKind, looksHome}
 use Rattle.table.specs.declared.Action.{Action}
 use Rattle.table.specs.declared.Agent.{Agent}
 use Rattle.table.specs.declared.Name.{Name}
@@ -20,7 +21,7 @@ use Rattle.table.specs.declared.Place.{Place}
 
 -- ---- actions in range
 
--- an action is a kind 1 to 3 and a name that is not 0
+-- an action is a kind 1 to 4 and a name that is not 0
 abbrev pub actionFits : Action → Bool
 actionFits x = leb 1 (x .kind) && (leb (x .kind) lastKind && leb 1 (x .name))
 
@@ -34,17 +35,23 @@ actionsFit a = leb (a .next) (a .count) && (leb (a .count) 16 && allBelow (actio
 
 -- ---- stages
 
--- "every .. remembered place is in use": the place that the agent remembers is one of these
-abbrev pub remembers : (ℕ → Bool) → Agent → Bool
-remembers used a = used (a .remembered)
+-- a release agent asleep that remembers no place
+abbrev pub sleepsNowhere : Agent → Bool
+sleepsNowhere a = eqb (a .remembered) none && (eqb (a .stage) asleep && eqb (kindOf a) releaseKind)
 
--- an agent that remembers a place in use and has an action left; "an opener at stages 1 to 3 remembers its home"
+-- "every .. remembered place is in use": the place that the agent remembers is one of these; "asleep it, and no other agent, may remember no
+-- place"
+abbrev pub remembers : (ℕ → Bool) → Agent → Bool
+remembers used a = cond (used (a .remembered)) true (sleepsNowhere a)
+
+-- an agent that remembers a place in use and has an action left; "an opener at stages 1 to 3 remembers its home", a release agent too
 unfoldable pub ready : Bool → Bool → Bool → ℕ → Bool
 ready some known same kind = some && (known && cond (looksHome kind) same true)
 
--- "an agent at stage 3 has its place, and for enter its chosen place too, linked under the held parent (open: its target)"
+-- "an agent at stage 3 has its place, and for enter its chosen place too, linked under the held parent (open: its target)"; a release agent
+-- "is never at stage 3"
 unfoldable pub holdsBoth : ℕ → Bool → Bool → Bool
-holdsBoth kind here there = cond (eqb kind enterKind) (here && there) (cond (eqb kind exitKind) here there)
+holdsBoth kind here there = cond (eqb kind enterKind) (here && there) (cond (eqb kind exitKind) here (eqb kind openKind && there))
 
 -- what each stage asks. some: an action is left; known: the remembered place is in use; same: it is the home;
 -- here, there: the home and the chosen place are linked to it

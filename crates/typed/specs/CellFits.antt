@@ -16,9 +16,9 @@ use Rattle.meaning.specs.Calculus.{standsAt}
 use Rattle.meaning.specs.Plain.{treeOf}
 use Rattle.meaning.specs.Listing.{standsUnder}
 use Rattle.meaning.specs.TreeListing.{actsIn}
-use Rattle.calculus.specs.Terms.{Term, amb, nil}
+use Rattle.calculus.specs.Terms.{Term, amb, nil, weigh}
 use Rattle.calculus.specs.TermOf.{prefix, row, parallel, agentAt, placeAt, level, contents, term}
-use Rattle.calculus.specs.Weights.{weigh, parallel-weighs}
+use Rattle.calculus.specs.Weights.{parallel-weighs, row-weighs}
 use Rattle.demands.specs.Actions.{end-most}
 use Rattle.demands.specs.Layouts.{agent-both, place-both}
 use Rattle.demands.specs.SameListings.{termOf}
@@ -30,23 +30,11 @@ use Rattle.typed.specs.Weighed.{short, termFits}
 -- ---- no more places and agents
 
 module _ (A B : ℕ) where
-  -- a row is one agent at most
-  row-weighs : (l : List Action) → weigh A B (row l) ≤ A
-  unfolding weigh row
-  row-weighs [] = omega arith
-  row-weighs (x ∷ l) = go (x .kind) (row-weighs l)
-    where
-      go : (k : ℕ) → weigh A B (row l) ≤ A → weigh A B (prefix k (x .name) (row l)) ≤ A
-      go zero r = unfold prefix in r
-      go (suc zero) r = unfold prefix in omega arith
-      go (suc (suc zero)) r = unfold prefix in omega arith
-      go (suc (suc (suc k))) r = unfold prefix in omega arith
-
-  -- and none without actions
+  -- a row with actions is one agent, one without is none
   agent-weighs : (b : Bool) (l : List Action) → weigh A B (cond b (row l) nil) ≤ pick (ltb 0 (length l) && b) A
   unfolding weigh row
   agent-weighs true [] = omega arith
-  agent-weighs true (x ∷ l) = rw (lt-ltb 0 (length (x ∷ l)) (omega arith)) (unfold row in row-weighs (x ∷ l))
+  agent-weighs true (x ∷ l) = rw (lt-ltb 0 (length (x ∷ l)) (omega arith)) (unfold row in row-weighs A B (x ∷ l))
   agent-weighs false l = omega arith
 
   -- a place is one, with what it holds
@@ -94,7 +82,8 @@ row-short (x ∷ l) (suc k) h = go (x .kind) (row-short l (suc k) (omega arith))
     go zero a b = unfold prefix in a
     go (suc zero) a b = unfold prefix in b
     go (suc (suc zero)) a b = unfold prefix in b
-    go (suc (suc (suc j))) a b = unfold prefix in b
+    go (suc (suc (suc zero))) a b = unfold prefix in b
+    go (suc (suc (suc (suc j)))) a b = unfold prefix in b
 
 -- many in parallel
 parallel-short : (f : ℕ → Term) (n : ℕ) → ((i : ℕ) → short 16 (f i) ≡ true) → short 16 (parallel f n) ≡ true

@@ -11,7 +11,7 @@ use borrow.Author.Tests.{eqb-true}
 use Rattle.table.specs.Base.{tab}
 use Rattle.table.specs.BaseLaws.{Told, yea, nay, told, and-left, and-right}
 use Rattle.table.specs.Bounds.{Name16}
-use Rattle.table.specs.Kinds.{IsKind, enters, exits, opens}
+use Rattle.table.specs.Kinds.{IsKind, enters, exits, opens, releases}
 use Rattle.table.specs.declared.Name.{Name}
 use Rattle.table.specs.declared.Action.{Action}
 use Rattle.meaning.specs.Text.{decimal}
@@ -72,7 +72,7 @@ assemble-term (every-more k e) = k .term (assemble e) ⨾ struct-par-right (asse
 
 -- ---- an agent
 
--- an action that can be typed: a kind 1 to 3 and a number 1 to 65,535
+-- an action that can be typed: a kind 1 to 4 and a number 1 to 65,535
 pub record Able (x : Action) : Type 0 where
   pub fine : Fine x
   pub named : 1 ≤ x .name
@@ -141,6 +141,7 @@ unfolding prefix agentParts placeParts
 one-agent enters n P w = (every-more w every-none, every-none)
 one-agent exits n P w = (every-more w every-none, every-none)
 one-agent opens n P w = (every-more w every-none, every-none)
+one-agent releases n P w = (every-more w every-none, every-none)
 
 -- and a row without actions is none
 row-typed : {l : List Action} → Every Able l → Every Typed (agentParts (row l)) × Every Typed (placeParts (row l))

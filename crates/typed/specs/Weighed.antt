@@ -9,11 +9,11 @@ use lib.Dec.{leb}
 use lib.ListN.{length}
 use borrow.Author.Tests.{le-leb, lt-leb, leb-true, leb-false}
 use Rattle.table.specs.BaseLaws.{Told, yea, nay, told}
-use Rattle.table.specs.Kinds.{IsKind, enters, exits, opens, is-kind}
-use Rattle.calculus.specs.Terms.{Term, amb, nil, _∣_, enter, exit, «open», _≅_, struct-refl, struct-symm, struct-trans, struct-par-zero}
-use Rattle.calculus.specs.Terms.{struct-par-comm, struct-par-assoc, struct-amb, struct-par, struct-enter, struct-exit, struct-open}
+use Rattle.table.specs.Kinds.{IsKind, enters, exits, opens, releases, is-kind}
+use Rattle.calculus.specs.Terms.{Term, amb, nil, _∣_, enter, exit, «open», release, weigh, _≅_, struct-refl, struct-symm, struct-trans, struct-par-zero}
+use Rattle.calculus.specs.Terms.{struct-par-comm, struct-par-assoc, struct-amb, struct-par, struct-enter, struct-exit, struct-open, struct-release}
 use Rattle.calculus.specs.TermOf.{prefix, row}
-use Rattle.calculus.specs.Weights.{weigh, weigh-same}
+use Rattle.calculus.specs.Weights.{weigh-same}
 use Rattle.language.specs.Grammar.{TypedAction, TypedAgent, Contents, nothing, agent, place, actionOf}
 use Rattle.language.specs.Layout.{placesIn, agentsIn, rowsFit, fits}
 use Rattle.typed.specs.TermTyped.{actionsOf, agentTerm, termTyped}
@@ -31,6 +31,8 @@ short zero (exit n P) = false
 short (suc k) (exit n P) = short k P
 short zero («open» n P) = false
 short (suc k) («open» n P) = short k P
+short zero (release n P) = false
+short (suc k) (release n P) = short k P
 
 -- of two tests, in either order
 and-turned : (a b : Bool) → (a && b) ≡ (b && a)
@@ -66,6 +68,8 @@ short-same zero (struct-exit e) = refl
 short-same (suc k) (struct-exit e) = short-same k e
 short-same zero (struct-open e) = refl
 short-same (suc k) (struct-open e) = short-same k e
+short-same zero (struct-release e) = refl
+short-same (suc k) (struct-release e) = short-same k e
 
 -- ---- of a tree
 
@@ -79,6 +83,7 @@ unfolding weigh prefix
 weigh-prefix A B enters n P = refl
 weigh-prefix A B exits n P = refl
 weigh-prefix A B opens n P = refl
+weigh-prefix A B releases n P = refl
 
 -- so a typed agent is one
 agent-weighs : (A B : ℕ) (r : TypedAgent) → weigh A B (agentTerm r) ≡ A
@@ -105,6 +110,7 @@ unfolding short prefix
 short-prefix j enters n P = refl
 short-prefix j exits n P = refl
 short-prefix j opens n P = refl
+short-prefix j releases n P = refl
 
 -- is one too many where none may be
 none-prefix : {k : ℕ} → IsKind k → (n : ℕ) (P : Term) → short 0 (prefix k n P) ≡ false
@@ -112,6 +118,7 @@ unfolding short prefix
 none-prefix enters n P = refl
 none-prefix exits n P = refl
 none-prefix opens n P = refl
+none-prefix releases n P = refl
 
 -- both are one more
 leb-suc : (n k : ℕ) → leb (suc n) (suc k) ≡ leb n k

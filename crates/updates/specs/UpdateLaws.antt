@@ -27,8 +27,11 @@ store-tab {A} d f l q v e = tab-ext d 64 _ _ (λ j k. ap (cond (eqb j q) v) (ap 
 -- ---- the next action
 
 -- a test of the kind that was read is a test of the next action's kind
+pub kind-tested : (f : ℕ → Bool) (a : Agent) (x : Action) (b : Bool) → x ≡ nextAction a → f (x .kind) ≡ b → f (nextAction a .kind) ≡ b
+kind-tested f a x b e t = sym (ap (λ (y : Action). f (y .kind)) e) ∙ t
+
 pub kind-test : (a : Agent) (x : Action) (k : ℕ) (b : Bool) → x ≡ nextAction a → eqb (x .kind) k ≡ b → eqb (nextAction a .kind) k ≡ b
-kind-test a x k b e t = sym (ap (λ (y : Action). eqb (y .kind) k) e) ∙ t
+kind-test a x k b e t = kind-tested (λ n. eqb n k) a x b e t
 
 -- ---- a step's answer
 

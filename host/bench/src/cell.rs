@@ -1,10 +1,10 @@
 //! The cell as a host lends it, one struct for all keepers, and sets of numbers below 64 as words.
 
-/// No place and no agent; the lock of a place that is free.
+/// No place and no agent; the lock of a place that is free; what an agent remembers that sleeps on no place.
 pub const NONE: u8 = 64;
 
 /// The longest listing.
-pub const LISTING_LONGEST: usize = 14_177;
+pub const LISTING_LONGEST: usize = 16_225;
 
 /// A name with its keys: what an enter, an exit and an open are compared with; 0 is compared with none.
 #[repr(C)]
@@ -25,7 +25,7 @@ pub struct Place {
     pub way: u8,
 }
 
-/// An action: 1 enter, 2 exit, 3 open, and the number that the key of that kind must be.
+/// An action: 1 enter, 2 exit, 3 open, and the number that the key of that kind must be; or 4 release, and the name of the place that is put.
 #[repr(C)]
 #[derive(Clone, Copy, PartialEq, Eq, Debug)]
 pub struct Action {

@@ -40,6 +40,10 @@ pub fn open(name: u16) -> Action {
     Action { kind: 3, name }
 }
 
+pub fn release(name: u16) -> Action {
+    Action { kind: 4, name }
+}
+
 impl Sketch {
     /// The bytes of its cell file.
     pub fn file(&self) -> Vec<u8> {
@@ -128,6 +132,22 @@ pub fn full() -> Sketch {
     random(&mut Random(7), 63, 64, 16, 2, 8)
 }
 
+/// Eight bonders, in each a carrier (9) and two agents that take turns: each acquires the carrier by opening it and releases it by putting out an
+/// empty one, eight times.
+pub fn semaphores() -> Sketch {
+    let places = (0..8).map(|_| (0, 20)).chain((1..9).map(|bonder| (bonder, 9))).collect();
+    let turns = |bonder: u8| (bonder, [open(9), release(9)].repeat(8));
+    Sketch { places, agents: (1..9).flat_map(|bonder| [turns(bonder), turns(bonder)]).collect(), touches: vec![] }
+}
+
+/// Twelve bonders with four carriers (9) and five agents each: three of them acquire a carrier and release it, eight times, the other two only put
+/// out carriers. So soon all numbers are in use: then those that put sleep on no place until an opening wakes them all.
+pub fn crowded() -> Sketch {
+    let places = (0..12).map(|_| (0, 20)).chain((0..48).map(|carrier| (1 + carrier % 12, 9))).collect();
+    let row = |x: u8| if x / 12 % 2 == 0 { [open(9), release(9)].repeat(8) } else { vec![release(9); 16] };
+    Sketch { places, agents: (0..60).map(|x| (1 + x % 12, row(x))).collect(), touches: vec![] }
+}
+
 /// A chain 63 deep. Every fourth place has an agent that takes it out of the one around it and back, eight times; as many agents look for
 /// something to enter and find nothing; one opens the last place.
 pub fn chain() -> Sketch {
@@ -145,7 +165,7 @@ pub fn chain() -> Sketch {
 /// the floor, and the touches of every place.
 pub fn longest() -> Sketch {
     let touches = (0..64).map(|place| (place, u32::MAX)).collect();
-    Sketch { places: vec![(0, 65_535); 63], agents: vec![(0, vec![enter(65_535); 16]); 64], touches }
+    Sketch { places: vec![(0, 65_535); 63], agents: vec![(0, vec![release(65_535); 16]); 64], touches }
 }
 
 /// 63 places on the floor that are listed alike, an agent with sixteen actions in each and on the floor.

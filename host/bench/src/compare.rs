@@ -2,7 +2,7 @@
 
 use crate::cell::{members, Cell, Name, LISTING_LONGEST, MOST_TOUCHES};
 use crate::cells::{random, Random};
-use crate::files::{keyed, more_digits, renumbered};
+use crate::files::{keyed, more_digits, releasing, renumbered};
 use crate::jobs::{Job, Room, Workload};
 use crate::keeper::{Keeper, Proved};
 use crate::plain::Plain;
@@ -200,13 +200,17 @@ fn asks(cell: &Cell) -> Result<(), String> {
 
 /// A cell at random and some calls on it; one that is damaged has bytes changed on the way, until a call answers 10.
 fn one_random(numbers: &mut Random, damaged: bool) -> Result<usize, String> {
-    let (places, agents, actions) = (numbers.below(64), numbers.below(65), numbers.below(17));
+    let places = if numbers.below(3) == 0 { 60 + numbers.below(4) } else { numbers.below(64) };
+    let (agents, actions) = (numbers.below(65), numbers.below(17));
     let names = 1 + numbers.below(6);
     let mut sketch = random(numbers, places, agents, actions, names, 6);
     sketch.touches = (0..=places).filter(|_| numbers.below(3) == 0).map(|place| (place as u8, place as u32 * 67_000_000)).collect();
     let mut file = renumbered(numbers, sketch.file());
     if numbers.below(2) == 0 {
         file = keyed(numbers, &file, names);
+    }
+    if numbers.below(4) != 0 {
+        releasing(numbers, &mut file);
     }
     if numbers.below(2) == 0 {
         more_digits(&mut file);

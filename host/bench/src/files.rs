@@ -30,6 +30,17 @@ pub fn keyed(numbers: &mut Random, file: &[u8], names: usize) -> Vec<u8> {
     keyed
 }
 
+/// The file with releases in the place of some of its actions.
+pub fn releasing(numbers: &mut Random, file: &mut [u8]) {
+    let mut at = 0;
+    while at < file.len() {
+        if file[at] == 3 && numbers.below(3) == 0 {
+            file[at + 2] = 4;
+        }
+        at += length(file[at]);
+    }
+}
+
 /// The file's names, keys and actions' numbers up to 6 with other ones in their place, some of which begin with others of them.
 pub fn more_digits(file: &mut [u8]) {
     const NUMBERS: [u16; 7] = [0, 70, 7, 65_535, 700, 6_553, 71];

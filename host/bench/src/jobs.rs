@@ -218,6 +218,8 @@ pub fn workloads() -> Vec<Workload> {
         of("step, full, busy", STEP, busy(cells::full(), 300)),
         of("step, chain, at rest", CHAIN, quiet(cells::chain())),
         of("step, chain, busy", CHAIN, busy(cells::chain(), 0)),
+        of("step, semaphores, busy", STEP, busy(cells::semaphores(), 0)),
+        of("step, crowded, busy", STEP, busy(cells::crowded(), 300)),
         of("ask, typical, at rest", None, asks(quiet(cells::typical()))),
         of("ask, typical, busy", None, asks(busy(cells::typical(), 0))),
         of("ask, full, at rest", None, asks(quiet(cells::full().finding_nothing()))),

@@ -94,7 +94,7 @@ fn csv(workloads: &[Workload], pace: &Pace) {
 
 /// How often each word is answered in a lap of the step workloads, and the places in use before and after.
 fn words(workloads: &[Workload]) {
-    const WORDS: [&str; 11] = ["looked", "took", "held", "back", "slept", "left", "came", "opened", "", "asleep", "done"];
+    const WORDS: [&str; 11] = ["looked", "took", "held", "back", "slept", "left", "came", "opened", "put", "asleep", "done"];
     for workload in workloads {
         let Job::Step { start, order } = &workload.job else { continue };
         let mut cell = **start;

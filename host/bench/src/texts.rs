@@ -3,7 +3,7 @@
 use crate::cell::LISTING_LONGEST;
 use crate::cells::Random;
 
-/// As much as fits a cell, with the longest names and keys: 64 agents with sixteen actions and 63 places, in an order that no listing has. Some
+/// As much as fits a cell, with the longest numbers: 64 agents with sixteen actions and 63 places, in an order that no listing has. Some
 /// places stand in each other, and agents in places.
 pub fn full() -> String {
     let row = vec!["enter 65535"; 16].join(".");
@@ -35,7 +35,7 @@ pub fn refused() -> String {
 /// A text with a byte changed, dropped, doubled or put in, or cut off.
 pub fn damaged(numbers: &mut Random, text: &[u8]) -> Vec<u8> {
     let mut text = text.to_vec();
-    let (at, byte) = (numbers.below(text.len()), numbers.one_of(b"0123456789[]/| .enterxiop\n"));
+    let (at, byte) = (numbers.below(text.len()), numbers.one_of(b"0123456789[]/| .enterxiopls\n"));
     match numbers.below(5) {
         0 => text[at] = byte,
         1 => drop(text.remove(at)),
@@ -48,7 +48,7 @@ pub fn damaged(numbers: &mut Random, text: &[u8]) -> Vec<u8> {
 
 /// A text with more parts, so that there may be too many, or with more actions for its last agent.
 pub fn more(numbers: &mut Random, text: &[u8]) -> Vec<u8> {
-    let (part, count) = (numbers.one_of(&["7[]", "7[7/0/7/0[enter 7.exit 7]]", "open 7"]), numbers.below(70));
+    let (part, count) = (numbers.one_of(&["7[]", "7[7/0/7/0[enter 7.exit 7]]", "open 7", "release 7"]), numbers.below(70));
     let joined = [if text == b"0" { vec![] } else { [text, b" | "].concat() }, b"8[".to_vec()].concat();
     let row = vec!["exit 10"; 1 + numbers.below(20)].join(".");
     let parts = (0..count).map(|_| part.to_string()).chain([row]).collect::<Vec<_>>().join(" | ");

@@ -4,12 +4,12 @@ use crate::cell::Cell;
 use crate::keeper::Keeper;
 
 /// A buffer of this size holds every walk: 16,384 lines of at most 16 bytes, and two lines with a listing.
-pub const ROOM: usize = 16_384 * 16 + 2 * 14_200;
+pub const ROOM: usize = 16_384 * 16 + 2 * 16_300;
 
 /// The pairs of an order that count.
 const PAIRS: usize = 16_384;
 
-const WORDS: [&[u8]; 11] = [b"looked", b"took", b"held", b"back", b"slept", b"left", b"came", b"opened", b"", b"asleep", b"done"];
+const WORDS: [&[u8]; 11] = [b"looked", b"took", b"held", b"back", b"slept", b"left", b"came", b"opened", b"put", b"asleep", b"done"];
 
 /// Writes the walk and answers its length.
 pub fn walk<K: Keeper>(file: &[u8], order: &[u8], cell: &mut Cell, text: &mut [u8]) -> usize {

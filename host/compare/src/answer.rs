@@ -3,7 +3,7 @@
 use model::{Asked, Refused, Stepped, Word};
 
 /// The words with their numbers.
-const WORDS: [(Word, u64); 10] = [
+const WORDS: [(Word, u64); 11] = [
     (Word::Looked, 0),
     (Word::Took, 1),
     (Word::Held, 2),
@@ -12,6 +12,7 @@ const WORDS: [(Word, u64); 10] = [
     (Word::Left, 5),
     (Word::Came, 6),
     (Word::Opened, 7),
+    (Word::Put, 8),
     (Word::Asleep, 9),
     (Word::Done, 10),
 ];

@@ -2,6 +2,7 @@
 
 use crate::call::Call;
 use crate::layouts;
+use crate::releases;
 use model::{file_of, walk};
 
 /// A case: the cell file, the agents that step, and what `walk` writes.
@@ -31,7 +32,7 @@ fn refused(file: &[u8], number: u8, offset: usize) -> Case {
 }
 
 /// A case of one agent that answers these words, with nobody to wake; the term is as it is listed.
-fn alone(term: &str, words: &str, end: &str) -> Case {
+pub fn alone(term: &str, words: &str, end: &str) -> Case {
     alone_in(term, term, words, end)
 }
 
@@ -76,6 +77,8 @@ pub fn cases() -> Vec<Case> {
         refused(&[2, 0x40, 0, 4], 14, 0),
         refused(&[2, 0x40, 0x40, 4], 14, 0),
         refused(&[3, 0x40, 9, 0, 0, 4], 14, 0),
+        refused(&[2, 0, 0, 3, 0, 5, 0, 0, 4], 7, 3),
+        refused(&[2, 0, 0, 3, 0, 4, 0, 0, 4], 6, 3),
         refused(&[5], 1, 0),
         refused(&[5, 0x40, 1, 0, 0], 1, 0),
         refused(&[7], 2, 0),
@@ -99,6 +102,7 @@ pub fn cases() -> Vec<Case> {
     cases.extend(first_served());
     cases.extend(rights());
     cases.extend(layouts::cases());
+    cases.extend(releases::cases());
     cases
 }
 
@@ -176,6 +180,7 @@ pub fn small_files() -> Vec<Vec<u8>> {
         "258[enter 65535] | 65535[exit 258.open 513]",
         "1[2[3[4[5[exit 4.exit 3.exit 2.exit 1]]]]]",
         "9/5/6/0[] | 7[enter 5.exit 6]",
+        "release 9.open 9 | 7[release 258.exit 7]",
         "open 258 | 7/7/7/258[1/0/0/0[exit 7] | 65535/1/65535/513[]]",
     ];
     let mut files: Vec<Vec<u8>> = terms.iter().map(|term| file_of(term)).collect();
@@ -198,7 +203,7 @@ pub fn faulty_records() -> Vec<Vec<u8>> {
             }
         }
         for agent in [0, 1, 2, 63, 64, 255] {
-            rows.extend([0, 1, 3, 4, 255].map(|kind| [&[3, agent, kind][..], &name].concat()));
+            rows.extend([0, 1, 3, 4, 5, 255].map(|kind| [&[3, agent, kind][..], &name].concat()));
         }
     }
     for agent in [0, 1, 2, 63, 64, 255] {
@@ -222,7 +227,7 @@ pub fn longest_file() -> Vec<u8> {
     }
     for agent in 0..64 {
         file.extend([2, agent, agent]);
-        file.extend([3, agent, 1 + agent % 3, 255, 255].repeat(16));
+        file.extend([3, agent, 1 + agent % 4, 255, 255].repeat(16));
         file.extend([5, agent, 255, 255, 255, 255]);
     }
     file.push(4);

@@ -20,6 +20,10 @@ pub struct Counts {
     pub not_lowest: u64,
     pub keyed: u64,
     pub by_key: u64,
+    pub put: u64,
+    pub put_again: u64,
+    pub slept_nowhere: u64,
+    pub woken_nowhere: u64,
     pub pooled: u64,
     pub touches: u64,
     pub touches_refused: BTreeMap<u8, u64>,
@@ -77,6 +81,11 @@ impl fmt::Display for Counts {
             out,
             "choices         {:>9}   (among several, without a fitting wish; {} not the lowest number)",
             self.choices, self.not_lowest
+        )?;
+        writeln!(
+            out,
+            "places put      {:>9}   ({} under a number that an opening freed; {} slept on no place, {} of those were woken)",
+            self.put, self.put_again, self.slept_nowhere, self.woken_nowhere
         )?;
         writeln!(out, "places by kind 6 {:>8}   ({} moves by a key that is not the name)", self.keyed, self.by_key)?;
         let refused: u64 = self.touches_refused.values().sum();

@@ -1,11 +1,11 @@
 //! What somebody else may write into a lent cell: any byte, a field of something in use, keys, touch counts, the row, or whole agents set to
-//! other stages.
+//! other stages, those that release too.
 
 use crate::call::Call;
 use crate::random::Random;
 use crate::rows::ORDER;
 use crate::touches;
-use model::{holds, Kind, Table, SIZE};
+use model::{holds, Kind, Table, NO_PLACE, SIZE};
 
 /// The size of a place, and in it where parent and way are; where the locks, the agents and the sets start, and the size of an agent.
 const PLACE: usize = 10;
@@ -19,7 +19,8 @@ const SETS: usize = 5184;
 /// Writes that change a few bytes of these.
 pub fn writes(random: &mut Random, bytes: &[u8; SIZE]) -> Vec<Call> {
     let mut after = *bytes;
-    match random.below(16) {
+    match random.below(19) {
+        16..=18 => releases(random, &mut after),
         14..=15 => keys(random, &mut after),
         12..=13 => row(random, &mut after),
         10..=11 => counts(random, &mut after),
@@ -82,7 +83,7 @@ fn field(random: &mut Random, bytes: &mut [u8; SIZE]) {
             let within = random.below(6);
             bytes[agent + within] = if within == 1 && random.percent(80) { random.below(10) as u8 } else { value };
         }
-        10 => bytes[agent + 6 + random.below(64)] = random.pick(&[0, 1, 2, 3, value]),
+        10 => bytes[agent + 6 + random.below(64)] = random.pick(&[0, 1, 2, 3, 4, 5, value]),
         _ => bytes[SETS + random.below(16)] ^= 1 << random.below(8),
     }
 }
@@ -98,7 +99,7 @@ fn scramble(random: &mut Random, bytes: &mut [u8; SIZE]) {
     let parent = table.places.get(home as usize).map_or(0, |place| place.parent);
     let children: Vec<usize> = places.iter().copied().filter(|&place| table.places[place].parent == home).collect();
     let beside: Vec<usize> = places.iter().copied().filter(|&place| table.places[place].parent == parent).collect();
-    let open = agent.next_kind() == Some(Kind::Open);
+    let open = matches!(agent.next_kind(), Some(Kind::Open | Kind::Release));
     bytes[at + 1] = random.below(9) as u8;
     bytes[at + 2] = match random.below(10) {
         0..=1 => one_of(random, &places) as u8,
@@ -112,6 +113,45 @@ fn scramble(random: &mut Random, bytes: &mut [u8; SIZE]) {
     };
     if bytes[at + 1] == 8 {
         bytes[at + 4] = bytes[at + 5];
+    }
+}
+
+/// Makes the next action of agents in use a release, mostly, and sets them to any stage, mostly with what a release remembers there: its home or,
+/// asleep, no place; at stage 3, where it never is, as an opener would be, with a place in its home that it has chosen and locked. Half the times the
+/// records of a number that is not in use, which a put has to write over, hold anything.
+fn releases(random: &mut Random, bytes: &mut [u8; SIZE]) {
+    let (places, agents) = (members(bytes, SETS), members(bytes, SETS + 8));
+    let mut chosen = Vec::new();
+    for _ in 0..1 + random.below(2) {
+        let number = one_of(random, &agents);
+        let at = AGENTS + AGENT * number;
+        let next = bytes[at + 4] as usize;
+        if next < 16 && random.percent(90) {
+            bytes[at + 6 + 4 * next] = Kind::Release.number();
+        }
+        bytes[at + 1] = random.pick(&[0, 1, 2, 2, 2, 3, 3, 4, 5, 6, 7, 7, 7, 7, 8]);
+        bytes[at + 2] = match random.below(10) {
+            0 => one_of(random, &places) as u8,
+            1 => random.pick(&[63, 65, 128, 255]),
+            2..=4 => NO_PLACE,
+            _ if bytes[at + 1] == 7 && random.percent(50) => NO_PLACE,
+            _ => bytes[at],
+        };
+        let inside: Vec<usize> = places.iter().copied().filter(|&place| place > 0 && bytes[PLACE * place + PARENT] == bytes[at]).collect();
+        if bytes[at + 1] == 3 && !inside.is_empty() {
+            bytes[at + 3] = random.pick(&inside) as u8;
+            chosen.push((bytes[at + 3] as usize, number as u8));
+        }
+    }
+    settle_ways(random, bytes);
+    settle_locks(bytes);
+    chosen.into_iter().for_each(|(place, number)| bytes[LOCKS + place] = number);
+    let unused: Vec<usize> = (1..64).filter(|number| !places.contains(number)).collect();
+    if !unused.is_empty() && random.percent(50) {
+        let number = if random.percent(70) { unused[0] } else { random.pick(&unused) };
+        (0..PLACE).for_each(|at| bytes[PLACE * number + at] = random.byte());
+        bytes[LOCKS + number] = random.byte();
+        touches::set(bytes, number, random.next());
     }
 }
 

@@ -1,12 +1,13 @@
 //! In what the library's cell differs from the model's.
 
-use model::{Cell, Table};
+use model::{Cell, Table, NO_PLACE};
 
 /// "a step that forgets a place writes the same empty value always": in a cell that came from a load, a field that the stage does not use
-/// is 0.
+/// is 0; and an agent that sleeps on no place remembers 64.
 pub fn forgotten(table: &Table) -> Result<(), String> {
     for (number, agent) in table.agents_in_use() {
-        if agent.remembered_place().is_none() && agent.remembered != 0 || agent.chosen_place().is_none() && agent.chosen != 0 {
+        let none = if agent.stage == 7 { NO_PLACE } else { 0 };
+        if agent.remembered_place().is_none() && agent.remembered != none || agent.chosen_place().is_none() && agent.chosen != 0 {
             return Err(format!("agent {number} still remembers a place at stage {}", agent.stage));
         }
     }

@@ -3,6 +3,9 @@
 use crate::orders::count;
 use crate::random::Random;
 
+/// The kind of a release, the last of the four.
+const RELEASE: u8 = 4;
+
 /// A count up to the most: small ones often, large ones now and then.
 fn size(random: &mut Random, most: usize) -> usize {
     match random.below(100) {
@@ -37,14 +40,29 @@ struct Maker {
 /// A file that is accepted: few names, so that actions fire; any mixture of kinds; numbers in any order; keys of no, some or all places; touch
 /// records of no, some or all places, anywhere after them.
 pub fn good(random: &mut Random) -> Vec<u8> {
+    let (places, agents) = (size(random, 63), size(random, 64));
+    let kinds = kinds(random);
+    made(random, places, agents, kinds)
+}
+
+/// The same with 61 to 64 places in use, the floor too, and few agents, most of which release and open: soon no number is unused, and openings free
+/// some.
+pub fn crowded(random: &mut Random) -> Vec<u8> {
+    let (places, agents) = (60 + random.below(4), 2 + random.below(8));
+    let kinds = random.pick(&[&[3, 4][..], &[3, 4, 4], &[1, 3, 4, 4], &[1, 2, 3, 3, 4, 4]]).to_vec();
+    made(random, places, agents, kinds)
+}
+
+/// A file of so many places and agents.
+fn made(random: &mut Random, places: usize, agents: usize, kinds: Vec<u8>) -> Vec<u8> {
     let nesting = random.pick(&[Nesting::Flat, Nesting::Deep, Nesting::Any, Nesting::Any]);
-    let (names, kinds) = (names(random), kinds(random));
+    let names = names(random);
     let keyed = random.pick(&[0, 30, 100]);
     let mut maker = Maker { nesting, names, kinds, keyed, given: vec![0], parents: [0; 64], keys: [[0; 3]; 64] };
     let most_actions = random.pick(&[1, 2, 3, 5, 16]);
     let places_first = random.percent(70);
-    let mut places = numbers(random, 1, 63);
-    let mut agents = numbers(random, 0, 64);
+    let mut places = numbers(random, 1, places);
+    let mut agents = numbers(random, 0, agents);
     let mut unfinished: Vec<(u8, u8, usize)> = Vec::new();
     let touched = random.pick(&[0, 20, 60, 100]);
     let mut untouched: Vec<u8> = if random.percent(touched) { vec![0] } else { vec![] };
@@ -106,12 +124,15 @@ impl Maker {
         [&[6, number, parent, low, high][..], &keys.map(u16::to_le_bytes).concat()].concat()
     }
 
-    /// The record of one more action, mostly one that can fire where the agent lives, if there is any.
+    /// The record of one more action, mostly one that can fire where the agent lives, if there is any; a release has any name.
     fn action(&self, random: &mut Random, agent: u8, home: u8) -> [u8; 5] {
         let mut kind = random.pick(&self.kinds);
         let mut name = random.pick(&self.names);
         if random.percent(80) {
             for _ in 0..4 {
+                if kind == RELEASE {
+                    break;
+                }
                 let around = self.around(home, kind);
                 if !around.is_empty() {
                     name = self.keys[random.pick(&around) as usize][kind as usize - 1];
@@ -137,9 +158,8 @@ impl Maker {
     }
 }
 
-/// Some numbers from the first on, mostly the lowest ones, in any order.
-fn numbers(random: &mut Random, first: u8, most: usize) -> Vec<u8> {
-    let count = size(random, most);
+/// So many numbers from the first on, mostly the lowest ones, in any order.
+fn numbers(random: &mut Random, first: u8, count: usize) -> Vec<u8> {
     let mut all: Vec<u8> = (first..64).collect();
     if random.percent(30) {
         random.shuffle(&mut all);
@@ -164,8 +184,8 @@ fn names(random: &mut Random) -> Vec<u16> {
 
 /// A mixture of action kinds.
 fn kinds(random: &mut Random) -> Vec<u8> {
-    let mut kinds = vec![1 + random.below(3) as u8];
-    for kind in 1..=3 {
+    let mut kinds = vec![1 + random.below(4) as u8];
+    for kind in 1..=RELEASE {
         for _ in 0..random.below(4) {
             kinds.push(kind);
         }

@@ -25,11 +25,18 @@ fn named(bytes: &[u8; SIZE]) -> impl Iterator<Item = [u16; 4]> {
     Table::read(bytes).places.into_iter().map(name)
 }
 
-/// A step changes no name and no key, in use or not, but for a number that goes out of use, which has none.
-pub fn kept(before: &[u8; SIZE], after: &[u8; SIZE]) -> Result<(), String> {
-    let (used, still) = (Table::read(before).used, Table::read(after).used);
+/// A step of this agent changes no name and no key, in use or not, but for a number that goes out of use, which has none, and one that comes into
+/// use, whose name and keys are the number of the agent's action.
+pub fn kept(before: &[u8; SIZE], after: &[u8; SIZE], agent: u8) -> Result<(), String> {
+    let (then, now) = (Table::read(before), Table::read(after));
+    let (used, still) = (then.used, now.used);
+    let put = then.agents[agent as usize].unused().and_then(|row| row.first()).map_or(0, |action| action.name);
     for (place, (then, now)) in named(before).zip(named(after)).enumerate() {
-        let right = if used[place] && !still[place] { [0; 4] } else { then };
+        let right = match (used[place], still[place]) {
+            (true, false) => [0; 4],
+            (false, true) => [put; 4],
+            _ => then,
+        };
         if now != right {
             return Err(format!("a step makes the name and keys of place {place} {now:?}, and not {right:?}"));
         }

@@ -44,8 +44,19 @@ fn full(stands: impl Fn(u8) -> (u8, u16), lives: impl Fn(u8) -> (u8, u16)) -> Ve
     file
 }
 
+/// A full cell with the longest listing of all: 63 places with keys of their own and 64 agents of sixteen releases, all on the floor.
+fn longest() -> Vec<u8> {
+    let mut file: Vec<u8> = (1..64).flat_map(|place| [6, place, 0, 255, 255, 255, 255, 255, 255, 254, 255]).collect();
+    for agent in 0..64 {
+        file.extend([2, agent, 0]);
+        file.extend([3, agent, 4, 255, 255].repeat(16));
+    }
+    file.push(4);
+    file
+}
+
 /// Full cells: all texts equal, beside each other and in each other; texts that differ in their last byte, the last first; the longest text of
-/// all behind a short one at every level, and before it.
+/// all behind a short one at every level, and before it; and the longest listing.
 pub fn full_cells() -> Vec<Vec<u8>> {
     let floor = |_: u8| (0, 65_535);
     let equal = |agent: u8| (agent, 65_535);
@@ -58,5 +69,6 @@ pub fn full_cells() -> Vec<Vec<u8>> {
         full(|place| ((place - 1) / 2 * 2, 7), |agent| (63, 65_535 - agent as u16)),
         full(|place| ((place - 1) / 2 * 2, 7 + place as u16 % 2), |_| (63, 65_535)),
         full(|place| (place - 1, 100 + place as u16), equal),
+        longest(),
     ]
 }

@@ -4,11 +4,12 @@
 //!
 //! First document 01's cases, by steps and by asks and commits, where every place is after each of their calls, touches up to the most there may
 //! be, listings of full cells, every single-byte change and truncation of good files and of texts, and texts at and past each limit; then rounds
-//! of random files, random orders of steps, asks, commits, touch calls and questions where a place is on random cells, random texts, damaged ones
-//! and orders on cells that were read, and cells with bytes changed, those of keys and of the row of places too: a fixed number of rounds, or as
-//! many as fit in N seconds. Listings are read back. Cells are also listed under other numbers, which must give the same bytes. The same seed gives
-//! the same rounds. With a program `walk`, what it writes is compared too; with programs that run typed layouts (PROGRAM --text TEXT ORDER), what
-//! those write. At a difference the smallest example found is printed and the exit status is 1.
+//! of random files, random orders of steps, asks, commits, touch calls and questions where a place is on random cells, some of them with 61 to 64
+//! places in use, random texts, damaged ones and orders on cells that were read, and cells with bytes changed, those of keys, of the row of places
+//! and of agents that release too: a fixed number of rounds, or as many as fit in N seconds. Listings are read back. Cells are also listed under
+//! other numbers, which must give the same bytes. The same seed gives the same rounds. With a program `walk`, what it writes is compared too; with
+//! programs that run typed layouts (PROGRAM --text TEXT ORDER), what those write. At a difference the smallest example found is printed and the
+//! exit status is 1.
 
 mod answer;
 mod bench;
@@ -26,6 +27,7 @@ mod orders;
 mod pair;
 mod random;
 mod reading;
+mod releases;
 mod renumber;
 mod rounds;
 mod rows;

@@ -12,11 +12,12 @@ use crate::rows;
 use crate::touches;
 use keeper::lent::Lent;
 use model::{listing, load, permitted, touch, Cell, Plain, Table, Tree, LISTING_TOO_LONG, UNSOUND};
+use std::collections::BTreeSet;
 
 /// A byte that no listing has, with which buffers are filled before they are lent.
 pub const FILL: u8 = 0xAA;
 /// The longest listing.
-pub const LONGEST: usize = 14_177;
+pub const LONGEST: usize = 16_225;
 /// The longest listing and some bytes more.
 pub const ROOM: usize = LONGEST + 21;
 /// A buffer before it is lent.
@@ -31,6 +32,8 @@ pub struct Pair {
     pub total: u128,
     pub text: Vec<u8>,
     thorough: bool,
+    /// The numbers that openings freed and that were not given again.
+    pub freed: BTreeSet<u8>,
     pub counts: Counts,
 }
 
@@ -49,7 +52,8 @@ impl Pair {
         lent.bytes_mut().fill(FILL);
         let answer = lent.bare();
         let cell = Some(Cell::bare());
-        let mut pair = Pair { lent, cell, plain: None, total: 0, text: vec![FILL; ROOM], thorough, counts: Counts::default() };
+        let (text, freed) = (vec![FILL; ROOM], BTreeSet::new());
+        let mut pair = Pair { lent, cell, plain: None, total: 0, text, thorough, freed, counts: Counts::default() };
         same("bare", answer, 0, answer::value_text)?;
         rows::same("bare", pair.bytes(), &rows::loaded(&[]))?;
         pair.agree()?;
@@ -67,6 +71,7 @@ impl Pair {
         self.cell = kept.cell.clone();
         self.plain = kept.plain.clone();
         self.total = kept.total;
+        self.freed.clear();
     }
 
     /// The bytes of the lent cell.
@@ -111,6 +116,7 @@ impl Pair {
                 self.counts.accepted += 1;
                 self.plain = Some(Plain::of_load(&cell));
                 self.total = touches::loaded(file);
+                self.freed.clear();
                 rows::same("a load", self.bytes(), &rows::loaded(file))?;
                 self.counts.keyed += keys::loaded(self.bytes(), file)? as u64;
                 self.cell = Some(cell);

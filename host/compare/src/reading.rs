@@ -26,6 +26,7 @@ impl Pair {
                 self.counts.texts += 1;
                 self.plain = Some(Plain::of_load(&cell));
                 self.total = 0;
+                self.freed.clear();
                 rows::same("a reading", self.bytes(), &rows::read(cell.places.len() - 1))?;
                 self.cell = Some(cell);
                 self.agree()

@@ -193,6 +193,7 @@ impl Session {
             self.order(&mut random)?;
         }
         self.texts(&mut random)?;
+        self.crowded(&mut random)?;
         for _ in 0..10 {
             self.changed_cell(&mut random)?;
         }
@@ -230,7 +231,8 @@ impl Session {
 
     /// A cell somewhere in an order, of which bytes are changed in several ways; after each, some calls on it.
     fn changed_cell(&mut self, random: &mut Random) -> Outcome {
-        self.start(files::good(random))?;
+        let file = if random.percent(20) { files::crowded(random) } else { files::good(random) };
+        self.start(file)?;
         let mut order = Order::new(random);
         for _ in 0..random.below(60) {
             let Some(cell) = &self.pair.cell else { break };

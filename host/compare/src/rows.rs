@@ -23,13 +23,16 @@ pub fn read(places: usize) -> Vec<u8> {
 }
 
 /// "A place that comes is the latest; children freed by an opening become the latest and keep their order among themselves": the row after
-/// a step of this agent, from the cell before it. Numbers that are not in use, places elsewhere and the opened one keep their order too.
+/// a step of this agent, from the cell before it. Numbers that are not in use, places elsewhere and the opened one keep their order too. Document 02,
+/// W11: "a put place is the latest of W5."
 pub fn stepped(before: &[u8; SIZE], agent: u8, word: Word) -> Vec<u8> {
     let table = Table::read(before);
     let stepping = &table.agents[agent as usize];
+    let unused = table.used.iter().position(|&used| !used);
     let latest = |number: u8| match word {
         Word::Came => number == stepping.home,
         Word::Opened => table.place(number).is_some_and(|place| place.parent == stepping.chosen),
+        Word::Put => Some(number as usize) == unused,
         _ => false,
     };
     let (last, first): (Vec<u8>, Vec<u8>) = table.order.iter().partition(|&&number| latest(number));

@@ -54,7 +54,8 @@ impl Pair {
     fn stepped(&mut self, before: Before, agent: u8, wish: u8, word: Word) -> Result<(), String> {
         self.counts.pooled += touches::pooled(before.lent.bytes(), self.lent.bytes())? as u64;
         rows::same(word.text(), self.bytes(), &rows::stepped(before.lent.bytes(), agent, word))?;
-        keys::kept(before.lent.bytes(), self.lent.bytes())?;
+        keys::kept(before.lent.bytes(), self.lent.bytes(), agent)?;
+        self.seen_of_numbers(before.lent.bytes());
         self.counts.by_key += (before.by_key && matches!(word, Word::Left | Word::Opened)) as u64;
         if let (Word::Took, Some(found), Some(cell)) = (word, before.several, &self.cell) {
             self.counts.choices += 1;

@@ -38,6 +38,12 @@ pub fn good(random: &mut Random) -> Vec<u8> {
     written(random, size)
 }
 
+/// A text of the language with 60 to 63 places and few agents.
+pub fn crowded(random: &mut Random) -> Vec<u8> {
+    let size = Size { places: 60 + random.below(4), agents: 2 + random.below(8), actions: random.pick(&[3, 6, 16]) };
+    written(random, size)
+}
+
 /// A text of the language, or a damaged one.
 pub fn nearly_good(random: &mut Random) -> Vec<u8> {
     let text = good(random);
@@ -127,7 +133,7 @@ impl Writer {
         self.agents -= 1;
         let count = if random.percent(50) { self.actions } else { 1 + random.below(self.actions) };
         let actions: Vec<String> =
-            (0..count).map(|_| format!("{} {}", random.pick(&["enter", "exit", "open"]), random.pick(&self.names))).collect();
+            (0..count).map(|_| format!("{} {}", random.pick(&["enter", "exit", "open", "release"]), random.pick(&self.names))).collect();
         self.text += &actions.join(".");
     }
 }
@@ -163,7 +169,7 @@ pub fn limits(random: &mut Random) -> Vec<Vec<u8>> {
 
 /// The longest text that is read.
 pub fn longest() -> Vec<u8> {
-    let row = vec!["enter 65535"; 16].join(".");
+    let row = vec!["release 65535"; 16].join(".");
     let places = vec!["65535/10000/65534/65535[]"; 63].join(" | ");
     format!("{} | {places}", vec![row; 64].join(" | ")).into_bytes()
 }
@@ -184,7 +190,7 @@ pub fn deep(depth: usize) -> Vec<Vec<u8>> {
 
 /// A text with one fault, or several: a byte changed, dropped, doubled or put in, two swapped, a piece doubled or cut out, or the end cut off.
 pub fn damaged(random: &mut Random, text: &[u8]) -> Vec<u8> {
-    const BYTES: &[u8] = b"0123456789[]/| .enterxiopls\n\r\0";
+    const BYTES: &[u8] = b"0123456789[]/| .enterxioplas\n\r\0";
     let mut text = text.to_vec();
     for _ in 0..random.pick(&[1, 1, 1, 2, 3]) {
         if text.is_empty() {
@@ -209,9 +215,9 @@ pub fn damaged(random: &mut Random, text: &[u8]) -> Vec<u8> {
 
 /// Any bytes, mostly such as texts are made of.
 pub fn wild(random: &mut Random) -> Vec<u8> {
-    const PIECES: [&str; 20] = [
-        "0", "7", "65535", "65536", "[", "]", "[]", "/", "7/7/7/7", " | ", " ", "|", ".", "enter ", "exit ", "open ", "enter 7", "\n",
-        "7[", "e",
+    const PIECES: [&str; 22] = [
+        "0", "7", "65535", "65536", "[", "]", "[]", "/", "7/7/7/7", " | ", " ", "|", ".", "enter ", "exit ", "open ", "release ",
+        "enter 7", "\n", "7[", "e", "r",
     ];
     if random.percent(20) {
         return (0..random.below(12)).map(|_| random.byte()).collect();
@@ -220,7 +226,7 @@ pub fn wild(random: &mut Random) -> Vec<u8> {
 }
 
 /// Small texts of which every truncation and every change of one byte is tried.
-pub const SMALL: [&str; 7] = [
+pub const SMALL: [&str; 8] = [
     "0",
     "7[]",
     "7[enter 9] | 9[exit 7]",
@@ -228,4 +234,5 @@ pub const SMALL: [&str; 7] = [
     "65535/0/65535/10[open 65535.exit 1 | 8[]] | 7/7/7/7[]",
     "6553[] | 65535[] | enter 6553.enter 65535 | 655[]",
     "exit 10.open 9.enter 100",
+    "release 10.open 9 | 7[release 65535.enter 1]",
 ];

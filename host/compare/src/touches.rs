@@ -51,16 +51,19 @@ pub fn set(bytes: &mut [u8; SIZE], place: usize, count: u64) {
 }
 
 /// Whether a step pooled touches: a number that went out of use had some. Whatever the counts of unused numbers are, a step leaves them
-/// alone, and a number that goes out of use has none.
+/// alone; a number that goes out of use has none, and neither has one that comes into use.
 pub fn pooled(before: &[u8; SIZE], after: &[u8; SIZE]) -> Result<bool, String> {
     if before[TOUCHES..ORDER] == after[TOUCHES..ORDER] {
         return Ok(false);
     }
     let (before, after) = (Table::read(before), Table::read(after));
-    for number in (0..64).filter(|&number| !after.used[number]) {
-        let right = if before.used[number] { 0 } else { before.touches[number] };
+    for number in (0..64).filter(|&number| !before.used[number] || !after.used[number]) {
+        let right = if before.used[number] || after.used[number] { 0 } else { before.touches[number] };
         if after.touches[number] != right {
-            return Err(format!("place {number} is not in use and has {} touches, not {right}", after.touches[number]));
+            return Err(format!(
+                "place {number} goes out of use, comes into it or is not in it, and has {} touches, not {right}",
+                after.touches[number]
+            ));
         }
     }
     Ok((0..64).any(|number| before.used[number] && !after.used[number] && before.touches[number] > 0))

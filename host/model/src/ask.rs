@@ -2,7 +2,8 @@
 
 use crate::cell::{Agent, Cell, Kind};
 use crate::choice::{choose, qualifying};
-use crate::step::{step, Stepped, Word};
+use crate::step::step;
+use crate::word::{Stepped, Word};
 use crate::ANSWER_DIFFERS;
 
 /// The chosen place that is told where there is none: "else 255".

@@ -3,12 +3,13 @@
 use crate::children::Children;
 use std::collections::BTreeMap;
 
-/// "An action is a kind (1 enter, 2 exit, 3 open)".
+/// "An action is a kind (1 enter, 2 exit, 3 open)"; document 02, W11: "Action kind 4, release n".
 #[derive(Clone, Copy, PartialEq, Eq, Debug)]
 pub enum Kind {
     Enter,
     Exit,
     Open,
+    Release,
 }
 
 /// "An action is a kind .. and a name." Document 02, W6, calls the name of an action its number.
@@ -47,7 +48,7 @@ pub struct Place {
 pub type Places = BTreeMap<u8, Place>;
 
 /// "An agent .. lives in one place, and carries a row of sixteen actions at most." What it remembers and has chosen is there only at
-/// the stages that use it.
+/// the stages that use it; document 02, W11: one that sleeps "on no place" remembers none.
 #[derive(Clone, PartialEq, Eq, Debug)]
 pub struct Agent {
     pub home: u8,
@@ -67,22 +68,24 @@ pub struct Cell {
 }
 
 impl Kind {
-    /// The kind with this number: "1 enter, 2 exit, 3 open".
+    /// The kind with this number: "1 enter, 2 exit, 3 open", and "kind 4, release".
     pub fn of(number: u8) -> Option<Kind> {
         match number {
             1 => Some(Kind::Enter),
             2 => Some(Kind::Exit),
             3 => Some(Kind::Open),
+            4 => Some(Kind::Release),
             _ => None,
         }
     }
 
-    /// The number of this kind: "1 enter, 2 exit, 3 open".
+    /// The number of this kind: "1 enter, 2 exit, 3 open", and "kind 4, release".
     pub fn number(self) -> u8 {
         match self {
             Kind::Enter => 1,
             Kind::Exit => 2,
             Kind::Open => 3,
+            Kind::Release => 4,
         }
     }
 }
@@ -100,18 +103,24 @@ impl Keys {
     }
 
     /// "An action's number is compared with the key of its kind": whether the place with these keys may be entered, left or opened by the
-    /// action.
+    /// action. A release enters, leaves and opens nothing.
     pub fn fit(self, action: Action) -> bool {
         let key = match action.kind {
             Kind::Enter => self.enter,
             Kind::Exit => self.exit,
             Kind::Open => self.open,
+            Kind::Release => None,
         };
         key == Some(action.name)
     }
 }
 
 impl Place {
+    /// The place that a release n puts into this one; document 02, W11: "a new place named n .. with no agents, touches 0 and all keys n".
+    pub fn fresh(name: u16, parent: u8) -> Place {
+        Place { name, keys: Keys::of([name; 3]), stands: Stands::Linked(parent), touches: 0 }
+    }
+
     /// The parent that the place is linked to, if it is linked.
     pub fn linked_to(&self) -> Option<u8> {
         match self.stands {

@@ -22,24 +22,26 @@ mod term;
 mod touch;
 mod walk;
 mod whereabouts;
+mod word;
 
 pub use alike::alike;
 pub use ask::{ask, commit, Asked, NONE_CHOSEN};
 pub use calculus::{make, permitted, Ambient, Move, Tree};
 pub use cell::{Action, Agent, Cell, Keys, Kind, Place, Places, Stands};
 pub use children::Children;
-pub use choice::{can_exit, choose, qualifying};
+pub use choice::{can_exit, choose, qualifying, smallest_unused};
 pub use file::{load, Refused};
 pub use listing::listing;
 pub use plain::Plain;
 pub use reading::{is_beginning, read, tree};
 pub use sound::{holds, sound};
-pub use step::{step, Stepped, Word};
-pub use table::{ActionRecord, AgentRecord, PlaceRecord, Table, SIZE};
+pub use step::step;
+pub use table::{ActionRecord, AgentRecord, PlaceRecord, Table, NO_PLACE, SIZE};
 pub use term::file_of;
 pub use touch::{touch, touch_sum, touches, MOST_TOUCHES};
 pub use walk::{typed_walk, walk};
 pub use whereabouts::{common, nearest};
+pub use word::{Stepped, Word};
 
 /// "cut short: a body incomplete, or no end record"
 pub const CUT_SHORT: u8 = 1;
@@ -54,7 +56,7 @@ pub const GIVEN_TWICE: u8 = 4;
 pub const NOT_YET_GIVEN: u8 = 5;
 /// "name 0 in a place or action"; a key may be 0 (document 02, W6: "0 means nobody may")
 pub const NAME_ZERO: u8 = 6;
-/// "action kind not 1 to 3"
+/// "action kind not 1 to 3"; document 02, W11: "Action kind 4 leaves the wrong kinds"
 pub const ACTION_KIND: u8 = 7;
 /// "seventeenth action"
 pub const SEVENTEENTH_ACTION: u8 = 8;

@@ -44,7 +44,7 @@ fn name(place: &Place) -> String {
     }
 }
 
-/// "An agent is its unused actions, such as `enter 9.exit 9`."
+/// "An agent is its unused actions, such as `enter 9.exit 9`." Document 02, W11: "the listing writes it `release 9`".
 fn actions(agent: &Agent) -> String {
     let mut text = String::new();
     for action in &agent.unused {
@@ -55,6 +55,7 @@ fn actions(agent: &Agent) -> String {
             Kind::Enter => "enter ",
             Kind::Exit => "exit ",
             Kind::Open => "open ",
+            Kind::Release => "release ",
         });
         text.push_str(&action.name.to_string());
     }

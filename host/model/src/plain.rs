@@ -2,15 +2,15 @@
 
 use crate::calculus::Tree;
 use crate::cell::{Action, Cell, Kind, Place, Places, Stands};
-use crate::choice::choose;
-use crate::step::Word;
+use crate::choice::{choose, smallest_unused};
+use crate::word::Word;
 use std::collections::BTreeMap;
 
 /// "It knows each place's name and where it stands, each agent's home and unused actions, which places travel, and a pick for each
 /// agent." A travelling place is kept as on its way to where it stands, any other as linked there. It knows of no touches (document 02, W3:
 /// "touch calls .., which the plain tree passes over"): each place's count is 0 here. W5: it "knows this order too, from the file and the
-/// words came and opened, and picks by it": `arrived` says for each place at which of all arrivals it came, `arrivals` how many there were.
-/// W6: it "keeps and compares keys as it does names".
+/// words came and opened, and picks by it": `arrived` says for each place at which of all arrivals it came, `arrivals` how many there were; a
+/// place that was put "is the latest of W5" (W11). W6: it "keeps and compares keys as it does names".
 #[derive(Clone, PartialEq, Eq, Debug)]
 pub struct Plain {
     pub places: Places,
@@ -50,6 +50,7 @@ impl Plain {
             Word::Left => self.left(agent),
             Word::Opened => self.opened(agent),
             Word::Came => self.came(agent),
+            Word::Put => self.put(agent),
             _ => {}
         }
     }
@@ -68,7 +69,7 @@ impl Plain {
         let (home, unused) = &self.agents[&agent];
         let action = *unused.first()?;
         let p = match action.kind {
-            Kind::Open => *home,
+            Kind::Open | Kind::Release => *home,
             Kind::Enter | Kind::Exit => self.places[home].around()?,
         };
         choose(&self.places, &self.standing_in(p), *home, p, action, wish)
@@ -120,6 +121,16 @@ impl Plain {
         self.arrives(home);
     }
 
+    /// Document 02, W11: "The plain tree .. takes one such move for each put, under the smallest number unused in it": `release n.P` becomes
+    /// `n[] | P`. "a put place is the latest of W5."
+    fn put(&mut self, agent: u8) {
+        let home = self.agents[&agent].0;
+        let name = self.use_up(agent).name;
+        let number = smallest_unused(&self.places).expect("a put has an unused number");
+        self.places.insert(number, Place::fresh(name, home));
+        self.arrives(number);
+    }
+
     /// "the action is used up".
     fn use_up(&mut self, agent: u8) -> Action {
         self.agents.get_mut(&agent).expect("the agent is in use").1.remove(0)
@@ -146,7 +157,7 @@ impl Plain {
     }
 
     /// An agent that holds both places picked what it chose there: a place for enter and open, none for exit. One on its way that has locked
-    /// since with an exit next, or with no action left, has no pick.
+    /// since with an exit or a release next, or with no action left, has no pick.
     pub fn same_picks(&self, cell: &Cell) -> bool {
         cell.agents.iter().all(|(number, agent)| {
             let pick = self.picks.get(number).copied();

@@ -111,9 +111,10 @@ fn name(text: &[u8]) -> Option<(Named, &[u8])> {
     (name > 0).then_some((Named { parent: 0, name, keys }, rest))
 }
 
-/// An agent and what follows it: its actions, "such as `enter 9.exit 9`".
+/// An agent and what follows it: its actions, "such as `enter 9.exit 9`"; document 02, W11: "`release 9`, the reader takes it".
 fn actions(text: &[u8]) -> Option<(Vec<Action>, &[u8])> {
-    const WORDS: [(&[u8], Kind); 3] = [(b"enter ", Kind::Enter), (b"exit ", Kind::Exit), (b"open ", Kind::Open)];
+    const WORDS: [(&[u8], Kind); 4] =
+        [(b"enter ", Kind::Enter), (b"exit ", Kind::Exit), (b"open ", Kind::Open), (b"release ", Kind::Release)];
     let mut actions = Vec::new();
     let mut rest = text;
     loop {
@@ -154,7 +155,7 @@ fn continued(text: &[u8]) -> usize {
 /// Whether some text of the language begins so. If any does, then one that ends soon: what was begun last, a word, a number, keys or a bar, is
 /// brought to its end, and the places that are still open are closed. All such endings are tried.
 pub fn is_beginning(text: &[u8]) -> bool {
-    const ENDINGS: [&str; 4] = ["enter 1", "exit 1", " | open 1", "/1/1/1[]"];
+    const ENDINGS: [&str; 5] = ["enter 1", "exit 1", "release 1", " | open 1", "/1/1/1[]"];
     let count = |bracket: u8| text.iter().filter(|&&byte| byte == bracket).count();
     let Some(open) = count(b'[').checked_sub(count(b']')) else { return false };
     let closing = "]".repeat(open);

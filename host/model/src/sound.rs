@@ -26,7 +26,8 @@ fn floor(table: &Table) -> bool {
     table.place(0).is_some_and(|floor| floor.name == 0 && floor.keys == [0; 3] && floor.parent == 0 && floor.way != 0)
 }
 
-/// "every parent, destination, home and remembered place is in use".
+/// "every parent, destination, home and remembered place is in use". Document 02, W11: asleep a release agent, "and no other agent, may remember no
+/// place".
 fn in_use(table: &Table) -> bool {
     let used = |number: u8| table.place(number).is_some();
     table.places_in_use().all(|(_, place)| used(place.parent))
@@ -97,14 +98,14 @@ pub fn holds(table: &Table, agent: &AgentRecord) -> Vec<u8> {
 }
 
 /// "an agent at stage 3 has its place, and for enter its chosen place too, linked under the held parent (open: its target linked under
-/// its home)".
+/// its home)". Document 02, W11: a release agent "is never at stage 3".
 fn stage_three(table: &Table) -> bool {
     let linked = |place: u8, parent: u8| place != 0 && table.place(place).is_some_and(|place| place.way == 0 && place.parent == parent);
     table.agents_in_use().filter(|(_, agent)| agent.stage == 3).all(|(_, agent)| match agent.next_kind() {
         Some(Kind::Enter) => linked(agent.home, agent.remembered) && linked(agent.chosen, agent.remembered),
         Some(Kind::Exit) => linked(agent.home, agent.remembered),
         Some(Kind::Open) => linked(agent.chosen, agent.home),
-        None => false,
+        Some(Kind::Release) | None => false,
     })
 }
 
@@ -120,11 +121,11 @@ fn actions_left(table: &Table) -> bool {
     })
 }
 
-/// "an opener at stages 1 to 3 remembers its home."
+/// "an opener at stages 1 to 3 remembers its home." Document 02, W11: "a release agent is held to the opener's rule".
 fn openers(table: &Table) -> bool {
     table
         .agents_in_use()
-        .filter(|(_, agent)| (1..=3).contains(&agent.stage) && agent.next_kind() == Some(Kind::Open))
+        .filter(|(_, agent)| (1..=3).contains(&agent.stage) && matches!(agent.next_kind(), Some(Kind::Open | Kind::Release)))
         .all(|(_, agent)| agent.remembered == agent.home)
 }
 

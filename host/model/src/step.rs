@@ -1,53 +1,9 @@
 //! One step: "The agent's stage, a number from 0 to 8, decides the step."
 
-use crate::cell::{Action, Agent, Cell, Kind, Stands};
-use crate::choice::{can_exit, choose, qualifying};
+use crate::cell::{Action, Agent, Cell, Kind, Place, Stands};
+use crate::choice::{can_exit, choose, qualifying, smallest_unused};
+use crate::word::{Stepped, Word};
 use crate::NO_SUCH_AGENT;
-
-/// The words that a step call answers.
-#[derive(Clone, Copy, PartialEq, Eq, Debug)]
-pub enum Word {
-    Looked,
-    Took,
-    Held,
-    Back,
-    Slept,
-    Left,
-    Came,
-    Opened,
-    Asleep,
-    Done,
-}
-
-/// "The answer is a word and how many agents the step woke".
-#[derive(Clone, Copy, PartialEq, Eq, Debug)]
-pub struct Stepped {
-    pub word: Word,
-    pub woken: usize,
-}
-
-impl Word {
-    /// The word as the paper writes it.
-    pub fn text(self) -> &'static str {
-        match self {
-            Word::Looked => "looked",
-            Word::Took => "took",
-            Word::Held => "held",
-            Word::Back => "back",
-            Word::Slept => "slept",
-            Word::Left => "left",
-            Word::Came => "came",
-            Word::Opened => "opened",
-            Word::Asleep => "asleep",
-            Word::Done => "done",
-        }
-    }
-
-    /// The answer of a step that wakes nobody.
-    fn alone(self) -> Stepped {
-        Stepped { word: self, woken: 0 }
-    }
-}
 
 /// "A call names an agent and a wish": one lock step of a sound cell, refused with 11 for "no such agent".
 pub fn step(cell: &mut Cell, agent: u8, wish: u8) -> Result<Stepped, u8> {
@@ -66,11 +22,11 @@ pub fn step(cell: &mut Cell, agent: u8, wish: u8) -> Result<Stepped, u8> {
 }
 
 /// "0 looking. Open: remember its own place; looked, stage 1. Enter or exit: remember the parent; looked, stage 1. With no linked
-/// parent: slept, stage 7 on its own place."
+/// parent: slept, stage 7 on its own place." Document 02, W11: a release "looks at its own place".
 fn looking(cell: &mut Cell, agent: u8) -> Stepped {
     let home = cell.agents[&agent].home;
     let remembered = match next_action(cell, agent).kind {
-        Kind::Open => Some(home),
+        Kind::Open | Kind::Release => Some(home),
         Kind::Enter | Kind::Exit => cell.places[&home].linked_to(),
     };
     match remembered {
@@ -97,11 +53,14 @@ fn found(cell: &mut Cell, agent: u8) -> Stepped {
 
 /// "2 holding p. Enter or exit, and its place is no longer linked to p: release, back, stage 0. If the action can't fire: release,
 /// slept, stage 7 on p. Otherwise lock the second place: took, stage 3, or held." "The second place is the agent's own for enter and
-/// exit, the chosen one for open."
+/// exit, the chosen one for open." Document 02, W11: of a release "the next step puts a new place".
 fn holding_one(cell: &mut Cell, agent: u8, wish: u8) -> Stepped {
     let p = remembered(cell, agent);
     let home = cell.agents[&agent].home;
     let action = next_action(cell, agent);
+    if action.kind == Kind::Release {
+        return put(cell, agent, action.name);
+    }
     if action.kind != Kind::Open && cell.places[&home].linked_to() != Some(p) {
         release(cell, agent);
         go_to(cell, agent, 0, None, None);
@@ -110,7 +69,7 @@ fn holding_one(cell: &mut Cell, agent: u8, wish: u8) -> Stepped {
     let chosen = choose(&cell.places, cell.children.under(p), home, p, action, wish);
     let fires = match action.kind {
         Kind::Exit => can_exit(&cell.places, p, action),
-        Kind::Enter | Kind::Open => chosen.is_some(),
+        _ => chosen.is_some(),
     };
     if !fires {
         release(cell, agent);
@@ -126,6 +85,24 @@ fn holding_one(cell: &mut Cell, agent: u8, wish: u8) -> Stepped {
     }
     go_to(cell, agent, 3, Some(p), chosen);
     Word::Took.alone()
+}
+
+/// Document 02, W11: the agent "puts a new place named n there, under the smallest unused number ..; it wakes those asleep on its own place,
+/// releases the lock and answers put, the action used up and the stage then as after opened. With all numbers in use it releases the lock and
+/// sleeps (slept, on no place)". "a put place is the latest of W5."
+fn put(cell: &mut Cell, agent: u8, name: u16) -> Stepped {
+    let home = cell.agents[&agent].home;
+    release(cell, agent);
+    let Some(number) = smallest_unused(&cell.places) else {
+        go_to(cell, agent, 7, None, None);
+        return Word::Slept.alone();
+    };
+    cell.places.insert(number, Place::fresh(name, home));
+    cell.children.comes(number, home);
+    let woken = wake(cell, &[home]);
+    use_up(cell, agent);
+    start_again(cell, agent);
+    Stepped { word: Word::Put, woken }
 }
 
 /// "3 holding both. If the action (on the chosen place) no longer fires: release both, back, stage 0."
@@ -168,7 +145,8 @@ fn leave(cell: &mut Cell, agent: u8, p: u8, destination: u8) -> Stepped {
 /// "Open: children and agents of the chosen place go to p, its number becomes unused, the moved agents that aren't done go to stage 0,
 /// a lock that one of them held at stage 2 being released; wake all asleep on p or on it, and set to stage 0 all that remembered it at
 /// stage 1; the action is used up; release both; opened." "The count of woken agents is of those that were at stage 7." Document 02, W3:
-/// "When a place is opened, its count is pooled into the place of the agent that opened it." W5: children freed "become the latest".
+/// "When a place is opened, its count is pooled into the place of the agent that opened it." W5: children freed "become the latest". W11: with all
+/// numbers in use a release agent sleeps on no place "until any opening, which wakes all such sleepers".
 fn open(cell: &mut Cell, agent: u8, p: u8, chosen: u8) -> Stepped {
     for place in cell.places.values_mut() {
         if place.stands == Stands::Linked(chosen) {
@@ -198,7 +176,7 @@ fn open(cell: &mut Cell, agent: u8, p: u8, chosen: u8) -> Stepped {
             go_to(cell, number, 0, None, None);
         }
     }
-    woken += wake(cell, &[p, chosen]);
+    woken += wake(cell, &[p, chosen]) + wake_from_no_place(cell);
     use_up(cell, agent);
     start_again(cell, agent);
     Stepped { word: Word::Opened, woken }
@@ -241,9 +219,19 @@ fn linking(cell: &mut Cell, agent: u8) -> Stepped {
 
 /// "Waking sets an agent to stage 0": wakes all asleep on one of these places and counts them.
 fn wake(cell: &mut Cell, places: &[u8]) -> usize {
+    wake_those(cell, |asleep_on| asleep_on.is_some_and(|place| places.contains(&place)))
+}
+
+/// Wakes all asleep on no place and counts them.
+fn wake_from_no_place(cell: &mut Cell) -> usize {
+    wake_those(cell, |asleep_on| asleep_on.is_none())
+}
+
+/// Wakes the sleepers for whom this is true of what they sleep on.
+fn wake_those(cell: &mut Cell, woken_on: impl Fn(Option<u8>) -> bool) -> usize {
     let mut woken = 0;
     for agent in cell.agents.values_mut() {
-        if agent.stage == 7 && agent.remembered.is_some_and(|place| places.contains(&place)) {
+        if agent.stage == 7 && woken_on(agent.remembered) {
             agent.stage = 0;
             agent.remembered = None;
             woken += 1;
@@ -252,7 +240,7 @@ fn wake(cell: &mut Cell, places: &[u8]) -> usize {
     woken
 }
 
-/// "After opened or came the agent is at stage 0, or 8 if no action is left".
+/// "After opened or came the agent is at stage 0, or 8 if no action is left"; after put "as after opened" (document 02, W11).
 fn start_again(cell: &mut Cell, agent: u8) {
     let stage = if cell.agents[&agent].unused.is_empty() { 8 } else { 0 };
     go_to(cell, agent, stage, None, None);

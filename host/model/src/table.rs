@@ -22,6 +22,8 @@ const SETS: usize = AGENTS + 64 * AGENT;
 const TOUCHES: usize = SETS + 8 + 8;
 /// Where the row starts.
 const ORDER: usize = TOUCHES + 64 * 8;
+/// What an agent's record has as the remembered place where it sleeps "on no place" (document 02, W11): a number that no place has.
+pub const NO_PLACE: u8 = 64;
 
 /// A place's record: its name, its keys for entering, exiting and opening; way 0 is linked to the parent, any other way is on its way to it;
 /// the floor has name 0, keys 0, parent 0 and a way other than 0.
@@ -76,9 +78,14 @@ impl AgentRecord {
         self.unused()?.first().and_then(|action| Kind::of(action.kind))
     }
 
-    /// "An agent remembers a place at stages 1 to 3 and 7".
+    /// "An agent remembers a place at stages 1 to 3 and 7", but for one that sleeps on no place.
     pub fn remembered_place(&self) -> Option<u8> {
-        matches!(self.stage, 1 | 2 | 3 | 7).then_some(self.remembered)
+        (matches!(self.stage, 1 | 2 | 3 | 7) && !self.sleeps_on_no_place()).then_some(self.remembered)
+    }
+
+    /// Document 02, W11: "asleep" a release agent, "and no other agent, may remember no place".
+    fn sleeps_on_no_place(&self) -> bool {
+        self.stage == 7 && self.next_kind() == Some(Kind::Release) && self.remembered == NO_PLACE
     }
 
     /// "and a chosen place at stage 3 of enter and open".

@@ -55,12 +55,13 @@ impl Writer<'_> {
         self.agents += 1;
         self.file.extend([2, number, home]);
         loop {
-            let kind = match self.text[self.at..] {
-                [b'e', b'n', ..] => 1,
-                [b'e', b'x', ..] => 2,
-                _ => 3,
+            let (kind, word) = match self.text[self.at..] {
+                [b'e', b'n', ..] => (1, "enter "),
+                [b'e', b'x', ..] => (2, "exit "),
+                [b'r', ..] => (4, "release "),
+                _ => (3, "open "),
             };
-            self.at += if kind == 1 { "enter ".len() } else { "exit ".len() };
+            self.at += word.len();
             let name = self.name();
             self.file.extend([3, number, kind, name[0], name[1]]);
             if self.text.get(self.at) != Some(&b'.') {

@@ -23,8 +23,10 @@ fn committed(cell: &mut Cell, agent: u8, wish: u8, asked: Asked) -> Result<Stepp
 }
 
 /// Every word.
-const WORDS: [Word; 10] =
-    [Word::Looked, Word::Took, Word::Held, Word::Back, Word::Slept, Word::Left, Word::Came, Word::Opened, Word::Asleep, Word::Done];
+const WORDS: [Word; 11] = {
+    use Word::*;
+    [Looked, Took, Held, Back, Slept, Left, Came, Opened, Put, Asleep, Done]
+};
 
 #[test]
 fn an_enter_at_each_stage() {
@@ -218,7 +220,7 @@ fn random_cell(seed: &mut u64) -> Cell {
         (1..=places).flat_map(|place| [1, place, below(seed, place.min(4) as u64) as u8, 1 + below(seed, 2) as u8, 0]).collect();
     for agent in 0..1 + below(seed, 6) as u8 {
         file.extend([2, agent, below(seed, places as u64 + 1) as u8]);
-        (0..below(seed, 8)).for_each(|_| file.extend([3, agent, 1 + below(seed, 3) as u8, 1 + below(seed, 2) as u8, 0]));
+        (0..below(seed, 8)).for_each(|_| file.extend([3, agent, 1 + below(seed, 4) as u8, 1 + below(seed, 2) as u8, 0]));
     }
     file.push(4);
     load(&file).expect("the file is accepted")

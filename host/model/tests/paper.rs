@@ -43,7 +43,8 @@ fn refused_files() {
     assert_eq!(refusal(&[1, 0, 0, 7, 0, 4]), (3, 0));
     assert_eq!(refusal(&[1, 1, 0, 7, 0, 1, 1, 1, 7, 0, 4]), (4, 5));
     assert_eq!(refusal(&[3, 0, 9, 0, 0, 4]), (5, 0));
-    assert_eq!(refusal(&[2, 0, 0, 3, 0, 4, 0, 0, 4]), (7, 3));
+    assert_eq!(refusal(&[2, 0, 0, 3, 0, 5, 0, 0, 4]), (7, 3));
+    assert_eq!(refusal(&[2, 0, 0, 3, 0, 4, 0, 0, 4]), (6, 3));
     assert_eq!(refusal(&[2, 0, 0, 3, 0, 3, 0, 0, 4]), (6, 3));
 }
 
@@ -141,7 +142,7 @@ fn the_longest_file_and_the_longest_listing() {
     for agent in 0..64 {
         file.extend([2, agent, 0]);
         for _ in 0..16 {
-            file.extend([3, agent, 1, 0xFF, 0xFF]);
+            file.extend([3, agent, 4, 0xFF, 0xFF]);
         }
     }
     for place in 0..64 {
@@ -149,7 +150,7 @@ fn the_longest_file_and_the_longest_listing() {
     }
     file.push(4);
     assert_eq!(file.len(), 6_390);
-    assert_eq!(listing(&load(&file).unwrap()).len(), 14_177);
+    assert_eq!(listing(&load(&file).unwrap()).len(), 16_225);
     // any record more is refused, and the longest one that can decide has eleven bytes
     file.pop();
     let records: [&[u8]; 5] =

@@ -63,7 +63,13 @@ fn the_offsets_of_a_text_outside_the_language() {
         ("exit", 4),
         ("e", 1),
         ("ex it 7", 2),
-        ("release 7", 0),
+        ("release", 7),
+        ("release 0", 8),
+        ("release  7", 8),
+        ("release 65536", 12),
+        ("relase 7", 3),
+        ("Release 7", 0),
+        ("put 7", 0),
         ("close 7", 0),
         ("7/", 2),
         ("7/7[]", 3),
@@ -88,7 +94,7 @@ fn the_offsets_of_a_text_outside_the_language() {
 #[test]
 fn the_first_byte_that_no_text_could_continue() {
     // every beginning of a text of the language is one, and no more than the text itself if a byte that fits nowhere follows
-    let text = "enter 10.exit 9 | 70/0/65535/10[open 1 | 8[7[]] | open 65535.open 2]";
+    let text = "enter 10.exit 9.release 3 | 70/0/65535/10[open 1 | 8[7[]] | release 65535.open 2]";
     assert!(tree(text.as_bytes()).is_some());
     for length in 0..text.len() {
         assert!(is_beginning(&text.as_bytes()[..length]));
@@ -110,7 +116,7 @@ fn short_texts(longest: usize) -> BTreeSet<String> {
     }
     heads.extend(keyed.into_iter().filter(|head| head.len() + "[]".len() <= longest));
     let mut parts: BTreeSet<String> = BTreeSet::new();
-    parts.extend(["open", "enter", "exit"].iter().flat_map(|word| names.iter().map(move |name| format!("{word} {name}"))));
+    parts.extend(["open", "enter", "exit", "release"].iter().flat_map(|word| names.iter().map(move |name| format!("{word} {name}"))));
     let mut contents: BTreeSet<String> = BTreeSet::from([String::new()]);
     loop {
         let fit = |one: &str, other: &str, more: usize| one.len() + other.len() + more <= longest;
@@ -136,8 +142,8 @@ fn short_texts(longest: usize) -> BTreeSet<String> {
 
 #[test]
 fn the_beginnings_of_all_short_texts() {
-    // each beginning of four bytes at most, such as `1[1/`, is ended within twelve bytes
-    let texts = short_texts(12);
+    // each beginning of four bytes at most, such as `11[r`, is ended within thirteen bytes
+    let texts = short_texts(13);
     assert!(texts.iter().all(|text| tree(text.as_bytes()).is_some()));
     let beginnings: BTreeSet<&str> = texts.iter().flat_map(|text| (0..=text.len()).map(|length| &text[..length])).collect();
     let mut row: Vec<Vec<u8>> = vec![vec![]];
@@ -151,7 +157,7 @@ fn the_beginnings_of_all_short_texts() {
                 assert_eq!(refusal(said), (16, longest), "{said:?}");
             }
         }
-        row = row.iter().flat_map(|text| b"01[]/ |openx".map(|byte| [&text[..], &[byte]].concat())).collect();
+        row = row.iter().flat_map(|text| b"01[]/ |openxrl".map(|byte| [&text[..], &[byte]].concat())).collect();
     }
 }
 
@@ -181,8 +187,8 @@ fn as_many_as_fit() {
     for text in [beside("7[]", 63), nested(63, ""), beside("open 7", 64), nested(63, &beside("open 7", 64)), vec!["exit 7"; 16].join(".")] {
         assert_eq!(listing(&cell(&text)), text);
     }
-    let full = format!("{} | {}", beside(&vec!["enter 65535"; 16].join("."), 64), beside("65535/10000/10000/10000[]", 63));
-    assert_eq!(full.len(), 14_177);
+    let full = format!("{} | {}", beside(&vec!["release 65535"; 16].join("."), 64), beside("65535/10000/10000/10000[]", 63));
+    assert_eq!(full.len(), 16_225);
     assert_eq!(listing(&cell(&full)), full);
 }
 
@@ -206,6 +212,7 @@ fn read_as_the_file_of_the_text_is_loaded() {
         "9/5/6/0[] | 7[enter 5.exit 6]",
         "open 258 | 7/7/7/258[1/0/0/0[exit 7] | 65535/1/65535/513[]]",
         "1[2[3[4[5[exit 4.exit 3.exit 2.exit 1]]]]]",
+        "release 1.open 258 | 7[enter 9.release 9 | release 7.release 65535]",
     ] {
         assert_eq!(cell(text), load(&file_of(text)).unwrap());
     }

@@ -162,7 +162,7 @@ fn random_cell(seed: &mut u64) -> Cell {
         places.push((number, given[below(seed, among) as usize], 1 + below(seed, 2) as u8));
         given.push(number);
     }
-    let row = |seed: &mut u64| (0..below(seed, 10)).map(|_| (1 + below(seed, 3) as u8, 1 + below(seed, 2) as u8)).collect::<Vec<_>>();
+    let row = |seed: &mut u64| (0..below(seed, 10)).map(|_| (1 + below(seed, 4) as u8, 1 + below(seed, 2) as u8)).collect::<Vec<_>>();
     let agents: Vec<_> = (0..1 + below(seed, 6)).map(|_| (given[below(seed, given.len() as u64) as usize], row(seed))).collect();
     let agents: Vec<(u8, &[(u8, u8)])> = agents.iter().map(|(home, row)| (*home, &row[..])).collect();
     cell(&places, &agents)

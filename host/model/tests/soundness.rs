@@ -1,6 +1,6 @@
 //! Each clause of "A table is sound when", broken once; and what soundness does not ask.
 
-use model::{file_of, load, sound, step, ActionRecord, AgentRecord, Cell, PlaceRecord, Stands, Table, SIZE};
+use model::{file_of, load, sound, step, ActionRecord, AgentRecord, Cell, PlaceRecord, Stands, Table, NO_PLACE, SIZE};
 
 /// The table that keeps a cell: unused numbers and fields hold zeros.
 fn table(cell: &Cell) -> Table {
@@ -21,7 +21,8 @@ fn table(cell: &Cell) -> Table {
         for (record, action) in actions.iter_mut().zip(&agent.unused) {
             *record = ActionRecord { kind: action.kind.number(), name: action.name };
         }
-        let (remembered, chosen) = (agent.remembered.unwrap_or(0), agent.chosen.unwrap_or(0));
+        let nowhere = if agent.stage == 7 { NO_PLACE } else { 0 };
+        let (remembered, chosen) = (agent.remembered.unwrap_or(nowhere), agent.chosen.unwrap_or(0));
         let count = agent.unused.len() as u8;
         table.agents[number as usize] = AgentRecord { home: agent.home, stage: agent.stage, remembered, chosen, next: 0, count, actions };
         table.given[number as usize] = true;
@@ -78,7 +79,8 @@ fn in_use() {
 fn in_range() {
     assert!(!stays(CELL, &[], |t| t.places[3].name = 0));
     assert!(!stays(CELL, &[], |t| t.agents[0].stage = 9));
-    assert!(!stays(CELL, &[], |t| t.agents[0].actions[0].kind = 4));
+    assert!(!stays(CELL, &[], |t| t.agents[0].actions[0].kind = 5));
+    assert!(stays(CELL, &[], |t| t.agents[0].actions[0].kind = 4));
     assert!(!stays(CELL, &[], |t| t.agents[2].actions[1].kind = 0));
     assert!(!stays(CELL, &[], |t| t.agents[2].actions[1].name = 0));
     assert!(!stays(CELL, &[], |t| t.agents[0].count = 17));
@@ -153,6 +155,54 @@ fn openers() {
     assert!(!stays(CELL, &[1], |t| t.agents[1].remembered = 0));
     assert!(stays(CELL, &[0], |t| t.agents[0].remembered = 3), "an enter agent at stage 1 may remember any place in use");
     assert!(stays(CELL, &[], |t| (t.agents[1].stage, t.agents[1].remembered) = (7, 3)), "a sleeper may sleep on any place in use");
+}
+
+/// Place 1 (named 7) is on the floor, place 2 (named 8) in place 1; agents 0 to 2 live in place 1.
+const RELEASE: &str = "7[release 9.exit 7 | open 8 | enter 9 | 8[]]";
+
+#[test]
+fn release_agents() {
+    // "held to the opener's rule": at stages 1 and 2 it remembers its home
+    for steps in 1..=2 {
+        for place in [0, 2, 3, 64] {
+            assert!(!stays(RELEASE, &vec![0; steps], |t| t.agents[0].remembered = place));
+        }
+        assert!(stays(RELEASE, &vec![0; steps], |t| t.agents[0].chosen = 200), "it chooses nothing");
+    }
+    assert!(!stays(RELEASE, &[0, 0], |t| t.locks[1] = 64));
+    assert!(!stays(RELEASE, &[0], |t| t.locks[1] = 0));
+    // "never at stage 3", whatever it holds
+    assert!(stays(RELEASE, &[1, 1, 1], |_| ()));
+    assert!(!stays(RELEASE, &[1, 1, 1], |t| t.agents[1].actions[0].kind = 4), "as an opener is");
+    assert!(!stays("9[7[exit 9]]", &[0, 0, 0], |t| t.agents[0].actions[0].kind = 4), "as an exit agent is");
+    assert!(!stays(RELEASE, &[0, 0], |t| (t.agents[0].stage, t.agents[0].chosen) = (3, 1)));
+    // on its way it may have a release next
+    assert!(stays("9[7[exit 9.release 9]]", &[0, 0, 0, 0], |_| ()));
+}
+
+#[test]
+fn asleep_on_no_place() {
+    let asleep = |agent: usize, remembered: u8| move |t: &mut Table| (t.agents[agent].stage, t.agents[agent].remembered) = (7, remembered);
+    assert!(stays(RELEASE, &[], asleep(0, 64)), "also while a number is unused");
+    for place in [0, 1, 2] {
+        assert!(stays(RELEASE, &[], asleep(0, place)), "it may remember any place in use");
+    }
+    for number in [3, 63, 65, 128, 255] {
+        assert!(!stays(RELEASE, &[], asleep(0, number)), "no place is 64 and nothing else");
+    }
+    for agent in [1, 2] {
+        assert!(!stays(RELEASE, &[], asleep(agent, 64)), "no other agent");
+    }
+    // its next action counts, not one that is used up or one after it
+    assert!(!stays(RELEASE, &[], |t| (t.agents[0].next, t.agents[0].stage, t.agents[0].remembered) = (1, 7, 64)));
+    assert!(!stays("7[exit 7.release 9]", &[], asleep(0, 64)));
+    // and asleep, not at another stage that remembers a place
+    for stage in [1, 2] {
+        assert!(!stays(RELEASE, &[], |t| (t.agents[0].stage, t.agents[0].remembered) = (stage, 64)));
+    }
+    let mut table = after(RELEASE, &[]);
+    asleep(0, 64)(&mut table);
+    assert_eq!(table.cell().expect("sound").agents[&0].remembered, None);
 }
 
 #[test]

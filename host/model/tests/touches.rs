@@ -131,7 +131,7 @@ fn random_file(seed: &mut u64) -> (Vec<u8>, u128) {
     for agent in 0..below(seed, 6) as u8 {
         file.extend([2, agent, below(seed, places as u64 + 1) as u8]);
         for _ in 0..below(seed, 8) {
-            file.extend([3, agent, [1, 2, 3, 3][below(seed, 4) as usize], 1 + below(seed, 2) as u8, 0]);
+            file.extend([3, agent, [1, 2, 3, 3, 4][below(seed, 5) as usize], 1 + below(seed, 2) as u8, 0]);
         }
     }
     file.push(4);

@@ -14,7 +14,8 @@ pub enum Word {
     Held,
     /// Its action no longer fires, or its place has moved: it gave its locks back and will look again.
     Back,
-    /// Its action cannot fire; it holds no lock and sleeps until another agent's step wakes it.
+    /// Its action cannot fire; it holds no lock and sleeps until another agent's step wakes it. A release that finds all 64 place numbers in use
+    /// sleeps on no place until any opening, which frees one.
     Slept,
     /// Its place left and is on its way; the action is used up.
     Left,
@@ -23,6 +24,9 @@ pub enum Word {
     /// It opened a place: what was inside stands in the agent's own place now, the opened place's touches are added to that place's, and its
     /// number is unused; the action is used up.
     Opened,
+    /// It put a new empty place into its own place, under the smallest number that was unused: one that an opening freed may come into use again.
+    /// The place has no touches, is named by the action's number, which is its three keys too, and is the latest there; the action is used up.
+    Put,
     /// It sleeps; nothing changed.
     Asleep,
     /// It has no action left; nothing changed.
@@ -52,6 +56,7 @@ impl Word {
             5 => Word::Left,
             6 => Word::Came,
             7 => Word::Opened,
+            8 => Word::Put,
             9 => Word::Asleep,
             10 => Word::Done,
             _ => Word::Unknown(number),
@@ -69,6 +74,7 @@ impl Word {
             Word::Left => 5,
             Word::Came => 6,
             Word::Opened => 7,
+            Word::Put => 8,
             Word::Asleep => 9,
             Word::Done => 10,
             Word::Unknown(number) => number,
@@ -86,6 +92,7 @@ impl Word {
             Word::Left => "left",
             Word::Came => "came",
             Word::Opened => "opened",
+            Word::Put => "put",
             Word::Asleep => "asleep",
             Word::Done => "done",
             Word::Unknown(_) => "unknown",
@@ -112,8 +119,8 @@ mod tests {
 
     #[test]
     fn every_number_has_a_word() {
-        assert!((0..=255).all(|number| (Word::of(number) == Word::Unknown(number)) == (number == 8 || number > 10)));
+        assert!((0..=255).all(|number| (Word::of(number) == Word::Unknown(number)) == (number > 10)));
         assert!((0..=255).all(|number| Word::of(number).number() == number));
-        assert_eq!(Word::of(8).name(), "unknown");
+        assert_eq!([8, 11].map(|number| Word::of(number).name()), ["put", "unknown"]);
     }
 }

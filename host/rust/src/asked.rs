@@ -54,7 +54,7 @@ impl Asked {
     }
 
     /// The place that an enter would enter or an open would open. It is told where the agent holds its first lock (stage 2) and its action fires,
-    /// also with [`Word::Held`], and where it holds both (stage 3) and its action still fires; not for an exit, nor at any other stage.
+    /// also with [`Word::Held`], and where it holds both (stage 3) and its action still fires; not for an exit or a release, nor at any other stage.
     pub fn chosen(self) -> Option<u8> {
         match (self.number >> 24) as u8 {
             Asked::NONE_CHOSEN => None,

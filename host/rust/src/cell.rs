@@ -35,7 +35,7 @@ impl Cell {
     /// |---|---|---|---|
     /// | 1 | 5 | a place, whose three keys are its name | number (1 to 63), parent (0 to 63), name (2 bytes, from 1 on) |
     /// | 2 | 3 | an agent | number (0 to 63), the place that it lives in (0 to 63) |
-    /// | 3 | 5 | an action, after the agent's earlier ones | agent, kind (1 enter, 2 exit, 3 open), its number (2 bytes, from 1 on) |
+    /// | 3 | 5 | an action, after the agent's earlier ones | agent, kind (1 enter, 2 exit, 3 open, 4 release), its number (2 bytes, from 1 on) |
     /// | 4 | 1 | the end, last | nothing |
     /// | 5 | 6 | the touches of a place, once for each | place (0 to 63), count (4 bytes) |
     /// | 6 | 11 | a place with its keys | number, parent, name (2 bytes), keys for entering, exiting and opening (2 bytes each) |
@@ -68,7 +68,7 @@ impl Cell {
     /// | `0` | a bare floor; a `0` stands for that alone, never inside a place |
     /// | `7[]` | a place named 7 with nothing in it |
     /// | `9[7[] \| 8[]]` | places in a place: parts side by side have a bar between them, with one space on each side of it |
-    /// | `7[enter 9.exit 9] \| 9[]` | an agent in place 7 with two actions, joined by a dot; the third kind is `open 9` |
+    /// | `7[enter 9.exit 9] \| 9[]` | an agent in place 7 with two actions, joined by a dot; the other kinds are `open 9` and `release 9` |
     /// | `20/20/20/0[]` | a place with its keys for entering, exiting and opening; left off, each of them is the name |
     ///
     /// Numbers are decimal without leading zeros: names and those of actions 1 to 65535, keys 0 to 65535. Parts may stand in any order. There are no

@@ -22,6 +22,9 @@ pub const ACTIONS: usize = 16;
 /// The lock of a place that no agent holds.
 pub const FREE: u8 = 64;
 
+/// What an agent remembers that sleeps on no place: one whose next action is a release and that found all place numbers in use.
+pub const NO_PLACE: u8 = 64;
+
 /// A name with its three keys. An action's number is compared with the key of its kind on the place entered, left or opened, and not with
 /// the name; a key of 0 fits no action, so that nobody may. In a cell file a place record of kind 1 sets all three keys to the name, one of
 /// kind 6 gives each of them.
@@ -54,12 +57,12 @@ pub struct Place {
 #[repr(C)]
 #[derive(Clone, Copy, PartialEq, Eq, Debug)]
 pub struct Action {
-    /// 1 enter, 2 exit, 3 open.
+    /// 1 enter, 2 exit, 3 open, 4 release.
     pub kind: u8,
     /// Means nothing: no answer depends on it, and what it holds after a call, a refused one too, is not promised.
     pub padding: u8,
     /// The number that the key of that kind must be on the place that it acts on, from 1 on; where the place has no keys of its own, that is
-    /// its name.
+    /// its name. Of a release, the name of the place that it puts, whose three keys are that name too.
     pub name: u16,
 }
 
@@ -71,7 +74,7 @@ pub struct Agent {
     pub home: u8,
     /// Its stage, 0 to 8.
     pub stage: u8,
-    /// The place that it remembers at stages 1 to 3 and 7.
+    /// The place that it remembers at stages 1 to 3 and 7; at stage 7, where its next action is a release, also [`NO_PLACE`].
     pub remembered: u8,
     /// The place that it has chosen, at stage 3 of enter and open.
     pub chosen: u8,

@@ -73,6 +73,13 @@
 //! let length = cell.list(&mut text)?;
 //! assert_eq!(&text[..length], b"9[7[]]");
 //!
+//! // A semaphore: the carrier 9 is acquired by opening it and released by putting out an empty one, here under the number that the opening freed.
+//! let mut cell = Cell::read("9[] | open 9.release 9")?;
+//! while cell.step(0, 255)?.word != Word::Put {}
+//! let length = cell.list(&mut text)?;
+//! assert_eq!(&text[..length], b"9[]");
+//! assert_eq!(cell.lent().used, 0b11);
+//!
 //! // Which bonder is it in: the nearest place named 20 around the capillary, place 3; and the place that holds both holders, 2 and 4.
 //! let cell = Cell::read("20[30[60[]] | 31[]] | 20[]")?;
 //! assert_eq!(cell.nearest(3, 20)?, Some(1));
@@ -115,7 +122,7 @@ pub use refusal::{Refusal, Refused};
 
 /// The version of the library that this crate was made for: the major number from bit 16 on, the minor one in bits 8 to 15, the patch in
 /// bits 0 to 7.
-pub const VERSION: u64 = 328_448;
+pub const VERSION: u64 = 393_216;
 
 /// The longest cell file that can be accepted.
 pub const FILE_LONGEST: usize = 6_390;
@@ -125,7 +132,7 @@ pub const FILE_DECIDING: usize = 6_400;
 
 /// The longest listing: with a text of this size, [`Cell::list`] is never refused with 12 (proved). No text that [`Cell::read`] accepts is
 /// longer (counted and not proved).
-pub const LISTING_LONGEST: usize = 14_177;
+pub const LISTING_LONGEST: usize = 16_225;
 
 /// The touches that the places in use may have together, at most.
 pub const TOUCHES_MOST: u64 = 1_000_000_000_000;

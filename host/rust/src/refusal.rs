@@ -24,7 +24,7 @@ pub enum Refusal {
     NotYetGiven,
     /// 6: name 0 in a place or action; a key may be 0. Use 1 to 65,535, and mind the low byte first.
     NameZero,
-    /// 7: an action kind that is not 1 (enter), 2 (exit) or 3 (open).
+    /// 7: an action kind that is not 1 (enter), 2 (exit), 3 (open) or 4 (release).
     ActionKind,
     /// 8: an agent's seventeenth action. A second agent of the same place can take the rest.
     SeventeenthAction,
@@ -155,7 +155,7 @@ impl Refusal {
             Refusal::GivenTwice => "number or touches given twice",
             Refusal::NotYetGiven => "not yet given, or not in use",
             Refusal::NameZero => "name 0 in a place or action",
-            Refusal::ActionKind => "action kind not 1 to 3",
+            Refusal::ActionKind => "action kind not 1 to 4",
             Refusal::SeventeenthAction => "seventeenth action",
             Refusal::AfterTheEnd => "bytes after the end record",
             Refusal::Unsound => "unsound table",

@@ -26,7 +26,7 @@ fn refused<T>(refusal: Refusal) -> Result<T, Refused> {
 }
 
 /// Every word, and two that do not exist.
-const WORDS: [Word; 12] = [
+const WORDS: [Word; 13] = [
     Word::Looked,
     Word::Took,
     Word::Held,
@@ -35,9 +35,10 @@ const WORDS: [Word; 12] = [
     Word::Left,
     Word::Came,
     Word::Opened,
+    Word::Put,
     Word::Asleep,
     Word::Done,
-    Word::Unknown(8),
+    Word::Unknown(11),
     Word::Unknown(255),
 ];
 
@@ -68,6 +69,8 @@ fn what_is_told_at_each_stage() {
     assert_eq!(committed(&mut after("9[7[exit 9]]", &[]), 0, 1, 8), exit, "for an exit no place is told");
     let open = [(Looked, None), (Took, None), (Took, Some(1)), (Opened, Some(1)), (Done, None)];
     assert_eq!(committed(&mut after("open 7 | 7[8[]]", &[]), 0, 255, 5), open);
+    let release = [(Looked, None), (Took, None), (Put, None), (Done, None)];
+    assert_eq!(committed(&mut after("release 7 | 7[]", &[]), 0, 1, 4), release, "for a release no place is told");
     let sleeps = [(Looked, None), (Took, None), (Slept, None), (Asleep, None)];
     assert_eq!(committed(&mut after("7[enter 7]", &[]), 0, 255, 4), sleeps);
     assert_eq!(committed(&mut after("open 9 | 7[]", &[]), 0, 1, 4), sleeps);
@@ -95,7 +98,7 @@ fn held_and_back() {
 #[test]
 fn every_word_goes_through() {
     use Word::*;
-    let rows: [(&str, &[u8], u8, Word, u8); 10] = [
+    let rows: [(&str, &[u8], u8, Word, u8); 11] = [
         ("7[enter 9] | 9[]", &[], 0, Looked, 0),
         ("7[enter 9] | 9[]", &[0, 0], 0, Took, 0),
         ("7[enter 9] | 9[exit 7]", &[0, 1, 0], 1, Held, 0),
@@ -104,6 +107,7 @@ fn every_word_goes_through() {
         ("7[enter 9] | 9[]", &[0, 0, 0], 0, Left, 0),
         ("7[enter 9] | 9[exit 7]", &[0, 1, 0, 1, 0, 0, 1, 1, 0, 0], 0, Came, 1),
         ("open 1 | 1[enter 9 | exit 9 | 2[exit 9]]", &[1, 1, 1, 2, 2, 2, 3, 3, 3, 0, 0, 0], 0, Opened, 3),
+        ("7[release 9 | open 9 | 8[enter 9]]", &[1, 1, 1, 2, 2, 2, 0, 0], 0, Put, 2),
         ("7[enter 7]", &[0, 0, 0], 0, Asleep, 0),
         ("7[enter 9] | 9[]", &[0; 7], 0, Done, 0),
     ];

@@ -41,7 +41,7 @@ fn refused_loads_leave_the_cell() {
     assert_eq!(cell.reload(&[2, 0, 0, 2, 0, 0, 4]), refused(Refusal::GivenTwice, 3));
     assert_eq!(cell.reload(&[1, 5, 5, 7, 0, 4]), refused(Refusal::NotYetGiven, 0));
     assert_eq!(cell.reload(&[1, 1, 0, 0, 0, 4]), refused(Refusal::NameZero, 0));
-    assert_eq!(cell.reload(&[2, 0, 0, 3, 0, 4, 7, 0, 4]), refused(Refusal::ActionKind, 3));
+    assert_eq!(cell.reload(&[2, 0, 0, 3, 0, 5, 7, 0, 4]), refused(Refusal::ActionKind, 3));
     let seventeen = [[2, 0, 0].as_slice(), &[3, 0, 1, 7, 0].repeat(17), &[4]].concat();
     assert_eq!(cell.reload(&seventeen), refused(Refusal::SeventeenthAction, 83));
     assert_eq!(cell.reload(&[4, 4]), refused(Refusal::AfterTheEnd, 1));

@@ -121,7 +121,7 @@ fn the_longest() {
     }
     for agent in 0..64 {
         file.extend([2, agent, 0]);
-        file.extend([3, agent, 1, 255, 255].repeat(16));
+        file.extend([3, agent, 4, 255, 255].repeat(16));
         file.extend([5, agent, 255, 255, 255, 255]);
     }
     file.push(4);

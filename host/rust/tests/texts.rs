@@ -35,7 +35,10 @@ fn outside_the_language() {
         ("7[]]", 3),
         ("enter 7.", 8),
         ("exit", 4),
-        ("release 7", 0),
+        ("release", 7),
+        ("release 0", 8),
+        ("relase 7", 3),
+        ("put 7", 0),
         ("7/7/7[]", 5),
         ("7/07/7/7[]", 3),
         ("7/7/7/65536[]", 10),
@@ -123,12 +126,13 @@ fn listed_and_read_again() {
     for (text, listing) in [
         ("9[] | 7/7/7/7[]", "7[] | 9[]"),
         ("7[] | 70[] | 7/1/1/1[] | open 9 | enter 9", "enter 9 | open 9 | 7/1/1/1[] | 70[] | 7[]"),
+        ("release 10 | open 9 | release 1.exit 1 | 7[release 1]", "open 9 | release 1.exit 1 | release 10 | 7[release 1]"),
         ("0", "0"),
     ] {
         assert_eq!(Cell::read(text).unwrap().listing().unwrap(), listing);
         assert_eq!(Cell::read(listing).unwrap().listing().unwrap(), listing);
     }
-    let agents = beside(&vec!["enter 65535"; 16].join("."), 64);
+    let agents = beside(&vec!["release 65535"; 16].join("."), 64);
     let longest = format!("{agents} | {}", beside("65535/10000/65535/10000[]", 63));
     assert_eq!(longest.len(), LISTING_LONGEST);
     assert_eq!(Cell::read(&longest).unwrap().listing().unwrap(), longest);

@@ -1,8 +1,8 @@
--- One test of the kind of its next action.
-use mathlib.Core.Path.{sym, ap, _∙_}
+-- Two tests of the kind of its next action.
+use mathlib.Core.Bool.{true, false}
 use borrow.Author.Needs.{needs}
 use borrow.Author.Tests.{eq-eqb, ne-eqb}
-use Rattle.table.specs.declared.Action.{Action}
+use Rattle.updates.specs.UpdateLaws.{kind-test}
 use Rattle.asking.proofs.told.Statement.{statement}
 use Rattle.asking.proofs.told.Tie as tie
 
@@ -11,5 +11,16 @@ told-spec =
     tie.close
     (tie.spec
     (λ c κs. search needs)
-    (λ c. rw (eq-eqb _ 2 (sym (ap (λ (x : Action). x .kind) (c .before .before .next-action .ensures)) ∙ c .if1 .taken)))
-    (λ c. rw (ne-eqb _ 2 (λ e. c .if1 .left (ap (λ (x : Action). x .kind) (c .before .before .next-action .ensures) ∙ e)))))
+    (λ c. rw (kind-test _ _ 1 true (c .before .before .next-action .ensures) (eq-eqb _ _ (c .if1 .taken))))
+    (λ c.
+    let t = c .before .before in
+    rw (
+      kind-test _ _ 1 false (t .before .before .next-action .ensures) (ne-eqb _ _ (t .if1 .left)),
+      kind-test _ _ 3 true (t .before .before .next-action .ensures) (eq-eqb _ _ (c .if2 .taken)),
+    ))
+    (λ c.
+    let t = c .before .before in
+    rw (
+      kind-test _ _ 1 false (t .before .before .next-action .ensures) (ne-eqb _ _ (t .if1 .left)),
+      kind-test _ _ 3 false (t .before .before .next-action .ensures) (ne-eqb _ _ (c .if2 .left)),
+    )))

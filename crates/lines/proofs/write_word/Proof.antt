@@ -21,6 +21,7 @@ write-word-spec =
     (λ c. search needs) (λ c. search needs) (λ c κs. search needs)
     (λ c. search needs) (λ c. search needs) (λ c κs. search needs)
     (λ c. search needs) (λ c. search needs) (λ c κs. search needs)
+    (λ c. search needs) (λ c. search needs) (λ c κs. search needs)
     -- in the arm of a word, what was written is its text
     (λ c. search needs) (λ c. rw (c .before .before .before .before .before .enum-told .given .1) (c .before .before .write-bytes .ensures))
     (λ c. search needs) (λ c. rw (c .before .before .before .before .before .enum-told2 .given .1) (c .before .before .write-bytes2 .ensures))
@@ -31,4 +32,5 @@ write-word-spec =
     (λ c. search needs) (λ c. rw (c .before .before .before .before .before .enum-told7 .given .1) (c .before .before .write-bytes7 .ensures))
     (λ c. search needs) (λ c. rw (c .before .before .before .before .before .enum-told8 .given .1) (c .before .before .write-bytes8 .ensures))
     (λ c. search needs) (λ c. rw (c .before .before .before .before .before .enum-told9 .given .1) (c .before .before .write-bytes9 .ensures))
-    (λ c. search needs) (λ c. rw (c .before .before .before .before .before .enum-told10 .given .1) (c .before .before .write-bytes10 .ensures)))
+    (λ c. search needs) (λ c. rw (c .before .before .before .before .before .enum-told10 .given .1) (c .before .before .write-bytes10 .ensures))
+    (λ c. search needs) (λ c. rw (c .before .before .before .before .before .enum-told11 .given .1) (c .before .before .write-bytes11 .ensures)))

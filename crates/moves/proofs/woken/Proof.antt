@@ -28,6 +28,8 @@ woken-spec =
     (λ c. search needs) (λ c κs. search needs)
     (λ c. search needs) (λ c κs. search needs) (λ c κs. search needs)
     (λ c. search needs) (λ c κs. search needs)
+    (λ c. search needs) (λ c κs. search needs)
     (λ c. rw (c .before .enum-told .given .1) (c .sleeping .ensures))
     returns-2
-    (λ c. rw (c .before .enum-told2 .given .1) (c .freed .ensures)))
+    (λ c. rw (c .before .enum-told2 .given .1) (c .freed .ensures))
+    (λ c. rw (c .before .enum-told3 .given .1) (c .sleeping3 .ensures)))

@@ -51,7 +51,8 @@ fn row(agent: &Agent) -> String {
         row.push_str(match action.kind {
             1 => "enter ",
             2 => "exit ",
-            _ => "open ",
+            3 => "open ",
+            _ => "release ",
         });
         row.push_str(&action.name.to_string());
     }

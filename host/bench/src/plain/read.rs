@@ -108,6 +108,10 @@ impl Reader<'_> {
                 self.expect(b"open ")?;
                 3
             }
+            Some(b'r') => {
+                self.expect(b"release ")?;
+                4
+            }
             _ => {
                 self.expect(b"e")?;
                 if self.next() == Some(b'n') {

@@ -4,6 +4,7 @@ use crate::cell::{has, Action, Agent, Cell, Name, MOST_TOUCHES, NONE};
 
 const EXIT: u8 = 2;
 const OPEN: u8 = 3;
+const RELEASE: u8 = 4;
 
 impl Agent {
     pub fn has_actions_left(&self) -> bool {
@@ -89,7 +90,7 @@ fn agent_fits(cell: &Cell, x: u8, held: &mut u64, going: &mut u64) -> bool {
     }
     for j in agent.next..agent.count {
         let action = agent.actions[j as usize];
-        if action.kind < 1 || action.kind > 3 || action.name == 0 {
+        if action.kind < 1 || action.kind > RELEASE || action.name == 0 {
             return false;
         }
     }
@@ -104,13 +105,16 @@ fn agent_fits(cell: &Cell, x: u8, held: &mut u64, going: &mut u64) -> bool {
     match agent.stage {
         0 => agent.has_actions_left(),
         1..=3 => {
-            if !agent.has_actions_left() || !has(cell.used, p) || (kind == OPEN && p != home) {
+            if !agent.has_actions_left() || !has(cell.used, p) || (kind >= OPEN && p != home) {
                 return false;
             }
             if agent.stage >= 2 && !holds(p) {
                 return false;
             }
             if agent.stage == 3 {
+                if kind == RELEASE {
+                    return false;
+                }
                 if kind != OPEN && !linked_to(cell, home, p) || kind != EXIT && !linked_to(cell, agent.chosen, p) {
                     return false;
                 }
@@ -125,7 +129,7 @@ fn agent_fits(cell: &Cell, x: u8, held: &mut u64, going: &mut u64) -> bool {
             *going |= 1 << home;
             (agent.stage < 5 || holds(home)) && (agent.stage < 6 || holds(cell.places[home as usize].parent))
         }
-        7 => agent.has_actions_left() && has(cell.used, p),
+        7 => agent.has_actions_left() && (has(cell.used, p) || kind == RELEASE && p == NONE),
         8 => !agent.has_actions_left(),
         _ => false,
     }

@@ -1,7 +1,7 @@
 //! One lock step of an agent, in place, on a table that is sound.
 
 use super::sound::{linked, linked_to};
-use crate::cell::{has, Action, Cell, Place, NONE};
+use crate::cell::{has, Action, Cell, Name, Place, NONE};
 
 /// The number of a word, and how many agents were woken.
 type Answer = (u64, u64);
@@ -14,12 +14,14 @@ const SLEPT: u64 = 4;
 const LEFT: u64 = 5;
 const CAME: u64 = 6;
 const OPENED: u64 = 7;
+const PUT: u64 = 8;
 const ASLEEP: u64 = 9;
 const DONE: u64 = 10;
 
 const ENTER: u8 = 1;
 const EXIT: u8 = 2;
 const OPEN: u8 = 3;
+const RELEASE: u8 = 4;
 
 /// What a step reads of its agent.
 struct Mind {
@@ -83,7 +85,7 @@ fn wake(cell: &mut Cell, on: [u8; 3]) -> u64 {
 }
 
 fn look(cell: &mut Cell, x: u8, agent: &Mind) -> Answer {
-    if agent.action.kind == OPEN {
+    if agent.action.kind == OPEN || agent.action.kind == RELEASE {
         stand(cell, x, (1, agent.home, 0));
         (LOOKED, 0)
     } else if linked(cell, agent.home) {
@@ -129,7 +131,7 @@ pub fn chosen(cell: &Cell, x: u8, wish: u8) -> u8 {
     let (home, p, action) = (agent.home, agent.remembered, agent.action());
     let none = 255;
     match agent.stage {
-        _ if action.kind == EXIT => none,
+        _ if action.kind == EXIT || action.kind == RELEASE => none,
         2 if action.kind == OPEN || linked_to(cell, home, p) => choose(cell, action, home, p, wish).unwrap_or(none),
         3 if fires(cell, action, home, p, agent.chosen) => agent.chosen,
         _ => none,
@@ -138,6 +140,9 @@ pub fn chosen(cell: &Cell, x: u8, wish: u8) -> u8 {
 
 fn hold(cell: &mut Cell, x: u8, agent: &Mind, wish: u8) -> Answer {
     let (home, p, action) = (agent.home, agent.remembered, agent.action);
+    if action.kind == RELEASE {
+        return put(cell, x, p, action.name);
+    }
     if action.kind != OPEN && !linked_to(cell, home, p) {
         cell.locks[p as usize] = NONE;
         stand(cell, x, (0, 0, 0));
@@ -153,6 +158,24 @@ fn hold(cell: &mut Cell, x: u8, agent: &Mind, wish: u8) -> Answer {
         (Some(_), EXIT) => take(cell, x, home, (3, p, 0)),
         (Some(q), _) => take(cell, x, q, (3, p, q)),
     }
+}
+
+/// Puts a new place into p, which is the agent's own, under the smallest unused number; with all in use the agent sleeps on no place.
+fn put(cell: &mut Cell, x: u8, p: u8, name: u16) -> Answer {
+    cell.locks[p as usize] = NONE;
+    let Some(q) = (0..64).find(|&q| !has(cell.used, q)) else {
+        stand(cell, x, (7, NONE, 0));
+        return (SLEPT, 0);
+    };
+    cell.places[q as usize] = Place { name: Name::plain(name), parent: p, way: 0 };
+    cell.locks[q as usize] = NONE;
+    cell.touches[q as usize] = 0;
+    cell.used |= 1 << q;
+    latest(cell, q);
+    let woken = wake(cell, [p; 3]);
+    cell.agents[x as usize].next += 1;
+    rest(cell, x);
+    (PUT, woken)
 }
 
 fn act(cell: &mut Cell, x: u8, agent: &Mind) -> Answer {
@@ -202,7 +225,7 @@ fn open(cell: &mut Cell, x: u8, p: u8, t: u8) -> Answer {
         if cell.agents[y as usize].home == t {
             cell.agents[y as usize].home = p;
             stand(cell, y, (if stage == 8 { 8 } else { 0 }, 0, 0));
-        } else if stage == 1 && remembered == t || stage == 7 && (remembered == p || remembered == t) {
+        } else if stage == 1 && remembered == t || stage == 7 && [p, t, NONE].contains(&remembered) {
             stand(cell, y, (0, 0, 0));
         }
         if stage == 7 && cell.agents[y as usize].stage == 0 {
@@ -233,15 +256,20 @@ fn open(cell: &mut Cell, x: u8, p: u8, t: u8) -> Answer {
     (OPENED, woken)
 }
 
+/// Place q goes to the end of the row.
+fn latest(cell: &mut Cell, q: u8) {
+    for at in 0..63 {
+        if cell.order[at] == q {
+            cell.order.swap(at, at + 1);
+        }
+    }
+}
+
 fn arrive(cell: &mut Cell, x: u8, home: u8) -> Answer {
     let destination = cell.places[home as usize].parent;
     let beyond = if linked(cell, destination) { cell.places[destination as usize].parent } else { destination };
     cell.places[home as usize].way = 0;
-    for at in 0..63 {
-        if cell.order[at] == home {
-            cell.order.swap(at, at + 1);
-        }
-    }
+    latest(cell, home);
     cell.locks[home as usize] = NONE;
     cell.locks[destination as usize] = NONE;
     let woken = wake(cell, [home, destination, beyond]);

@@ -1,7 +1,7 @@
 //! What a step would answer and which place it would choose, found without a change: the tests of the step, and a count of those it would wake.
 
 use super::sound::{linked, linked_to};
-use super::step::{choose, fires, next_action, Word, ENTER, EXIT, OPEN};
+use super::step::{choose, fires, next_action, Word, ENTER, EXIT, OPEN, RELEASE};
 use crate::cell::{members, Agent, Cell, NONE};
 
 /// No place is told.
@@ -12,7 +12,7 @@ pub fn told(cell: &Cell, x: u8, wish: u8) -> u64 {
     let agent = &cell.agents[x as usize];
     let home = agent.home;
     let (word, woken, chosen) = match agent.stage {
-        0 if next_action(agent).kind == OPEN || cell.places[home as usize].way == 0 => (Word::Looked, 0, NONE_CHOSEN),
+        0 if matches!(next_action(agent).kind, OPEN | RELEASE) || cell.places[home as usize].way == 0 => (Word::Looked, 0, NONE_CHOSEN),
         0 => (Word::Slept, 0, NONE_CHOSEN),
         1 => (lock(cell, agent.remembered), 0, NONE_CHOSEN),
         2 => holding_one(cell, agent, wish),
@@ -42,6 +42,10 @@ fn lock(cell: &Cell, q: u8) -> Word {
 
 fn holding_one(cell: &Cell, agent: &Agent, wish: u8) -> (Word, u32, u8) {
     let (home, p, action) = (agent.home, agent.remembered, next_action(agent));
+    if action.kind == RELEASE {
+        let full = cell.used == u64::MAX;
+        return if full { (Word::Slept, 0, NONE_CHOSEN) } else { (Word::Put, count(cell, |agent| agent.asleep_on(p)), NONE_CHOSEN) };
+    }
     if action.kind != OPEN && !linked_to(cell, home, p) {
         return (Word::Back, 0, NONE_CHOSEN);
     }
@@ -59,8 +63,7 @@ fn holding_both(cell: &Cell, agent: &Agent) -> (Word, u32, u8) {
         return (Word::Back, 0, NONE_CHOSEN);
     }
     if action.kind == OPEN {
-        let woken = count(cell, |agent| agent.asleep_on(p) || agent.asleep_on(chosen) || agent.stage == 7 && agent.home == chosen);
-        return (Word::Opened, woken, chosen);
+        return (Word::Opened, count(cell, |agent| agent.woken_by_opening(p, chosen)), chosen);
     }
     let woken = count(cell, |agent| agent.asleep_on(p) || agent.asleep_on(home));
     (Word::Left, woken, if action.kind == EXIT { NONE_CHOSEN } else { chosen })

@@ -153,7 +153,8 @@ impl Writer<'_> {
             match action.kind {
                 1 => self.bytes(b"enter "),
                 2 => self.bytes(b"exit "),
-                _ => self.bytes(b"open "),
+                3 => self.bytes(b"open "),
+                _ => self.bytes(b"release "),
             }
             self.number(action.name);
         }

@@ -109,7 +109,7 @@ fn action(cell: &Cell, agent: u8, action: Action) -> Result<Record, u8> {
     match () {
         _ if agent > 63 => Err(14),
         _ if !has(cell.given, agent) => Err(5),
-        _ if !matches!(action.kind, 1..=3) => Err(7),
+        _ if !matches!(action.kind, 1..=4) => Err(7),
         _ if action.name == 0 => Err(6),
         _ if cell.agents[agent as usize].count >= 16 => Err(8),
         _ => Ok(Record::Action { agent, action }),

@@ -124,7 +124,8 @@ fn agent(text: &[u8], mut at: usize, site: &mut Site) -> Result<usize, usize> {
             Some(b"en") => (b"enter ", 1),
             Some(b"ex") => (b"exit ", 2),
             Some(b"op") => (b"open ", 3),
-            _ => return Err(if matches!(text.get(at), Some(b'e' | b'o')) { at + 1 } else { at }),
+            Some(b"re") => (b"release ", 4),
+            _ => return Err(if matches!(text.get(at), Some(b'e' | b'o' | b'r')) { at + 1 } else { at }),
         };
         let name;
         (name, at) = number(text, expect(text, at, word)?)?;

@@ -29,18 +29,18 @@ impl Seen {
     /// Whether agent x is as it should be; what it holds and moves is noted.
     fn agent_fits(&mut self, cell: &Cell, x: u8, agent: &Agent) -> bool {
         let Some(unused) = agent.actions.get(agent.next as usize..agent.count as usize) else { return false };
-        if !has(cell.used, agent.home) || !unused.iter().fold(true, |fit, action| fit & matches!(action.kind, 1..=3) & (action.name != 0)) {
+        if !has(cell.used, agent.home) || !unused.iter().fold(true, |fit, action| fit & matches!(action.kind, 1..=4) & (action.name != 0)) {
             return false;
         }
         let kind = unused.first().map_or(0, |action| action.kind);
-        let remembers = has(cell.used, agent.remembered) && (kind != 3 || agent.remembered == agent.home);
+        let remembers = has(cell.used, agent.remembered) && (kind < 3 || agent.remembered == agent.home);
         match agent.stage {
             0 => kind != 0,
             1 => kind != 0 && remembers,
             2 => kind != 0 && remembers && self.holds(cell, x, agent.remembered),
             3 => {
                 let second = if kind == 3 { agent.chosen } else { agent.home };
-                kind != 0
+                matches!(kind, 1..=3)
                     && remembers
                     && (kind == 3 || linked_to(cell, agent.home, agent.remembered))
                     && (kind == 2 || linked_to(cell, agent.chosen, agent.remembered))
@@ -53,7 +53,7 @@ impl Seen {
                 let destination = cell.places[agent.home as usize].parent;
                 self.goes(agent.home) && self.holds(cell, x, agent.home) && self.holds(cell, x, destination)
             }
-            7 => kind != 0 && has(cell.used, agent.remembered),
+            7 => kind != 0 && (has(cell.used, agent.remembered) || kind == 4 && agent.remembered == NONE),
             8 => kind == 0,
             _ => false,
         }

@@ -1,7 +1,7 @@
 //! One lock step of an agent, in place, on a table that is sound.
 
 use super::sound::{linked, linked_to};
-use crate::cell::{has, members, Action, Agent, Cell, Place, NONE};
+use crate::cell::{has, members, Action, Agent, Cell, Name, Place, NONE};
 
 /// The word of an answer, with its number.
 #[derive(Clone, Copy)]
@@ -14,6 +14,7 @@ pub enum Word {
     Left = 5,
     Came = 6,
     Opened = 7,
+    Put = 8,
     Asleep = 9,
     Done = 10,
 }
@@ -24,6 +25,7 @@ type Answer = (Word, u32);
 pub const ENTER: u8 = 1;
 pub const EXIT: u8 = 2;
 pub const OPEN: u8 = 3;
+pub const RELEASE: u8 = 4;
 
 impl Agent {
     /// Sets the stage with the remembered and the chosen place, 0 where there is none.
@@ -38,6 +40,11 @@ impl Agent {
 
     pub fn asleep_on(&self, place: u8) -> bool {
         self.stage == 7 && self.remembered == place
+    }
+
+    /// Asleep on p, on t, in t, or on no place, while t is dissolved into p.
+    pub fn woken_by_opening(&self, p: u8, t: u8) -> bool {
+        self.stage == 7 && (self.home == t || [p, t, NONE].contains(&self.remembered))
     }
 }
 
@@ -101,7 +108,7 @@ fn wake(cell: &mut Cell, sleeps: impl Fn(&Agent) -> bool) -> u32 {
 fn look(cell: &mut Cell, x: u8) -> Answer {
     let agent = &mut cell.agents[x as usize];
     let (home, place) = (agent.home, &cell.places[agent.home as usize]);
-    if next_action(agent).kind == OPEN {
+    if matches!(next_action(agent).kind, OPEN | RELEASE) {
         agent.stand(1, home, 0);
         (Word::Looked, 0)
     } else if place.way == 0 {
@@ -144,6 +151,9 @@ pub fn choose(cell: &Cell, action: Action, home: u8, p: u8, wish: u8) -> Option<
 fn hold(cell: &mut Cell, x: u8, wish: u8) -> Answer {
     let agent = &cell.agents[x as usize];
     let (home, p, action) = (agent.home, agent.remembered, next_action(agent));
+    if action.kind == RELEASE {
+        return put(cell, x, p, action.name);
+    }
     if action.kind != OPEN && !linked_to(cell, home, p) {
         release(cell, p);
         cell.agents[x as usize].stand(0, 0, 0);
@@ -161,6 +171,26 @@ fn hold(cell: &mut Cell, x: u8, wish: u8) -> Answer {
             _ => take(cell, x, q, (3, p, q)),
         },
     }
+}
+
+/// Puts a new place into p, which is the agent's own, under the smallest unused number; with all in use the agent sleeps on no place.
+fn put(cell: &mut Cell, x: u8, p: u8, name: u16) -> Answer {
+    release(cell, p);
+    let q = cell.used.trailing_ones() as u8;
+    if q == NONE {
+        cell.agents[x as usize].stand(7, NONE, 0);
+        return (Word::Slept, 0);
+    }
+    cell.places[q as usize] = Place { name: Name::plain(name), parent: p, way: 0 };
+    cell.locks[q as usize] = NONE;
+    cell.touches[q as usize] = 0;
+    cell.used |= 1 << q;
+    latest(&mut cell.order, q);
+    let woken = wake(cell, |agent| agent.asleep_on(p));
+    let agent = &mut cell.agents[x as usize];
+    agent.next += 1;
+    agent.rest();
+    (Word::Put, woken)
 }
 
 fn act(cell: &mut Cell, x: u8) -> Answer {
@@ -205,6 +235,14 @@ fn later(order: &mut [u8; 64], set: u64) {
     }
 }
 
+/// Place q goes to the end of the row.
+fn latest(order: &mut [u8; 64], q: u8) {
+    if let Some(at) = order.iter().position(|&place| place == q) {
+        order.copy_within(at + 1.., at);
+        order[63] = q;
+    }
+}
+
 /// Dissolves place t into p, which is the agent's own; its touches are pooled there.
 fn open(cell: &mut Cell, x: u8, p: u8, t: u8) -> Answer {
     for q in members(cell.used) {
@@ -218,7 +256,7 @@ fn open(cell: &mut Cell, x: u8, p: u8, t: u8) -> Answer {
     }
     release(cell, p);
     release(cell, t);
-    let woken = wake(cell, |agent| agent.asleep_on(p) || agent.asleep_on(t) || agent.stage == 7 && agent.home == t);
+    let woken = wake(cell, |agent| agent.woken_by_opening(p, t));
     for y in members(cell.given) {
         let agent = &mut cell.agents[y as usize];
         if agent.home == t {
@@ -251,10 +289,7 @@ fn arrive(cell: &mut Cell, x: u8) -> Answer {
     let destination = cell.places[home as usize].parent;
     let beyond = if linked(cell, destination) { cell.places[destination as usize].parent } else { destination };
     cell.places[home as usize].way = 0;
-    if let Some(at) = cell.order.iter().position(|&q| q == home) {
-        cell.order.copy_within(at + 1.., at);
-        cell.order[63] = home;
-    }
+    latest(&mut cell.order, home);
     release(cell, home);
     release(cell, destination);
     let woken = wake(cell, |agent| agent.asleep_on(home) || agent.asleep_on(destination) || agent.asleep_on(beyond));

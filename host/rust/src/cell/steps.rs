@@ -9,8 +9,32 @@ impl Cell {
     /// One lock step of an agent. `wish` is the number of the place that an enter or open should choose where several qualify. It counts
     /// in the call in which the agent, holding its first lock, chooses. A wish for a place that does not qualify, or for none, such as 255,
     /// is passed over, and the qualifying place is chosen that has been under its parent longest: first in, first served. Loaded places count in
-    /// file order, or in that of the text; a place that comes is the latest, and so are those that an opening frees, in the order in which they stood. Which places
+    /// file order, or in that of the text; a place that comes or is put is the latest, and so are those that an opening frees, in the order in which they stood. Which places
     /// qualify, their keys say ([`lent::Name`](crate::lent::Name)).
+    ///
+    /// Place numbers are given again: an opening frees that of the opened place ([`Word::Opened`](crate::Word::Opened)), and a release puts its
+    /// place under the smallest number that is unused ([`Word::Put`](crate::Word::Put)). A host that keeps something by place number forgets it at
+    /// each of the first, and learns the number at each of the second: it is the lowest bit of `lent().used` that is 0 before the step.
+    ///
+    /// ```
+    /// use keeper::{Cell, Word};
+    ///
+    /// // A semaphore: agents 0 and 1 acquire carrier 9, place 1, by opening it, and release it by putting out an empty one.
+    /// let mut cell = Cell::read("9[] | open 9.release 9 | open 9.release 9")?;
+    /// while cell.step(0, 255)?.word != Word::Opened {}
+    /// while cell.step(1, 255)?.word != Word::Slept {}
+    /// let number = cell.lent().used.trailing_ones();
+    /// assert_eq!(number, 1, "the number that the opening freed");
+    /// let put = loop {
+    ///     let stepped = cell.step(0, 255)?;
+    ///     if stepped.word == Word::Put {
+    ///         break stepped;
+    ///     }
+    /// };
+    /// assert_eq!(put.woken, 1, "agent 1 looks for the carrier again");
+    /// assert_eq!((cell.lent().places[1].name.name, cell.touches(1)?), (9, 0));
+    /// # Ok::<(), keeper::Refused>(())
+    /// ```
     ///
     /// # Errors
     ///

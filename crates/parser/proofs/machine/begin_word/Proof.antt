@@ -6,4 +6,4 @@ use Rattle.parser.proofs.machine.begin_word.Tie as tie
 
 pub begin-word-spec : {M : Type 1} → statement M
 unfolding beginWord
-begin-word-spec = tie.close (tie.spec (λ c. search tests) (λ c. search tests) (λ c. search tests))
+begin-word-spec = tie.close (tie.spec (λ c. search tests) (λ c. search tests) (λ c. search tests) (λ c. search tests))

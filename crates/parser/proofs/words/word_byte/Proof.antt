@@ -16,11 +16,15 @@ returns-2 c = rw (c .before .before .match .keys2) (c .byte-of2 .ensures)
 
 returns-3 : tie.Need-returns-3
 unfolding kindText tab
-returns-3 c = search tests
+returns-3 c = rw (c .before .before .match .keys3) (c .byte-of3 .ensures)
+
+returns-4 : tie.Need-returns-4
+unfolding kindText tab
+returns-4 c = search tests
 
 pub word-byte-spec : {M : Type 1} → statement M
 word-byte-spec =
     tie.close
     (tie.spec
-    (λ c. search needs) (λ c κs. search needs) (λ c. search needs) (λ c κs. search needs) (λ c. search needs) (λ c κs. search needs) returns
-    returns-2 returns-3)
+    (λ c. search needs) (λ c κs. search needs) (λ c. search needs) (λ c κs. search needs) (λ c. search needs) (λ c κs. search needs)
+    (λ c. search needs) (λ c κs. search needs) returns returns-2 returns-3 returns-4)

@@ -9,7 +9,7 @@ use Rattle.sets.specs.declared.Set.{Set}
 use Rattle.table.specs.Cell.{hasAction, kindOf}
 use Rattle.table.specs.Sound.{actionsFit}
 use Rattle.table.specs.declared.Agent.{Agent}
-use Rattle.soundness.specs.Pass.{quietFits}
+use Rattle.soundness.specs.Pass.{remembersAt, quietFits}
 use Rattle.soundness.specs.Turn.{stillWith, busyWith}
 use Rattle.soundness.specs.TurnLaws.{glance-out, glance-row, glance-still, glance-busy}
 use Rattle.soundness.proofs.turns.glance.Statement.{statement}
@@ -62,7 +62,7 @@ returns-3 c =
     let r = k .before in
     let a = agent (home r) in
     c .still3 .ensures
-    ∙ ap stillWith (t .quiet-fits .ensures ∙ ap₂ (λ (b : Bool) (n : ℕ). quietFits (a .stage) (hasAction a) b (eqb (a .remembered) (a .home)) n) (k .has2 .ensures) (kind-is r))
+    ∙ ap stillWith (t .quiet-fits .ensures ∙ ap₂ (λ (b : Bool) (n : ℕ). quietFits (a .stage) (hasAction a) (remembersAt (a .stage) b (a .remembered) n) (eqb (a .remembered) (a .home)) n) (k .has2 .ensures) (kind-is r))
     ∙ sym (glance-still (used (home r)) a (home-in r) (row-fits r) (sym (t .before .before .before .before .is-quiet .ensures) ∙ t .before .before .before .if3 .taken))
 
 returns-4 : tie.Need-returns-4
