@@ -43,6 +43,9 @@
 **     answer = keeper_nearest(&cell, holder, name_of_bonders);
 **     if (keeper_refusal(answer) == 0 && keeper_found(answer) != KEEPER_NOWHERE)
 **         printf("the holder is in place %u\n", keeper_found(answer));
+**     answer = keeper_ceiling(&cell);
+**     if (keeper_refusal(answer) == 0)
+**         printf("at rest after %llu changes or sooner\n", (unsigned long long)keeper_most_changes(answer));
 **     answer = keeper_list(&cell, text, sizeof text);
 **     if (keeper_refusal(answer) == 0)
 **         printf("%.*s\n", (int)keeper_length(answer), (const char *)text);
@@ -57,7 +60,7 @@
 **   - A file or text lent together with a cell does not overlap it.
 **   - During the call no other thread writes what is lent, nor reads what the call may write. So calls on different cells may run at the same
 **     time; and on one cell those that only read it (keeper_ask, keeper_list, keeper_check, keeper_idle, keeper_touches, keeper_nearest,
-**     keeper_common), each with a text of its own.
+**     keeper_common, keeper_ceiling), each with a text of its own.
 **   - The stack has room for KEEPER_STACK bytes.
 */
 #ifndef KEEPER_H
@@ -79,7 +82,7 @@ extern "C" {
 ** call, a word, a refusal. The patch number changes with anything else.
 */
 #define KEEPER_MAJOR 6
-#define KEEPER_MINOR 0
+#define KEEPER_MINOR 1
 #define KEEPER_PATCH 0
 #define KEEPER_VERSION (KEEPER_MAJOR * 65536 + KEEPER_MINOR * 256 + KEEPER_PATCH)
 
@@ -250,11 +253,12 @@ enum {
 };
 
 /*
-** What a call answers, in one number: bits 0 to 7 are 0, or the number with which the call was refused. The bits above are, for
-** keeper_load and keeper_read, the offset of a refusal; for keeper_step and keeper_commit, the word (bits 8 to 15) and the number woken (bits
-** 16 to 23); for keeper_ask, these two and the chosen place (bits 24 to 31); for keeper_list, the length; for keeper_idle, 1 if all agents
-** are asleep or done; for keeper_touch and keeper_touches, the place's touch count; for keeper_nearest and keeper_common, the place that was
-** found (bits 8 to 15). Where nothing is named, a bit is 0. The functions at the end of this file take it apart.
+** What a call answers, in one number: bits 0 to 7 are 0, or the number with which the call was refused. The bits above are, for keeper_load
+** and keeper_read, the offset of a refusal; for keeper_step and keeper_commit, the word (bits 8 to 15) and the number woken (bits 16 to 23);
+** for keeper_ask, these two and the chosen place (bits 24 to 31); for keeper_list, the length; for keeper_idle, 1 if all agents are asleep or
+** done; for keeper_touch and keeper_touches, the place's touch count; for keeper_nearest and keeper_common, the place that was found (bits 8
+** to 15); for keeper_ceiling, how many step calls can still change the cell. Where nothing is named, a bit is 0. The functions at the end of
+** this file take it apart.
 */
 typedef uint64_t keeper_answer;
 
@@ -444,6 +448,31 @@ keeper_answer keeper_check(const keeper_cell *cell);
 keeper_answer keeper_idle(const keeper_cell *cell);
 
 /*
+** keeper_ceiling: how many step calls can still change the cell, at most. No order churns forever: of all the calls of keeper_step from here on,
+** with any agents and wishes in any order, and of keeper_commit, no more than this number change the cell. Every other one is refused or answers
+** held, asleep or done. Touch calls may come between and count for nothing here.
+**
+** For a dispatcher it says when waiting may stop:
+**
+**     uint64_t most = keeper_most_changes(keeper_ceiling(&cell));  right after the load
+**     for each call that answers none of held, asleep, done        and is not refused
+**         changes++                                                it changed the cell: changes is never more than most
+**     if changes is most                                           all agents are asleep or done, and stay so
+**
+** and a dispatcher that gives every agent a turn, round after round, has all of them asleep or done after `most` rounds at the latest, since in each
+** round before that some step changes the cell. Mostly rest comes far sooner, and keeper_idle tells when.
+**
+** With G agents in the cell, done ones too, and M the sum of 2 for each unused action and 1 for each agent on its way (stages 4 to 6), the number is
+** 5 * G * (M + 1) + M. So of a cell that was just loaded or read, with A actions in all, it is 5 * G * (2 * A + 1) + 2 * A: 54 of the two agents with
+** one action each in `7[enter 9] | 9[exit 7]`, 657728 of the fullest cell, and 0 exactly where there are no agents. A step that answers left or came
+** lowers it by 5 * G + 1, one that answers opened or put by twice that, and no other call but a load or a reading changes it. It is proved
+** (crate ceiling); it is a ceiling and no forecast.
+**
+** Answers the number in keeper_most_changes(answer): it stands in bits 8 and up. Refused with 10 where the table is unsound. The cell is only read.
+*/
+keeper_answer keeper_ceiling(const keeper_cell *cell);
+
+/*
 ** keeper_touch: adds `number` to the touch count of a place, such as the touch-downs of a capillary since the last call. The count stays
 ** with the place wherever it goes; a place that a step puts starts with 0, whatever its number counted before. The sum over all places in use
 ** is what the file gave and the calls have added since, whatever steps were made.
@@ -520,6 +549,9 @@ static inline uint64_t keeper_count(keeper_answer answer) { return answer >> 8; 
 
 /* The place that keeper_nearest or keeper_common found; of keeper_nearest also KEEPER_NOWHERE. */
 static inline unsigned keeper_found(keeper_answer answer) { return (unsigned)(answer >> 8 & 255); }
+
+/* How many step calls can still change the cell, at most, as keeper_ceiling answers it. */
+static inline uint64_t keeper_most_changes(keeper_answer answer) { return answer >> 8; }
 
 /* The word's name, as `walk` prints it; "unknown" for a number that is no word. */
 static inline const char *keeper_word_name(unsigned word)

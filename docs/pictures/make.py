@@ -8,6 +8,7 @@ import sys
 sys.dont_write_bytecode = True
 
 from drawing import (EDGE, FILL, INK, LINE, LOCK_0, LOCK_1, SOFT, WAY_EDGE, WAY_FILL, Svg, agent, panels, place, spent)
+from ceiling import ceiling
 from release import release, semaphore
 from railroad import Again, Box, Either, Row, Skip, tracks
 from timeline import asking
@@ -289,5 +290,5 @@ def language():
 
 if __name__ == "__main__":
     for draw in (cell, stages, enter, exit_, open_, release, semaphore, touches, served, layouts, language, rights, example_trees, example_held, example_locks, slips,
-                 asking, where):
+                 asking, where, ceiling):
         draw()

@@ -147,7 +147,7 @@ static void unsound(keeper_cell *cell)
     memset(cell, 0xFF, sizeof *cell);
     memcpy(&before, cell, sizeof before);
     HOLDS(keeper_check(cell) == KEEPER_UNSOUND);
-    HOLDS(keeper_idle(cell) == KEEPER_UNSOUND);
+    HOLDS(keeper_idle(cell) == KEEPER_UNSOUND && keeper_ceiling(cell) == KEEPER_UNSOUND);
     HOLDS(keeper_step(cell, 64, 0) == KEEPER_UNSOUND);
     HOLDS(keeper_ask(cell, 64, 0) == KEEPER_UNSOUND && keeper_commit(cell, 64, 0, UINT64_MAX) == KEEPER_UNSOUND);
     HOLDS(keeper_touch(cell, 64, 1) == KEEPER_UNSOUND && keeper_touches(cell, 64) == KEEPER_UNSOUND);

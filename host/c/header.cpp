@@ -40,7 +40,9 @@ int main()
         return 1;
     if (keeper_found(keeper_nearest(&cell, 2, 7)) != KEEPER_NOWHERE || keeper_found(keeper_common(&cell, 1, 2)) != 1)
         return 1;
-    if (keeper_read(&cell, reinterpret_cast<const uint8_t *>("release 9"), 9) != 0 || keeper_step(&cell, 0, 255) != 0)
+    if (keeper_read(&cell, reinterpret_cast<const uint8_t *>("release 9"), 9) != 0 || keeper_most_changes(keeper_ceiling(&cell)) != 17)
+        return 1;
+    if (keeper_step(&cell, 0, 255) != 0)
         return 1;
     if (keeper_word(keeper_step(&cell, 0, 255)) != KEEPER_TOOK || keeper_word(keeper_step(&cell, 0, 255)) != KEEPER_PUT || cell.used != 3)
         return 1;

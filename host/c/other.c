@@ -25,3 +25,4 @@ keeper_answer keeper_touch(keeper_cell *cell, uint8_t place, uint32_t number) { 
 keeper_answer keeper_touches(const keeper_cell *cell, uint8_t place) { (void)cell, (void)place, abort(); }
 keeper_answer keeper_nearest(const keeper_cell *cell, uint8_t place, uint16_t name) { (void)cell, (void)place, (void)name, abort(); }
 keeper_answer keeper_common(const keeper_cell *cell, uint8_t place, uint8_t other) { (void)cell, (void)place, (void)other, abort(); }
+keeper_answer keeper_ceiling(const keeper_cell *cell) { (void)cell, abort(); }

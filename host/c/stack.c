@@ -16,7 +16,7 @@
 
 #define ROOM (1024 * 1024)
 #define PATTERN 0xA5
-#define CALLS 14
+#define CALLS 15
 #define STEPPING 3 /* the last ones: ask, commit and step */
 
 static keeper_cell cell;
@@ -37,6 +37,7 @@ static void list(void) { keeper_list(&cell, text, sizeof text); }
 static void list_short(void) { keeper_list(&cell, text, sizeof text - 1); }
 static void check(void) { keeper_check(&cell); }
 static void idle(void) { keeper_idle(&cell); }
+static void ceiling(void) { keeper_ceiling(&cell); }
 static void touch(void) { keeper_touch(&cell, agent, 1); }
 static void touches(void) { keeper_touches(&cell, agent); }
 static void nearest(void) { keeper_nearest(&cell, agent, 0); }
@@ -115,10 +116,10 @@ static void make_file(int shape, uint8_t kind)
 int main(void)
 {
     size_t used[CALLS] = {0};
-    void (*const calls[CALLS])(void) = {bare,  load,    check,   idle,   list, list_short, read,
-                                        touch, touches, nearest, common, ask,  commit,     step};
-    const char *const names[CALLS] = {"bare",  "load",    "check",   "idle",   "list", "list in a short room", "read",
-                                      "touch", "touches", "nearest", "common", "ask",  "commit",               "step"};
+    void (*const calls[CALLS])(void) = {bare,  load,    check,   idle,   ceiling, list,   list_short, read,
+                                        touch, touches, nearest, common, ask,     commit, step};
+    const char *const names[CALLS] = {"bare",  "load",    "check",   "idle",   "ceiling", "list",   "list in a short room", "read",
+                                      "touch", "touches", "nearest", "common", "ask",     "commit", "step"};
     size_t most = 0;
 
     if (!keeper_fits())

@@ -25,6 +25,7 @@ use Rattle.meaning.specs.declared.Stepped.{Stepped}
 use Rattle.meaning.specs.declared.Touching.the-variants.{Untouched}
 use Rattle.meaning.specs.declared.Checked.the-variants.{Unsound}
 use Rattle.meaning.specs.declared.Idled.the-variants.{Unknown}
+use Rattle.meaning.specs.declared.Limit.the-variants.{Uncounted}
 use Rattle.meaning.specs.Refusals.{placeTooLarge, notYetGiven, unsoundTable, noSuchAgent, tooLong, tooManyTouches}
 use Rattle.meaning.specs.File.{Load, accepted, refused, load, loaded, loadOf}
 use Rattle.meaning.specs.FileLaws.{refused-keeps}
@@ -32,13 +33,14 @@ use Rattle.meaning.specs.Run.{made, turnedAway, stepOf}
 use Rattle.meaning.specs.Touch.{counted, untouched, touchOf, touchesOf}
 use Rattle.meaning.specs.Listing.{listing, listAnswer, listBuffer}
 use Rattle.meaning.specs.Codes.{checkOf, idleOf}
+use Rattle.meaning.specs.Limit.{ceilingOf}
 use Rattle.meaning.specs.AskLaws.{ask-unsound, ask-unknown, commit-unsound, commit-unknown}
 use Rattle.meaning.specs.WhereLaws.{nearest-unsound, nearest-large, nearest-unused, common-unsound, common-large, common-unused}
 use Rattle.language.specs.Read.{readText, readOf}
 use Rattle.language.specs.Answers.{read-outside}
-use Rattle.demands.specs.Refusals.{KeeperCall, step-call, list-call, touch-call, touches-call, check-call, idle-call, mayAnswer, Lent, before, after, RefusedRightly}
-use Rattle.demands.specs.Refusals.{Refuses, load-refused, read-refused, step-refused, list-refused, touch-refused, touches-refused, check-refused, idle-refused}
-use Rattle.demands.specs.Refusals.{Grounds, in-the-file, read-16, read-17, step-10, step-11, list-10, list-12, check-10, idle-10}
+use Rattle.demands.specs.Refusals.{KeeperCall, step-call, list-call, touch-call, touches-call, check-call, idle-call, ceiling-call, mayAnswer, Lent, before, after, RefusedRightly}
+use Rattle.demands.specs.Refusals.{Refuses, load-refused, read-refused, step-refused, list-refused, touch-refused, touches-refused, check-refused, idle-refused, ceiling-refused}
+use Rattle.demands.specs.Refusals.{Grounds, in-the-file, read-16, read-17, step-10, step-11, list-10, list-12, check-10, idle-10, ceiling-10}
 use Rattle.demands.specs.Refusals.{ask-refused, commit-refused, ask-10, ask-11, commit-10, commit-11, commit-18}
 use Rattle.demands.specs.Refusals.{touch-10, touch-3, touch-5, touch-15, touches-10, touches-3, touches-5}
 use Rattle.demands.specs.Refusals.{nearest-refused, common-refused, nearest-10, nearest-3, nearest-5, common-10, common-3, common-5}
@@ -59,7 +61,7 @@ load-grounds t (refused n o) number offset e = cc
 
 -- from the answer to the condition
 refused-grounds : {k : KeeperCall} {number offset : ℕ} → Refuses k number offset → Grounds k number offset
-unfolding loadOf readOf stepOf made turnedAway listAnswer touchOf counted untouched touchesOf checkOf idleOf
+unfolding loadOf readOf stepOf made turnedAway listAnswer touchOf counted untouched touchesOf checkOf idleOf ceilingOf
 refused-grounds (load-refused {t} {file} {number} {offset} e) =
     in-the-file (refused-by-fault file number offset .0 (load-grounds t (load file) number offset e))
 refused-grounds (read-refused {t} {text} {number} {offset} e) = reading-grounds t text number offset (load-grounds t (readText text) number offset e)
@@ -108,6 +110,11 @@ refused-grounds (idle-refused {t} {number} e) = go (told (sound (cellOf t))) (to
     go (yea s) (yea i) = let f = rw (s, i) at e in never (cc)
     go (yea s) (nay i) = let f = rw (s, i) at e in never (cc)
     go (nay s) _ = let f = rw s at e in let z : unsoundTable ≡ number = cc in of z (idle-10 s)
+refused-grounds (ceiling-refused {t} {number} e) = go (told (sound (cellOf t)))
+  where
+    go : Told (sound (cellOf t)) → Grounds (ceiling-call t) number 0
+    go (yea s) = let f = rw s at e in never (cc)
+    go (nay s) = let f = rw s at e in let z : unsoundTable ≡ number = cc in of z (ceiling-10 s)
 
 -- what a step call or a commit answers, and what it leaves of what a host lent
 abbrev answers : Stepped → Answer
@@ -118,7 +125,7 @@ leaves r = record { table = r .cell; bytes = [] }
 
 -- and from the condition to the answer
 grounds-refused : {k : KeeperCall} {number offset : ℕ} → Grounds k number offset → Refuses k number offset
-unfolding loadOf readOf loaded stepOf turnedAway listAnswer touchOf untouched touchesOf checkOf idleOf
+unfolding loadOf readOf loaded stepOf turnedAway listAnswer touchOf untouched touchesOf checkOf idleOf ceilingOf
 grounds-refused (in-the-file {t} {file} {number} {offset} f) = load-refused (ap (λ (l : Load). loaded t l .verdict) (refused-by-fault file number offset .1 f))
 grounds-refused (read-16 {t} {text} {offset} b l) = read-refused (ap (λ (r : Load). loaded t r .verdict) (read-outside text offset b l))
 grounds-refused (read-17 {t} {text} c q f) = read-refused (ap (λ (r : Load). loaded t r .verdict) (overfull-text text c q f))
@@ -153,6 +160,7 @@ grounds-refused (common-3 {t} {place} {other} s l) = common-refused (common-larg
 grounds-refused (common-5 {t} {place} {other} s l m u) = common-refused (common-unused t place other s l m u)
 grounds-refused (check-10 {t} s) = let e : checkOf t ≡ Unsound unsoundTable = rw s in check-refused e
 grounds-refused (idle-10 {t} s) = let e : idleOf t ≡ Unknown unsoundTable = rw s in idle-refused e
+grounds-refused (ceiling-10 {t} s) = let e : ceilingOf t ≡ Uncounted unsoundTable = rw s in ceiling-refused e
 
 -- ---- what follows from the condition
 
@@ -184,6 +192,7 @@ grounds-number (common-3 s l) = refl
 grounds-number (common-5 s l m u) = refl
 grounds-number (check-10 s) = refl
 grounds-number (idle-10 s) = refl
+grounds-number (ceiling-10 s) = refl
 
 grounds-within : {k : KeeperCall} {number offset : ℕ} → Grounds k number offset → offset ≤ length (before k .bytes)
 grounds-within (in-the-file f) = fault-within f
@@ -213,6 +222,7 @@ grounds-within (common-3 s l) = zero-le
 grounds-within (common-5 s l m u) = zero-le
 grounds-within (check-10 s) = zero-le
 grounds-within (idle-10 s) = zero-le
+grounds-within (ceiling-10 s) = zero-le
 
 grounds-keep : {k : KeeperCall} {number offset : ℕ} → Grounds k number offset → after k ≡ before k
 unfolding readOf loaded stepOf turnedAway listBuffer touchOf untouched
@@ -243,6 +253,7 @@ grounds-keep (common-3 s l) = refl
 grounds-keep (common-5 s l m u) = refl
 grounds-keep (check-10 s) = refl
 grounds-keep (idle-10 s) = refl
+grounds-keep (ceiling-10 s) = refl
 
 -- demand 1
 pub demand-one : (k : KeeperCall) → RefusedRightly k

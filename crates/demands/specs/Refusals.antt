@@ -19,6 +19,7 @@ use Rattle.meaning.specs.declared.Touching.the-variants.{Untouched}
 use Rattle.meaning.specs.declared.Found.the-variants.{Unfound}
 use Rattle.meaning.specs.declared.Checked.the-variants.{Unsound}
 use Rattle.meaning.specs.declared.Idled.the-variants.{Unknown}
+use Rattle.meaning.specs.declared.Limit.the-variants.{Uncounted}
 use Rattle.meaning.specs.Refusals.{cutShort, afterEnd, placeTooLarge, notYetGiven, parentTooLarge, agentTooLarge, unsoundTable, noSuchAgent, tooLong, tooManyTouches}
 use Rattle.meaning.specs.Refusals.{outsideLanguage, tooMany, answerDiffers}
 use Rattle.meaning.specs.File.{loadOf}
@@ -26,6 +27,7 @@ use Rattle.meaning.specs.Run.{stepOf}
 use Rattle.meaning.specs.Touch.{touchOf, touchesOf}
 use Rattle.meaning.specs.Listing.{listing, listAnswer, listBuffer}
 use Rattle.meaning.specs.Codes.{checkOf, idleOf, wordNumber}
+use Rattle.meaning.specs.Limit.{ceilingOf}
 use Rattle.meaning.specs.Ask.{askOf, commitOf}
 use Rattle.meaning.specs.Where.{nearestOf, commonOf}
 use Rattle.language.specs.Grammar.{Text, Contents, floorTyped, Belongs}
@@ -51,6 +53,7 @@ pub data KeeperCall : Type 0 where
   common-call : Cell → ℕ → ℕ → KeeperCall
   check-call : Cell → KeeperCall
   idle-call : Cell → KeeperCall
+  ceiling-call : Cell → KeeperCall
 
 -- it is refused with a number; a load and the reading of a text answer an offset too, the other calls none (0)
 pub data Refuses : KeeperCall → ℕ → ℕ → Type 0 where
@@ -71,6 +74,7 @@ pub data Refuses : KeeperCall → ℕ → ℕ → Type 0 where
   common-refused : {t : Cell} {place other number : ℕ} → commonOf t place other ≡ Unfound number → Refuses (common-call t place other) number 0
   check-refused : {t : Cell} {number : ℕ} → checkOf t ≡ Unsound number → Refuses (check-call t) number 0
   idle-refused : {t : Cell} {number : ℕ} → idleOf t ≡ Unknown number → Refuses (idle-call t) number 0
+  ceiling-refused : {t : Cell} {number : ℕ} → ceilingOf t ≡ Uncounted number → Refuses (ceiling-call t) number 0
 
 -- ---- the numbers
 
@@ -97,6 +101,7 @@ mayAnswer (nearest-call t place name) number = ofPlace number
 mayAnswer (common-call t place other) number = ofPlace number
 mayAnswer (check-call t) number = eqb number unsoundTable
 mayAnswer (idle-call t) number = eqb number unsoundTable
+mayAnswer (ceiling-call t) number = eqb number unsoundTable
 
 -- "Each is given exactly under its condition": 10 unsound table, 11 no such agent, 12 listing longer than the buffer; a load's numbers by the
 -- fault that the file's bytes have
@@ -146,6 +151,7 @@ pub data Grounds : KeeperCall → ℕ → ℕ → Type 0 where
       → (cellOf t .land .used place ≡ false) ⊎ (cellOf t .land .used other ≡ false) → Grounds (common-call t place other) notYetGiven 0
   check-10 : {t : Cell} → sound (cellOf t) ≡ false → Grounds (check-call t) unsoundTable 0
   idle-10 : {t : Cell} → sound (cellOf t) ≡ false → Grounds (idle-call t) unsoundTable 0
+  ceiling-10 : {t : Cell} → sound (cellOf t) ≡ false → Grounds (ceiling-call t) unsoundTable 0
 
 -- ---- what a host lends
 
@@ -168,6 +174,7 @@ before (nearest-call t place name) = record { table = t; bytes = [] }
 before (common-call t place other) = record { table = t; bytes = [] }
 before (check-call t) = record { table = t; bytes = [] }
 before (idle-call t) = record { table = t; bytes = [] }
+before (ceiling-call t) = record { table = t; bytes = [] }
 
 -- and what it has of it afterwards; an ask changes nothing, nor does a question where a place is
 abbrev pub after : KeeperCall → Lent
@@ -183,6 +190,7 @@ after (nearest-call t place name) = record { table = t; bytes = [] }
 after (common-call t place other) = record { table = t; bytes = [] }
 after (check-call t) = record { table = t; bytes = [] }
 after (idle-call t) = record { table = t; bytes = [] }
+after (ceiling-call t) = record { table = t; bytes = [] }
 
 -- ---- the claim
 

@@ -10,9 +10,10 @@ use touch::TouchDecision;
 ghost use mathlib.Core.Path.{_≡_};
 ghost use mathlib.Core.Bool.{cond};
 ghost use Rattle.table.specs.Cell.{cellOf};
-ghost use Rattle.meaning.specs.Codes.{checkOf, idleOf, loadNumber, touchNumber, foundNumber, listNumber};
+ghost use Rattle.meaning.specs.Codes.{checkOf, idleOf, loadNumber, touchNumber, foundNumber, limitNumber, listNumber};
 ghost use Rattle.touch.specs.Known.{knownTouch, knownTouches};
 ghost use Rattle.locating.specs.Known.{knownNearest, knownCommon};
+ghost use Rattle.limit.specs.Known.{knownCeiling};
 ghost use Rattle.listing.specs.Known.{knownAnswer, knownBuffer};
 ghost use Rattle.keeper.specs.Known.{knownIdle};
 
@@ -41,6 +42,9 @@ pub use touch::touches;
 pub use locating::common;
 pub use locating::nearest;
 
+// How many step calls can still change the cell, at most: `ceilingOf`.
+pub use limit::ceiling;
+
 // The listing in a lent text, or the refusal and the text as it was: `listAnswer` and `listBuffer`.
 pub use listing::list;
 
@@ -49,6 +53,7 @@ pub use numbers::ask_number;
 pub use numbers::check_number;
 pub use numbers::found_number;
 pub use numbers::idle_number;
+pub use numbers::limit_number;
 pub use numbers::list_number;
 pub use numbers::load_number;
 pub use numbers::step_number;
@@ -96,6 +101,13 @@ fn numbered_common(known: bool, c: Cell, place: u8, other: u8) -> u64
     ensures { λ r. ⌜ r ≡ foundNumber (knownCommon known c place other) ⌝ }
 {
     found_number(locating::common_known(known, c, place, other))
+}
+
+// The number that a call for the ceiling answers, told whether the cell is sound.
+fn numbered_ceiling(known: bool, c: Cell) -> u64
+    ensures { λ r. ⌜ r ≡ limitNumber (knownCeiling known c) ⌝ }
+{
+    limit_number(limit::ceiling_known(known, c))
 }
 
 // What a check answers: 10 is its one refusal.

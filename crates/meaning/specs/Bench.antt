@@ -22,6 +22,7 @@ use Rattle.meaning.specs.Touch.{counted, untouched, touchOf, touchesOf}
 use Rattle.meaning.specs.Run.{made, turnedAway, stepOf, callOf, run, answers, settled, rests}
 use Rattle.meaning.specs.Ask.{toldAt, askOf, commitOf, handedOf}
 use Rattle.meaning.specs.Where.{outwards, nearest, holds, common, nearestOf, commonOf}
+use Rattle.meaning.specs.Limit.{movesLeft, changesLeft, ceilingOf}
 use Rattle.meaning.specs.Calculus.{standsAt, mayEnter, mayExit, mayOpen, hasRoom, mayRelease, permits, putInto, openUp, putOut, move}
 use Rattle.meaning.specs.Plain.{treeOf, plainOf, landIn, pickOf, plainWord, plainStep, plainRun}
 use Rattle.meaning.specs.Text.{ascii, digits, gap, joinedAll, overlay}
@@ -43,6 +44,7 @@ use Rattle.meaning.specs.BenchAfter.{afterRows}
 use Rattle.meaning.specs.BenchTouch.{crib, touchRows}
 use Rattle.meaning.specs.BenchAsk.{yard, askRows}
 use Rattle.meaning.specs.BenchWhere.{hall, shaft, whereRows}
+use Rattle.meaning.specs.BenchCeiling.{worked, lone, ceilingRows}
 use Rattle.meaning.specs.BenchOrder.{firstRows, orderRows}
 use Rattle.meaning.specs.BenchKeys.{keyRows, keyNumbers}
 use Rattle.meaning.specs.BenchPlain.{plainRows}
@@ -87,9 +89,9 @@ allMeant [] = true
 allMeant (r ∷ rest) = same (r .value) (r .meant) && allMeant rest
 
 -- what walk cannot show: the plain tree and the calculus, keys and the row of places in a table, the calls and answers of a host, touches, ask
--- and commit, where a place is, release, the table after each kind of step, and soundness clause by clause
-pub numbers : allMeant (plainRows ++ (keyNumbers ++ (orderRows ++ (callRows ++ (touchRows ++ (askRows ++ (whereRows ++ (releaseNumbers ++ (afterRows ++ soundRows))))))))) ≡ true
-unfolding allMeant soundRows callRows afterRows releaseNumbers carrier askRows yard toldAt askOf commitOf handedOf whereRows hall shaft outwards nearest holds common nearestOf commonOf touchRows orderRows keyNumbers plainRows treeOf plainOf landIn pickOf plainWord plainStep plainRun
+-- and commit, where a place is, the ceiling, release, the table after each kind of step, and soundness clause by clause
+pub numbers : allMeant (plainRows ++ (keyNumbers ++ (orderRows ++ (callRows ++ (touchRows ++ (askRows ++ (whereRows ++ (ceilingRows ++ (releaseNumbers ++ (afterRows ++ soundRows)))))))))) ≡ true
+unfolding allMeant soundRows callRows afterRows releaseNumbers carrier askRows yard toldAt askOf commitOf handedOf whereRows hall shaft outwards nearest holds common nearestOf commonOf ceilingRows worked lone movesLeft changesLeft ceilingOf touchRows orderRows keyNumbers plainRows treeOf plainOf landIn pickOf plainWord plainStep plainRun
     standsAt mayEnter mayExit mayOpen hasRoom mayRelease permits putInto openUp putOut move answers rowEnd unused crib counted untouched touchOf touchesOf callOf run sample topmost checkOf idleOf idle loadOf loaded listAnswer listBuffer overlay settled rests file manyOpens
     calls same has wordOf countOf lowestOf freshNumber keep later firstIn occurs counting countingRow hasAll allSmall rowFits chosenOf upd tab foldUp allBelow anyBelow countBelow iter cellOf tableOf bareTable linked
     linkedTo travels nextAction actionsFit ready holdsBoth stageFits firstHeld secondHeld lockIs claims agentFits goingFrom goes placeFits

@@ -19,6 +19,8 @@ use Rattle.meaning.specs.declared.Found.{Found}
 use Rattle.meaning.specs.declared.Found.the-variants.{At, Nowhere, Unfound}
 use Rattle.meaning.specs.declared.Listed.{Listed}
 use Rattle.meaning.specs.declared.Listed.the-variants.{Length, Unlisted}
+use Rattle.meaning.specs.declared.Limit.{Limit}
+use Rattle.meaning.specs.declared.Limit.the-variants.{AtMost, Uncounted}
 use Rattle.meaning.specs.declared.Checked.{Checked}
 use Rattle.meaning.specs.declared.Checked.the-variants.{Sound, Unsound}
 use Rattle.meaning.specs.declared.Idled.{Idled}
@@ -104,3 +106,8 @@ abbrev pub idleNumber : Idled → ℕ
 idleNumber Idle = above 1 0
 idleNumber Busy = 0
 idleNumber (Unknown number) = number
+
+-- a ceiling's answer: how many step calls at most above 0, or the refusal's number
+abbrev pub limitNumber : Limit → ℕ
+limitNumber (AtMost n) = above n 0
+limitNumber (Uncounted number) = number

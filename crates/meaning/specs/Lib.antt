@@ -15,6 +15,7 @@ pub mod Report
 pub mod Codes
 pub mod Ask
 pub mod Where
+pub mod Limit
 pub mod BenchRow
 pub mod BenchPaper
 pub mod BenchFiles
@@ -27,6 +28,7 @@ pub mod BenchAfter
 pub mod BenchTouch
 pub mod BenchAsk
 pub mod BenchWhere
+pub mod BenchCeiling
 pub mod BenchOrder
 pub mod BenchKeys
 pub mod BenchPlain

@@ -98,3 +98,9 @@ pub enum Idled {
     Busy,
     Unknown(u8),
 }
+
+// What a call for the ceiling answers: how many step calls can still change the cell at most, or a refusal's number.
+pub enum Limit {
+    AtMost(u64),
+    Uncounted(u8),
+}

@@ -4,6 +4,7 @@ use meaning::Asked;
 use meaning::Checked;
 use meaning::Found;
 use meaning::Idled;
+use meaning::Limit;
 use meaning::Listed;
 use meaning::Touching;
 use meaning::Verdict;
@@ -125,5 +126,15 @@ pub fn idle_number(answer: Idled) -> u64
         Idled::Idle => above(1, 0),
         Idled::Busy => 0,
         Idled::Unknown(number) => number as u64,
+    }
+}
+
+// A ceiling's answer: how many step calls at most above 0.
+pub fn limit_number(answer: Limit) -> u64
+    ensures { λ r. ⌜ r ≡ codes.limitNumber answer ⌝ }
+{
+    match answer {
+        Limit::AtMost(count) => above(count, 0),
+        Limit::Uncounted(number) => number as u64,
     }
 }

@@ -21,12 +21,23 @@ sum-most f zero m h = omega arith
 sum-most f (suc n) m h =
     omega (arith, sum-most f n m (λ j l. h j (omega arith)), h n (omega arith), suc-mul n m)
 
--- smaller numbers give a smaller sum, zeros none
+-- smaller numbers give a smaller sum
 pub sum-le : (f g : ℕ → ℕ) (n : ℕ) → ((i : ℕ) → f i ≤ g i) → sumBelow f n ≤ sumBelow g n
 unfolding sumBelow
 sum-le f g zero h = zero-le
 sum-le f g (suc n) h = omega (arith, sum-le f g n h, h n)
 
+-- and less, where one number is less and none is more
+pub sum-less : (f g : ℕ → ℕ) (n i : ℕ) → i < n → ((j : ℕ) → f j ≤ g j) → f i < g i → sumBelow f n < sumBelow g n
+unfolding sumBelow
+sum-less f g zero i l h s = absurd (omega arith)
+sum-less f g (suc n) i l h s = go (eq? i n) (sum-less f g n i)
+  where
+    go : (i ≡ n) ⊎ (i ≢ n) → (i < n → ((j : ℕ) → f j ≤ g j) → f i < g i → sumBelow f n < sumBelow g n) → sumBelow f n + f n < sumBelow g n + g n
+    go (inl e) r = let k : f n < g n = rw e at s in omega (arith, sum-le f g n h)
+    go (inr e) r = omega (arith, r (omega arith) h s, h n)
+
+-- zeros give none
 pub sum-none : (n : ℕ) → sumBelow (λ i. 0) n ≡ 0
 unfolding sumBelow
 sum-none zero = refl

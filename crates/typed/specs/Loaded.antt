@@ -26,6 +26,7 @@ use Rattle.demands.specs.TouchTotal.{added}
 use Rattle.demands.specs.FirstCome.{arrivals, TakesUnwished, FirstCome}
 use Rattle.demands.specs.SameListings.{termOf, OfBytes}
 use Rattle.demands.specs.Where.{WhereExact}
+use Rattle.ceiling.specs.Ceiling.{UnderCeiling}
 use Rattle.language.specs.Grammar.{Text, Contents, floorTyped}
 use Rattle.language.specs.Layout.{placesIn, fits, layout}
 use Rattle.language.specs.Read.{readText}
@@ -69,6 +70,8 @@ pub record CountsAsLoaded (log : List ℕ) (touches : ℕ) (c : State) : Type 0 
       → FirstCome (reached c calls) (arrivals (tableOf c) log calls) x wish
   -- where a place is, in words of the plain tree
   pub whereabouts : (calls : List Call) → WhereExact (reached c calls) (plainAfter c calls .tree)
+  -- no order can churn forever: at most so many of the step calls change it
+  pub ceiling : (calls : List Call) → UnderCeiling c calls
   -- what `walk` prints of it: the loaded tree, a line for each call, and the plain tree after the calls
   pub printed : (pairs : List Pair) → reportOf (accepted c) pairs ≡ printedOf c (pairCalls pairs)
 

@@ -48,6 +48,7 @@ use Rattle.demands.specs.FirstComeLaws.{fresh-first}
 use Rattle.demands.specs.WhereLaws.{fresh-where}
 use Rattle.demands.specs.SameListings.{termOf, AlikeExactly, OfBytes}
 use Rattle.demands.specs.SameListingsLaws.{cells-alike, fresh-term, fresh16, fresh-after, accepted-numbers}
+use Rattle.ceiling.specs.CeilingHolds.{fresh-ceiling}
 use Rattle.language.specs.Grammar.{Text, Contents}
 use Rattle.language.specs.Read.{readText}
 use Rattle.language.specs.Layout.{placesIn, fits, Laid, lay, bareLaid, layout}
@@ -90,6 +91,7 @@ fresh-loaded c f s log m n e = record {
   total = λ calls. fresh-total c f calls ∙ ap (λ (k : ℕ). k + added calls (answered c calls)) e;
   first-come = fresh-first c f log m;
   whereabouts = fresh-where c f;
+  ceiling = fresh-ceiling c f;
   printed = fresh-printed c f;
 }
 

@@ -71,7 +71,7 @@ fn job(job: &Job) -> Result<usize, String> {
             Ok(lengths.len())
         }
         Job::List { cell, .. } => lists(cell),
-        Job::Check { cell } | Job::Idle { cell } => asks(cell).map(|_| 2),
+        Job::Check { cell } | Job::Idle { cell } | Job::Ceiling { cell } => asks(cell).map(|_| 3),
         Job::Walk { .. } => {
             let mut rooms = [Room::new(), Room::new(), Room::new()];
             let [one, two, three] = &mut rooms;
@@ -195,7 +195,9 @@ fn lists(cell: &Cell) -> Result<usize, String> {
 
 fn asks(cell: &Cell) -> Result<(), String> {
     same("answers of a check", [Plain::check(cell), Tuned::check(cell), Proved::check(cell)])?;
-    same("answers whether all are at rest", [Plain::idle(cell), Tuned::idle(cell), Proved::idle(cell)])
+    same("answers whether all are at rest", [Plain::idle(cell), Tuned::idle(cell), Proved::idle(cell)])?;
+    let ceilings = [Plain::ceiling(cell), Tuned::ceiling(cell), Proved::ceiling(cell)];
+    same(&format!("answers {ceilings:x?} how many calls can change the cell"), ceilings)
 }
 
 /// A cell at random and some calls on it; one that is damaged has bytes changed on the way, until a call answers 10.
@@ -242,7 +244,7 @@ fn one_random(numbers: &mut Random, damaged: bool) -> Result<usize, String> {
     let at = numbers.below(file.len());
     file[at] = numbers.below(256) as u8;
     load(&file)?;
-    Ok(300 + 2 * touched + 2 * asked + listed + 6 * 2 + 2)
+    Ok(300 + 2 * touched + 2 * asked + listed + 6 * 3 + 2)
 }
 
 /// The touches of a place that a test looks at: at the most that is sound, past it, and so many that a sum of two wraps.

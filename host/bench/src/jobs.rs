@@ -32,6 +32,8 @@ pub enum Job {
     Check { cell: Box<Cell> },
     /// Whether all agents are asleep or done.
     Idle { cell: Box<Cell> },
+    /// How many step calls can still change a cell, at most.
+    Ceiling { cell: Box<Cell> },
     /// A whole walk: a file and an order.
     Walk { file: Vec<u8>, order: Vec<u8> },
     /// A copy of a cell, by no keeper: what a call by value pays, and how far apart two equal things are measured.
@@ -123,6 +125,7 @@ impl Job {
             Job::List { cell, room: size } => K::list(cell, &mut room.text[..*size]),
             Job::Check { cell } => K::check(cell),
             Job::Idle { cell } => K::idle(cell),
+            Job::Ceiling { cell } => K::ceiling(cell),
             Job::Walk { file, order } => walk::<K>(file, order, &mut room.cell, &mut room.text) as u64,
             Job::Copy { cell } => {
                 room.cell = **cell;
@@ -199,6 +202,7 @@ pub fn workloads() -> Vec<Workload> {
     let list = |sketch: Sketch| Job::List { cell: boxed(&sketch), room: LISTING_LONGEST };
     let check = |sketch: Sketch| Job::Check { cell: boxed(&sketch) };
     let idle = |sketch: Sketch| Job::Idle { cell: boxed(&sketch) };
+    let ceiling = |sketch: Sketch| Job::Ceiling { cell: boxed(&sketch) };
     let touch = |sketch: Sketch| Job::Touch { order: cells::touching(&sketch.cell(), 400), start: boxed(&sketch) };
     let nearest = |sketch: Sketch| Job::Nearest { order: cells::named(&sketch.cell(), 400), cell: boxed(&sketch) };
     let common = |sketch: Sketch| Job::Common { order: cells::pairs(&sketch.cell(), 400), cell: boxed(&sketch) };
@@ -240,6 +244,8 @@ pub fn workloads() -> Vec<Workload> {
         of("check, full", None, check(cells::full())),
         of("idle, typical", None, idle(cells::typical())),
         of("idle, full", None, idle(cells::full())),
+        of("ceiling, typical", None, ceiling(cells::typical())),
+        of("ceiling, full", None, ceiling(cells::full())),
         of("load, worked example", None, load(cells::worked())),
         of("load, typical", None, load(cells::typical())),
         of("load, longest", None, load(cells::longest())),

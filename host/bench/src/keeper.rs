@@ -17,6 +17,7 @@ pub trait Keeper {
     fn touches(cell: &Cell, place: u8) -> u64;
     fn nearest(cell: &Cell, place: u8, name: u16) -> u64;
     fn common(cell: &Cell, place: u8, other: u8) -> u64;
+    fn ceiling(cell: &Cell) -> u64;
 }
 
 extern "C" {
@@ -33,6 +34,7 @@ extern "C" {
     fn keeper_touches(cell: *const Cell, place: u8) -> u64;
     fn keeper_nearest(cell: *const Cell, place: u8, name: u16) -> u64;
     fn keeper_common(cell: *const Cell, place: u8, other: u8) -> u64;
+    fn keeper_ceiling(cell: *const Cell) -> u64;
 }
 
 /// The proved keeper, as libkeeper.a exports it.
@@ -77,5 +79,8 @@ impl Keeper for Proved {
     }
     fn common(cell: &Cell, place: u8, other: u8) -> u64 {
         unsafe { keeper_common(cell, place, other) }
+    }
+    fn ceiling(cell: &Cell) -> u64 {
+        unsafe { keeper_ceiling(cell) }
     }
 }

@@ -33,6 +33,11 @@ pub struct Counts {
     pub at_the_floor: u64,
     pub by_way: u64,
     pub questions_refused: BTreeMap<u8, u64>,
+    pub ceilings: u64,
+    pub ceilings_refused: u64,
+    pub changes: u64,
+    /// The calls that changed a cell since its load, and the ceiling there, where they were the largest share of it.
+    pub largest: (u64, u64),
     pub sums: u64,
     pub accepted: u64,
     pub refused: BTreeMap<u8, u64>,
@@ -57,6 +62,13 @@ impl Counts {
     /// How many steps were called and committed, to ask slow questions by turns.
     pub fn turns(&self) -> u64 {
         self.steps + self.commits
+    }
+
+    /// So many calls changed a cell since its load, where the ceiling was this: kept if there was no larger share.
+    pub fn share(&mut self, changes: u64, ceiling: u64) {
+        if changes * self.largest.1.max(1) > self.largest.0 * ceiling {
+            self.largest = (changes, ceiling);
+        }
     }
 }
 
@@ -104,6 +116,14 @@ impl fmt::Display for Counts {
         )?;
         self.questions_refused.iter().try_for_each(|(number, count)| write!(out, " {count} with {number}"))?;
         writeln!(out, ")")?;
+        writeln!(out, "ceilings        {:>9}   ({} refused)", self.ceilings, self.ceilings_refused)?;
+        let (most, ceiling) = self.largest;
+        let share = 100.0 * most as f64 / ceiling.max(1) as f64;
+        writeln!(
+            out,
+            "changing calls  {:>9}   (the largest share of a ceiling since a load: {most} of {ceiling}, {share:.1} %)",
+            self.changes
+        )?;
         writeln!(out, "sums of touches {:>9}   ({} openings pooled some)", self.sums, self.pooled)?;
         let refused: u64 = self.refused.values().sum();
         write!(out, "files           {:>9}   ({} accepted, {} refused:", self.accepted + refused, self.accepted, refused)?;

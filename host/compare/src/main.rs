@@ -2,12 +2,14 @@
 //!
 //!     compare [--quick] [--seconds N] [--seed S] [--walk PROGRAM] [--typed-walk PROGRAM]..
 //!
-//! First document 01's cases, by steps and by asks and commits, where every place is after each of their calls, touches up to the most there may
-//! be, listings of full cells, every single-byte change and truncation of good files and of texts, and texts at and past each limit; then rounds
-//! of random files, random orders of steps, asks, commits, touch calls and questions where a place is on random cells, some of them with 61 to 64
-//! places in use, random texts, damaged ones and orders on cells that were read, and cells with bytes changed, those of keys, of the row of places
-//! and of agents that release too: a fixed number of rounds, or as many as fit in N seconds. Listings are read back. Cells are also listed under
-//! other numbers, which must give the same bytes. The same seed gives the same rounds. With a program `walk`, what it writes is compared too; with
+//! First document 01's cases, by steps and by asks and commits, where every place is after each of their calls, orders that put moves off for
+//! as long as anything else changes the cell, touches up to the most there may be, listings of full cells, every single-byte change and
+//! truncation of good files and of texts, and texts at and past each limit; then rounds of random files, random orders of steps, asks, commits,
+//! touch calls and questions where a place is on random cells, some of them with 61 to 64 places in use, random texts, damaged ones and orders
+//! on cells that were read, and cells with bytes changed, those of keys, of the row of places and of agents that release too: a fixed number of
+//! rounds, or as many as fit in N seconds. After each call the ceiling is compared, and the step calls that changed the cell are counted from
+//! its load on: there must be no more of them, and the largest share is printed. Listings are read back. Cells are also listed under other
+//! numbers, which must give the same bytes. The same seed gives the same rounds. With a program `walk`, what it writes is compared too; with
 //! programs that run typed layouts (PROGRAM --text TEXT ORDER), what those write. At a difference the smallest example found is printed and the
 //! exit status is 1.
 
@@ -15,6 +17,7 @@ mod answer;
 mod bench;
 mod call;
 mod chance;
+mod churn;
 mod counts;
 mod damage;
 mod demands;
@@ -81,6 +84,7 @@ fn run(session: &mut Session, options: &Options) -> Result<(), Vec<Call>> {
     session.cases()?;
     session.every_number(if options.quick { &[255] } else { &[255, 2, 3] })?;
     session.every_place()?;
+    session.churning(if options.quick { 2 } else { 50 })?;
     session.most_touches()?;
     session.full_listings()?;
     session.changed_files(if options.quick { 64 } else { 4 })?;

@@ -2,6 +2,7 @@
 
 use crate::answer;
 use crate::call::Call;
+use crate::churn::Churn;
 use crate::counts::Counts;
 use crate::demands;
 use crate::differing::{differing, forgotten};
@@ -24,12 +25,14 @@ pub const ROOM: usize = LONGEST + 21;
 static FILLED: [u8; ROOM] = [FILL; ROOM];
 
 /// The lent cell; the model's cell, none where the table is unsound; and the plain tree and all touches loaded and added, both kept from an
-/// accepted load on for as long as nobody else writes the cell.
+/// accepted load on for as long as nobody else writes the cell; and the step calls that changed the cell since its load or since somebody else wrote
+/// it, none where the table is unsound.
 pub struct Pair {
     pub lent: Lent,
     pub cell: Option<Cell>,
     pub plain: Option<Plain>,
     pub total: u128,
+    pub churn: Option<Churn>,
     pub text: Vec<u8>,
     thorough: bool,
     /// The numbers that openings freed and that were not given again.
@@ -43,6 +46,7 @@ pub struct Kept {
     cell: Option<Cell>,
     plain: Option<Plain>,
     total: u128,
+    churn: Option<Churn>,
 }
 
 impl Pair {
@@ -51,9 +55,9 @@ impl Pair {
         let mut lent = Lent::zeros();
         lent.bytes_mut().fill(FILL);
         let answer = lent.bare();
-        let cell = Some(Cell::bare());
+        let (cell, churn) = (Some(Cell::bare()), Some(Churn::from(&Cell::bare(), true)));
         let (text, freed) = (vec![FILL; ROOM], BTreeSet::new());
-        let mut pair = Pair { lent, cell, plain: None, total: 0, text, thorough, freed, counts: Counts::default() };
+        let mut pair = Pair { lent, cell, plain: None, total: 0, churn, text, thorough, freed, counts: Counts::default() };
         same("bare", answer, 0, answer::value_text)?;
         rows::same("bare", pair.bytes(), &rows::loaded(&[]))?;
         pair.agree()?;
@@ -62,7 +66,7 @@ impl Pair {
 
     /// The cell as it is.
     pub fn keep(&self) -> Kept {
-        Kept { lent: self.lent.clone(), cell: self.cell.clone(), plain: self.plain.clone(), total: self.total }
+        Kept { lent: self.lent.clone(), cell: self.cell.clone(), plain: self.plain.clone(), total: self.total, churn: self.churn }
     }
 
     /// Back to the cell as it was.
@@ -71,6 +75,7 @@ impl Pair {
         self.cell = kept.cell.clone();
         self.plain = kept.plain.clone();
         self.total = kept.total;
+        self.churn = kept.churn;
         self.freed.clear();
     }
 
@@ -116,6 +121,7 @@ impl Pair {
                 self.counts.accepted += 1;
                 self.plain = Some(Plain::of_load(&cell));
                 self.total = touches::loaded(file);
+                self.churn = Some(Churn::from(&cell, true));
                 self.freed.clear();
                 rows::same("a load", self.bytes(), &rows::loaded(file))?;
                 self.counts.keyed += keys::loaded(self.bytes(), file)? as u64;
@@ -162,6 +168,7 @@ impl Pair {
         self.lent.bytes_mut()[at] = byte;
         self.plain = None;
         self.cell = Table::read(self.lent.bytes()).cell();
+        self.churn = self.cell.as_ref().map(|cell| Churn::from(cell, false));
         match self.cell {
             Some(_) => self.counts.sound += 1,
             None => self.counts.unsound += 1,
@@ -191,7 +198,7 @@ impl Pair {
         Ok(())
     }
 
-    /// What can be seen between two calls: check, idle, the listing, the count of one place or, in a thorough pair, of all, and the fields of
+    /// What can be seen between two calls: check, idle, the ceiling, the listing, the count of one place or, in a thorough pair, of all, and the fields of
     /// the table.
     pub fn agree(&mut self) -> Result<(), String> {
         let before = self.lent.clone();
@@ -212,6 +219,7 @@ impl Pair {
         let idle = self.cell.as_ref().map(|cell| cell.idle() as usize).ok_or(UNSOUND);
         same("check", self.lent.check(), answer::of_value(sound), answer::value_text)?;
         same("idle", self.lent.idle(), answer::of_value(idle), answer::value_text)?;
+        self.ceiling()?;
         self.list(ROOM)?;
         if self.thorough || self.counts.listings % 32 == 0 {
             self.read_back()?;
@@ -219,7 +227,7 @@ impl Pair {
         let one = (self.counts.turns() % 67) as u8;
         let (first, last) = if self.thorough { (0, 255) } else { (one, one) };
         (first..=last).try_for_each(|place| self.count(place))?;
-        self.unchanged("check, idle, list or touches", before.bytes())?;
+        self.unchanged("check, idle, ceiling, list or touches", before.bytes())?;
         self.demands()
     }
 

@@ -2,6 +2,7 @@
 
 use crate::answer;
 use crate::call::Call;
+use crate::churn::Churn;
 use crate::pair::{same, Pair, FILL};
 use crate::random::Random;
 use crate::rounds::{Outcome, Session};
@@ -26,6 +27,7 @@ impl Pair {
                 self.counts.texts += 1;
                 self.plain = Some(Plain::of_load(&cell));
                 self.total = 0;
+                self.churn = Some(Churn::from(&cell, true));
                 self.freed.clear();
                 rows::same("a reading", self.bytes(), &rows::read(cell.places.len() - 1))?;
                 self.cell = Some(cell);

@@ -194,6 +194,7 @@ impl Session {
         }
         self.texts(&mut random)?;
         self.crowded(&mut random)?;
+        self.some_churning(&mut random, 300)?;
         for _ in 0..10 {
             self.changed_cell(&mut random)?;
         }

@@ -56,6 +56,7 @@ impl Pair {
         rows::same(word.text(), self.bytes(), &rows::stepped(before.lent.bytes(), agent, word))?;
         keys::kept(before.lent.bytes(), self.lent.bytes(), agent)?;
         self.seen_of_numbers(before.lent.bytes());
+        self.churned(before.lent.bytes(), word)?;
         self.counts.by_key += (before.by_key && matches!(word, Word::Left | Word::Opened)) as u64;
         if let (Word::Took, Some(found), Some(cell)) = (word, before.several, &self.cell) {
             self.counts.choices += 1;

@@ -8,6 +8,7 @@
 mod alike;
 mod ask;
 mod calculus;
+mod ceiling;
 mod cell;
 mod children;
 mod choice;
@@ -27,6 +28,7 @@ mod word;
 pub use alike::alike;
 pub use ask::{ask, commit, Asked, NONE_CHOSEN};
 pub use calculus::{make, permitted, Ambient, Move, Tree};
+pub use ceiling::{ceiling, changes_nothing, changing_calls, loaded_ceiling};
 pub use cell::{Action, Agent, Cell, Keys, Kind, Place, Places, Stands};
 pub use children::Children;
 pub use choice::{can_exit, choose, qualifying, smallest_unused};

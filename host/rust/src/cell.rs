@@ -1,5 +1,6 @@
 //! A cell, and where it comes from: a file, a text, or memory that a host kept. Its other calls stand in the modules.
 
+mod ceiling;
 mod listing;
 mod places;
 mod steps;

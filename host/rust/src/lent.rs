@@ -133,6 +133,7 @@ extern "C" {
     fn keeper_touches(cell: *const Lent, place: u8) -> u64;
     fn keeper_nearest(cell: *const Lent, place: u8, name: u16) -> u64;
     fn keeper_common(cell: *const Lent, place: u8, other: u8) -> u64;
+    fn keeper_ceiling(cell: *const Lent) -> u64;
 }
 
 /// The version of the linked library: the major number from bit 16 on, the minor one in bits 8 to 15, the patch in bits 0 to 7.
@@ -244,6 +245,11 @@ impl Lent {
     /// The innermost place that holds or is both of two.
     pub fn common(&self, place: u8, other: u8) -> u64 {
         answered(|| unsafe { keeper_common(self, place, other) })
+    }
+
+    /// How many step calls can still change the cell, at most.
+    pub fn ceiling(&self) -> u64 {
+        answered(|| unsafe { keeper_ceiling(self) })
     }
 
     /// The bytes of the cell.

@@ -86,6 +86,12 @@
 //! assert_eq!(cell.nearest(3, 40)?, None);
 //! assert_eq!(cell.common(3, 4)?, 1);
 //!
+//! // No order churns forever: so many calls can change the cell, at most, whatever the dispatcher sends.
+//! let mut cell = Cell::read("7[enter 9] | 9[exit 7]")?;
+//! assert_eq!(cell.ceiling()?, 54);
+//! while cell.step(0, 255)?.word != Word::Came {}
+//! assert_eq!(cell.ceiling()?, 32);
+//!
 //! // A file of length 0 is a bare floor: a line with nothing on it yet.
 //! let cell = Cell::load(&[])?;
 //! let length = cell.list(&mut text)?;
@@ -122,7 +128,7 @@ pub use refusal::{Refusal, Refused};
 
 /// The version of the library that this crate was made for: the major number from bit 16 on, the minor one in bits 8 to 15, the patch in
 /// bits 0 to 7.
-pub const VERSION: u64 = 393_216;
+pub const VERSION: u64 = 393_472;
 
 /// The longest cell file that can be accepted.
 pub const FILE_LONGEST: usize = 6_390;

@@ -120,7 +120,7 @@ fn an_unsound_table() {
     let mut cell = Cell::from_lent(Lent::zeros());
     let unsound = Refused { refusal: Refusal::Unsound, offset: None };
     assert_eq!(cell.check(), Err(unsound));
-    assert_eq!(cell.idle(), Err(unsound));
+    assert_eq!((cell.idle(), cell.ceiling()), (Err(unsound), Err(unsound)));
     assert_eq!(cell.step(64, 0), Err(unsound));
     assert_eq!((cell.ask(64, 0), cell.commit(Asked::new(64, 0, Word::Looked, 0, None))), (Err(unsound), Err(unsound)));
     assert_eq!(cell.list(&mut []), Err(unsound));

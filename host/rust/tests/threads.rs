@@ -53,6 +53,8 @@ fn two_threads_that_only_read_one_cell() {
     let told: [Asked; 2] = [0, 1].map(|agent| cell.ask(agent, 255).unwrap());
     let found = [1, 2].map(|place| (cell.nearest(place, 1), cell.common(place, 1)));
     assert!(found.iter().all(|(nearest, common)| nearest.is_ok() && common.is_ok()));
+    let ceiling = cell.ceiling();
+    assert!(ceiling.is_ok());
     let start = Barrier::new(2);
     thread::scope(|scope| {
         for _ in 0..2 {
@@ -63,6 +65,7 @@ fn two_threads_that_only_read_one_cell() {
                     assert_eq!(cell.touches(0), Ok(touches));
                     assert_eq!(cell.listing().as_ref(), Ok(&listing));
                     assert_eq!(cell.idle(), Ok(rest));
+                    assert_eq!(cell.ceiling(), ceiling);
                     assert_eq!([0, 1].map(|agent| cell.ask(agent, 255).unwrap()), told);
                     assert_eq!([1, 2].map(|place| (cell.nearest(place, 1), cell.common(place, 1))), found);
                 }

@@ -132,6 +132,19 @@ impl Keeper for Plain {
             refused => refused,
         }
     }
+
+    #[inline(never)]
+    fn ceiling(cell: &Cell) -> u64 {
+        if !sound(cell) {
+            return UNSOUND;
+        }
+        let (mut agents, mut left) = (0, 0);
+        for agent in (0..64).filter(|&x| has(cell.given, x)).map(|x| &cell.agents[x as usize]) {
+            agents += 1;
+            left += 2 * (agent.count - agent.next) as u64 + (4..=6).contains(&agent.stage) as u64;
+        }
+        (5 * agents * (left + 1) + left) << 8
+    }
 }
 
 /// The cell after the step, and the number that an ask tells; or its refusal.

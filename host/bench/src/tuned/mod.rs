@@ -11,7 +11,7 @@ mod sound;
 mod step;
 mod whereabouts;
 
-use crate::cell::{has, members, Cell, MOST_TOUCHES};
+use crate::cell::{has, members, Agent, Cell, MOST_TOUCHES};
 use crate::keeper::Keeper;
 pub use load::Refused;
 use sound::{sound, sound_touches};
@@ -178,5 +178,15 @@ impl Keeper for Tuned {
             _ if !has(cell.used, place) || !has(cell.used, other) => NOT_GIVEN,
             _ => (whereabouts::common(cell, place, other) as u64) << 8,
         }
+    }
+
+    #[inline(never)]
+    fn ceiling(cell: &Cell) -> u64 {
+        if !sound(cell) {
+            return UNSOUND;
+        }
+        let left_of = |agent: &Agent| 2 * (agent.count - agent.next) as u64 + (4..=6).contains(&agent.stage) as u64;
+        let left: u64 = members(cell.given).map(|x| left_of(&cell.agents[x as usize])).sum();
+        (5 * cell.given.count_ones() as u64 * (left + 1) + left) << 8
     }
 }
