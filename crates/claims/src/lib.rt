@@ -1,0 +1,1 @@
+// What is claimed of trails, proved of the written meaning: laws, no code.

@@ -1,0 +1,4 @@
+pub mod Trail
+pub mod Findings
+pub mod FindingsLaws
+pub mod AuditLine
