@@ -1,0 +1,95 @@
+-- The moves of a trail made on a table, without a lock: what the code reads, tests and makes.
+use Prim.Native.Nat.{ℕ, _/_, _%_}
+use mathlib.Core.Path.{_≡_}
+use mathlib.Core.Logic.{_≢_}
+use mathlib.Core.Bool.{Bool, true, false, cond}
+use mathlib.Core.List.{List, [], _∷_}
+use lib.Dec.{eqb}
+use lib.ListN.{length}
+use Rattle.sets.specs.declared.Set.{Set}
+use Rattle.table.specs.declared.Name.{Name}
+use Rattle.table.specs.declared.Place.{Place}
+use Rattle.table.specs.declared.Action.{Action}
+use Rattle.table.specs.declared.Agent.{Agent}
+use Rattle.table.specs.declared.Cell.{Cell}
+use Rattle.table.specs.Bounds.{Sized}
+use Rattle.table.specs.Cell.{Land, landOf, cellOf, noName, freshNumber, kindOf, enterKind, exitKind, openKind}
+use Rattle.meaning.specs.Calculus.{Tree}
+use Rattle.meaning.specs.Plain.{treeFrom, treeOf}
+use Rattle.meaning.specs.Run.{made}
+use Rattle.meaning.specs.Update.{atStage}
+use Rattle.calculus.specs.Formed.{Formed}
+use Rattle.demands.specs.Invariant.{Fit}
+use Rattle.moves.specs.Motions.{shifted}
+use Rattle.moves.specs.declared.Motion.{Motion}
+use Rattle.moves.specs.declared.Motion.the-variants.{Leave, Dissolve, Put}
+use Rattle.trail.specs.declared.Finding.{Finding}
+use Rattle.trail.specs.declared.Finding.the-variants.{Denied}
+use Rattle.trail.specs.Trail.{allows, moved, whyNot, notPermitted, noActionLeft, oddByte, judged}
+use Rattle.checker.specs.declared.Turned.{Turned}
+
+-- ---- what is read
+
+-- the places of a row and the set of those in use
+abbrev pub placesOf : List Place → Set → Land
+placesOf ps used = landOf ps used []
+
+-- where a place in use stands, and its name with its keys
+abbrev pub parentOf : Land → ℕ → ℕ
+parentOf l q = cond (l .used q) (l .place q .parent) 0
+
+abbrev pub nameOf : Land → ℕ → Name
+nameOf l q = cond (l .used q) (l .place q .name) noName
+
+-- the tree of these places with one agent, of number 0, that lives in home and has this one action
+abbrev pub oneAgent : Land → ℕ → Action → Tree
+oneAgent l home x = treeFrom l (λ _. home) (λ _. x ∷ [])
+
+-- why a move is denied, by whether no action is left
+abbrev pub whyIf : Bool → ℕ
+whyIf over = cond over noActionLeft notPermitted
+
+-- by the kind of the agent's next action: 0 is that of none
+abbrev pub whyKind : ℕ → ℕ
+whyKind kind = whyIf (eqb kind 0)
+
+-- ---- what is made
+
+-- a motion of agent x, which is a
+abbrev pub shiftedOn : Cell → ℕ → Agent → Motion → Cell
+shiftedOn t x a motion = made (shifted (cellOf t) x a motion) .cell
+
+-- the table after agent x, which is a, makes the move that the byte b tells
+unfoldable pub madeOn : Cell → ℕ → Agent → ℕ → Cell
+madeOn t x a b =
+    cond (eqb (kindOf a) enterKind) (shiftedOn t x a (Leave b))
+    (cond (eqb (kindOf a) exitKind) (shiftedOn t x a (Leave (parentOf (cellOf t .land) (parentOf (cellOf t .land) (a .home)))))
+    (cond (eqb (kindOf a) openKind) (shiftedOn t x (atStage a 3 (a .home) b) Dissolve)
+    (shiftedOn t x (atStage a 3 (a .home) b) (Put (freshNumber (cellOf t .land .used))))))
+
+-- what holds of the table all along: it is of the struct, its tree is formed, the rows of actions are in order
+pub record Ready (t : Cell) : Type 0 where
+  pub sized : Sized t
+  pub formed : Formed (treeOf (cellOf t))
+  pub fit : (x : ℕ) → cellOf t .given x ≡ true → Fit (cellOf t .agent x)
+
+-- the move is allowed, and u is a table of the tree after it
+pub record Makes (t : Cell) (x b : ℕ) (u : Cell) : Type 0 where
+  pub allowed : allows (treeOf (cellOf t)) x b ≡ true
+  pub tree : treeOf (cellOf u) ≡ moved (treeOf (cellOf t)) x b
+  pub ready : Ready u
+
+-- it is not, and for this reason it is denied
+pub record Denies (t : Cell) (x b reason : ℕ) : Type 0 where
+  pub refused : allows (treeOf (cellOf t)) x b ≡ false
+  pub why : reason ≡ whyNot (treeOf (cellOf t)) x
+
+-- one move of a trail
+pub record Turns (t : Cell) (x b : ℕ) (r : Turned) : Type 0 where
+  pub makes : r .reason ≡ 0 → Makes t x b (r .cell)
+  pub denies : r .reason ≢ 0 → Denies t x b (r .reason)
+
+-- ---- the finding, from a loaded table
+
+unfoldable pub findingOn : Cell → List ℕ → List ℕ → Finding
+findingOn t trail text = cond (eqb (length trail % 2) 0) (judged 0 (treeOf (cellOf t)) trail text) (Denied (length trail / 2) oddByte)
