@@ -5,3 +5,4 @@ pub mod Settled
 pub mod Tallied
 pub mod Passing
 pub mod Deciding
+pub mod Altering

@@ -25,8 +25,7 @@ use denote.RattleType.{RattleType}
 use denote.Laws.{Is, shows, Typed}
 use denote.Memory.{cellAt, partAt, mem}
 use denote.Signature.{typeAt, plain}
-use denote.Steps.{opens, closes, looks, shuts, owned, facts, peeks, heard, nothing}
-use denote.Struct.Steps.{spelt}
+use denote.Steps.{peeks, heard, nothing}
 use denote.Struct.Laws as LL
 use denote.Exit.{yes}
 use denote.Triple.Statement.{Contract, Triple}
@@ -37,6 +36,7 @@ use denote.Triple.Clauses.{Ended, Clauses, Lasts, atExit, lasts, ensured, closin
 use Rattle.table.specs.declared.Cell.{Cell}
 use Rattle.table.proofs.Cell as T
 use Rattle.table.proofs.Cell.Laws as T′
+use Rattle.lent.proofs.Declared as D
 
 abbrev pub R : RattleType
 R = T.the-row
@@ -46,34 +46,30 @@ mach c = LL.vals T.the-type T′.the-laws c
 
 module _ {M : Type 1} (𝓤 : URA M) (H : Heap 𝓤) (A : Atoms 𝓤) (W : Given 𝓤 H A) where
   pub is-typed : (c : Cell) → Is R c (mach c) → Typed (R .mir) (mach c)
-  is-typed c is = LL.lawful T.the-type T′.the-laws 𝓤 H A W .typed c (mach c) is
+  is-typed c is = D.is-typed T.the-type T′.the-laws 𝓤 H A W c is
 
 module _ {M : Type 1} {𝓤 : URA M} {H : Heap 𝓤} {A : Atoms 𝓤} {K : Type 0} {W : Given 𝓤 H A} {Γ : List (Item 𝓤)} {G : Goal 𝓤 H} where
   pub had : K → (c : Cell) → Is R c (mach c) → Step K W (‵ (R .own c (mach c)) ∷ Γ) G Γ G
-  had t c is = owned t R (Is R) (LL.makes T.the-type T′.the-plain 𝓤 H A) c (mach c) is
+  had t c is = D.had T.the-type T′.the-laws T′.the-plain t c is
 
   pub opened : K → Soaks G → {κ : Lft} {q : Share} {γ : GName} (h : Cell) (b o : ℕ)
       → (Is R h (mach h) → Seq K W (‵ (cellAt fullShare (R .mir) (mach h) b o) ∷ ‵ (fobor κ q (Body (mem R) b o γ)) ∷ ‵ (fobs γ (R .coded .code h)) ∷ ‵ (fauth γ (R .coded .code h)) ∷ Γ) G)
       → Seq K W (‵ (fobs γ (R .coded .code h)) ∷ ‵ (fbor κ (Body (mem R) b o γ)) ∷ ‵ (flft κ q) ∷ Γ) G
-  opened t z h b o k =
-      opens t z R {h = h} b o (λ vs. spelt t R (Is R) (shows 𝓤 H A R) mach (LL.tells T.the-type T′.the-laws) fullShare h vs b o $
-      move t (1 ∷ []) $ facts t R (Is R) (shows 𝓤 H A R) h (mach h) k)
+  opened t z h b o k = D.opened T.the-type T′.the-laws t z h b o k
 
   pub closed : K → Soaks G → {κ : Lft} {q : Share} {u v : Gv} {γ : GName} (c : Cell) → Is R c (mach c) → (b o : ℕ)
       → Step K W (‵ (fobs γ (R .coded .code c)) ∷ ‵ (fbor κ (Body (mem R) b o γ)) ∷ ‵ (flft κ q) ∷ Γ) G
       (‵ (cellAt fullShare (R .mir) (mach c) b o) ∷ ‵ (fobor κ q (Body (mem R) b o γ)) ∷ ‵ (fobs γ u) ∷ ‵ (fauth γ v) ∷ Γ) G
-  closed t z c is b o = step (λ s. owned t R (Is R) (LL.makes T.the-type T′.the-plain 𝓤 H A) c (mach c) is $ move t (1 ∷ 0 ∷ []) $ closes t z R c (mach c) b o $ s)
+  closed t z c is b o = D.closed T.the-type T′.the-laws T′.the-plain t z c is b o
 
   pub looked : K → Soaks G → {κ : Lft} {q : Share} (h : Cell) (b o : ℕ)
       → ((q′ : Share) → Is R h (mach h) → Seq K W (‵ (cellAt q′ (R .mir) (mach h) b o) ∷ ‵ (fobor κ q (partAt R q′ h b o)) ∷ ‵ (fshr-bor κ (λ s. partAt R s h b o)) ∷ Γ) G)
       → Seq K W (‵ (fshr-bor κ (λ s. partAt R s h b o)) ∷ ‵ (flft κ q) ∷ Γ) G
-  looked t z h b o k =
-      looks t z R (Is R) (shows 𝓤 H A R) mach (LL.tells T.the-type T′.the-laws) (LL.copy T.the-type T′.the-copy 𝓤 H A W) h b o (λ q′ vs.
-      spelt t R (Is R) (shows 𝓤 H A R) mach (LL.tells T.the-type T′.the-laws) q′ h vs b o $ move t (1 ∷ []) $ facts t R (Is R) (shows 𝓤 H A R) h (mach h) (k q′))
+  looked t z h b o k = D.looked T.the-type T′.the-laws T′.the-copy t z h b o k
 
   pub shut : K → Soaks G → {κ : Lft} {q : Share} (q′ : Share) (h : Cell) → Is R h (mach h) → (b o : ℕ)
       → Step K W (‵ (flft κ q) ∷ Γ) G (‵ (cellAt q′ (R .mir) (mach h) b o) ∷ ‵ (fobor κ q (partAt R q′ h b o)) ∷ Γ) G
-  shut t z q′ h is b o = step (λ s. owned t R (Is R) (LL.makes T.the-type T′.the-plain 𝓤 H A) h (mach h) is $ move t (1 ∷ 0 ∷ []) $ shuts t z R q′ h (mach h) b o $ s)
+  shut t z q′ h is b o = D.shut T.the-type T′.the-laws T′.the-plain t z q′ h is b o
 
 module _ {M : Type 1} {𝓤 : URA M} {H : Heap 𝓤} {A : Atoms 𝓤} {K : Type 0} {W : Given 𝓤 H A} {Γ : List (Item 𝓤)} {E : Env 𝓤 H} {C : Calls 𝓤 H} {f : Name} {xs : List Operand} {Λ : Loops 𝓤 H} {q : Post 𝓤 H} {d : Place} where
   pub called : K → FmC 𝓤 H (W .laws) C → {rest : Code} (S : Ended) (c : Clauses 𝓤 S) → Triple 𝓤 (C f) (tripleOf 𝓤 H A (S .signature) (closing 𝓤 H A S c))

@@ -1,4 +1,5 @@
 pub mod Walk
+pub mod Declared
 pub mod Lent
 pub mod Element
 pub mod Offsets
