@@ -1,4 +1,5 @@
 // What hosts call (Level B): by value here, over a lent cell in `exports`. No call asks anything of its caller.
+mod card;
 mod exports;
 mod version;
 
