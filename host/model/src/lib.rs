@@ -25,6 +25,7 @@ mod touch;
 mod trail;
 mod walk;
 mod whereabouts;
+mod window;
 mod word;
 
 pub use alike::alike;
@@ -46,6 +47,7 @@ pub use touch::{touch, touch_sum, touches, MOST_TOUCHES};
 pub use trail::{check, trail_of, trailed_step, Verdict, Why};
 pub use walk::{typed_walk, walk};
 pub use whereabouts::{common, nearest};
+pub use window::{clear, command, command_on_unsound, Window, ALL_IDLE, REFUSED, STEP, TURNED_AWAY, WOKE};
 pub use word::{Stepped, Word};
 
 /// "cut short: a body incomplete, or no end record"

@@ -41,6 +41,23 @@ impl Word {
         }
     }
 
+    /// The number of the word; document 02, W14: "0 looked, 1 took, 2 held, 3 back, 4 slept, 5 left, 6 came, 7 opened, 8 put, 9 asleep, 10 done".
+    pub fn number(self) -> u8 {
+        match self {
+            Word::Looked => 0,
+            Word::Took => 1,
+            Word::Held => 2,
+            Word::Back => 3,
+            Word::Slept => 4,
+            Word::Left => 5,
+            Word::Came => 6,
+            Word::Opened => 7,
+            Word::Put => 8,
+            Word::Asleep => 9,
+            Word::Done => 10,
+        }
+    }
+
     /// The answer of a step that wakes nobody.
     pub(crate) fn alone(self) -> Stepped {
         Stepped { word: self, woken: 0 }
