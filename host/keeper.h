@@ -464,9 +464,9 @@ keeper_answer keeper_idle(const keeper_cell *cell);
 **
 ** With G agents in the cell, done ones too, and M the sum of 2 for each unused action and 1 for each agent on its way (stages 4 to 6), the number is
 ** 5 * G * (M + 1) + M. So of a cell that was just loaded or read, with A actions in all, it is 5 * G * (2 * A + 1) + 2 * A: 54 of the two agents with
-** one action each in `7[enter 9] | 9[exit 7]`, 657728 of the fullest cell, and 0 exactly where there are no agents. A step that answers left or came
-** lowers it by 5 * G + 1, one that answers opened or put by twice that, and no other call but a load or a reading changes it. It is proved
-** (crate ceiling); it is a ceiling and no forecast.
+** one action each in `7[enter 9] | 9[exit 7]`, 657728 of the fullest cell, and 0 exactly where there are no agents. A step or commit that answers
+** left or came lowers it by 5 * G + 1, one that answers opened or put by twice that, and of the other calls only keeper_bare, keeper_load and
+** keeper_read change it. It is proved (crate ceiling); it is a ceiling and no forecast.
 **
 ** Answers the number in keeper_most_changes(answer): it stands in bits 8 and up. Refused with 10 where the table is unsound. The cell is only read.
 */

@@ -80,7 +80,8 @@
 //! assert_eq!(&text[..length], b"9[]");
 //! assert_eq!(cell.lent().used, 0b11);
 //!
-//! // Which bonder is it in: the nearest place named 20 around the capillary, place 3; and the place that holds both holders, 2 and 4.
+//! // Which bonder is it in: the nearest place named 20 around the capillary, place 3; and the innermost that holds
+//! // both the capillary and the other holder, places 3 and 4.
 //! let cell = Cell::read("20[30[60[]] | 31[]] | 20[]")?;
 //! assert_eq!(cell.nearest(3, 20)?, Some(1));
 //! assert_eq!(cell.nearest(3, 40)?, None);

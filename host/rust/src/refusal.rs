@@ -20,7 +20,7 @@ pub enum Refusal {
     GivenTwice,
     /// 5: a parent, home, agent or touched place not yet given: put parents before what stands in them, agents before their actions, places before
     /// their touches. Of a call, a place that is not in use: if it was opened, what stood in it stands in the opener's place now, which has its
-    /// touches too.
+    /// touches too. Mind that a release may have given its number to another place: then the call is not refused.
     NotYetGiven,
     /// 6: name 0 in a place or action; a key may be 0. Use 1 to 65,535, and mind the low byte first.
     NameZero,

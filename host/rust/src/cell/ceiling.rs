@@ -15,8 +15,9 @@ impl Cell {
     ///
     /// With G agents in the cell, done ones too, and M the sum of 2 for each unused action and 1 for each agent on its way (stages 4 to 6), it is
     /// 5 × G × (M + 1) + M. So of a cell that was just loaded or read, with A actions in all, it is 5 × G × (2 × A + 1) + 2 × A: 657,728 of the
-    /// fullest cell, and 0 exactly where there are no agents. A step that answers left or came lowers it by 5 × G + 1, one that answers opened or
-    /// put by twice that, and no other call but a load or a reading changes it. It is proved (crate `ceiling`); it is a ceiling and no forecast.
+    /// fullest cell, and 0 exactly where there are no agents. A step or commit that answers left or came lowers it by 5 × G + 1, one that answers
+    /// opened or put by twice that, and of the other calls only [`Cell::reload`] and [`Cell::reread`] change it. It is proved (crate `ceiling`); it
+    /// is a ceiling and no forecast.
     ///
     /// ```
     /// use keeper::{Cell, Word};
