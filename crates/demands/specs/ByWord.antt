@@ -48,7 +48,7 @@ isPut Put = true
 isPut Asleep = false
 isPut Done = false
 
--- "under the smallest unused number" (document 02, W11): by this answer q, of these in use, comes into use
+-- "under the smallest unused number" (document 02, W11): by this answer q comes into use, where these were in use before
 abbrev pub putAt : Answer → (ℕ → Bool) → ℕ → Bool
 putAt (Did word woken) used q = isPut word && eqb q (freshNumber used)
 putAt (Refused number) used q = false
@@ -118,7 +118,7 @@ stageBy Asleep a b = a .stage
 stageBy Done a b = a .stage
 
 -- "An agent remembers a place at stages 1 to 3 and 7 (there the one it sleeps on) .. otherwise nothing": the place that an agent, which is a,
--- remembers after a step with this word. "Open: remember its own place", "Enter or exit: remember the parent"; p stays remembered up to stage 3;
+-- remembers after a step with this word. "Open: remember its own place", release too, "Enter or exit: remember the parent"; p stays remembered up to stage 3;
 -- "slept, stage 7 on its own place" at stage 0, "stage 7 on p" at stage 2, for release "on no place"
 abbrev pub rememberedBy : Word → Land → Agent → ℕ
 rememberedBy Looked l a = cond (looksHome (kindOf a)) (a .home) (l .place (a .home) .parent)

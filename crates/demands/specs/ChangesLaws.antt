@@ -3,13 +3,14 @@
 -- releases are all of the agent's.
 use mathlib.Core.Path.{_≡_, refl, sym, ap, _∙_, subst}
 use mathlib.Core.Logic.{_≢_, _⊎_, inl, inr}
-use mathlib.Core.Bool.{true, cond}
-use Prim.Native.Nat.{ℕ, _≤_}
+use mathlib.Core.Bool.{true, false, cond}
+use Prim.Native.Nat.{ℕ, _≤_, _<_}
 use native.Mathlib.Omega.{arith}
 use lib.Dec.{eqb}
 use borrow.Author.Tests.{eqb-true, eqb-false, eq-eqb, ne-eqb}
 use Rattle.table.specs.Base.{upd}
-use Rattle.table.specs.BaseLaws.{Told, yea, nay, told, eq?, upd-same, upd-at, upd-other}
+use Rattle.table.specs.BaseLaws.{Told, yea, nay, told, clash, eq?, upd-same, upd-at, upd-other}
+use Rattle.table.specs.FreshLaws.{fresh-unused}
 use Rattle.table.specs.Cell.{Land, State, none, freshNumber, hasAction, kindOf, exitKind, openKind}
 use Rattle.table.specs.Sound.{secondPlace}
 use Rattle.table.specs.declared.Place.{Place}
@@ -189,10 +190,12 @@ module _ (c : State) (i : Sound c) (x : ℕ) (g : c .given x ≡ true) where
   -- ---- putting
 
   -- n is the smallest unused number
-  putting : (n : ℕ) → freshNumber (c .land .used) ≡ n → c .agent x .stage ≡ 2 → ByPutting c x (put c x (c .agent x) n .cell)
+  putting : (n : ℕ) → freshNumber (c .land .used) ≡ n → n < 64 → c .agent x .stage ≡ 2 → ByPutting c x (put c x (c .agent x) n .cell)
   unfolding put
-  putting n f s = record {
+  putting n f small s = record {
     new-place = upd-at (c .land .place) n _ _ f;
+    no-agents = λ y h z. clash (home-given c i y h) (ap (c .land .used) z ∙ unused);
+    no-places = λ q u z. clash (i .places .parent-used q) (ap (c .land .used) (parent-read (c .land) q u ∙ z) ∙ unused);
     places = λ q d. upd-other (c .land .place) n q _ (λ z. d (z ∙ sym f));
     new-lock = upd-at _ n _ none f;
     own-locks = λ q u e. given-back q u e (eq? q n) (eq? q (c .agent x .remembered));
@@ -201,6 +204,9 @@ module _ (c : State) (i : Sound c) (x : ℕ) (g : c .given x ≡ true) where
     others = λ y d h. subst (Waking _ _ _ (c .agent y)) (sym (upd-other _ x y _ d)) (waking c _ _ _ y h);
   }
     where
+      unused : c .land .used (freshNumber (c .land .used)) ≡ false
+      unused = fresh-unused (c .land .used) (subst (λ (m : ℕ). m < 64) (sym f) small)
+
       given-back : (q : ℕ) → c .land .used q ≡ true → c .lock q ≡ x → (q ≡ n) ⊎ (q ≢ n)
           → (q ≡ c .agent x .remembered) ⊎ (q ≢ c .agent x .remembered) → released (c .lock) (c .agent x .remembered) n q ≡ none
       given-back q u e (inl z) _ = upd-at _ n q none z
@@ -267,7 +273,7 @@ module _ (c : State) (i : Sound c) (x : ℕ) (g : c .given x ≡ true) where
       goes Took _ _ _ _ refl (omega arith) (took-near l wish a 2 refl s) (took-choice l wish a q s e),
       taking _ _ _ _ f (needed-second l a _ s ∙ second-kept (kindOf a) (a .home) q),
     )
-    way-changes (puts n s _ f _) = (uses Put _ _ (ready s) refl refl refl refl, putting n f s)
+    way-changes (puts n s _ f small) = (uses Put _ _ (ready s) refl refl refl refl, putting n f small s)
     way-changes (sleeps-full s k _) = (
       goes Slept _ _ _ _ refl refl (sleeps-nowhere l wish a s k) refl,
       releasing _ _ _ _ (returned-two c i x g s),

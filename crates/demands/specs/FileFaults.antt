@@ -108,7 +108,7 @@ namesNotGiven s e at =
     (cond (isAction (kindAt s at)) (not (occurs (firstNumber s at) (e .agents)))
     (isTouches (kindAt s at) && not (occurs (firstNumber s at) (e .places))))
 
--- "7 action kind not 1 to 3"; "Action kind 4, release n" is an action too (document 02, W11)
+-- "7 action kind not 1 to 3"; "Action kind 4 leaves the wrong kinds" (document 02, W11)
 abbrev pub hasWrongKind : List ℕ → ℕ → Bool
 hasWrongKind s at = isAction (kindAt s at) && (eqb (secondNumber s at) 0 || ltb lastKind (secondNumber s at))
 

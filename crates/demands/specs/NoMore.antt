@@ -134,9 +134,12 @@ pub record ByOpening (c : State) (x : ℕ) (d : State) : Type 0 where
   pub others : (y : ℕ) → y ≢ x → c .given y ≡ true → Dissolved (c .agent x .remembered) (c .agent x .chosen) (c .agent y) (d .agent y)
 
 -- "puts a new place named n there, under the smallest unused number, with no agents .. and all keys n; it wakes those asleep on its own place,
--- releases the lock and answers put" (document 02, W11); its own place is the one that x remembers, and the new place's lock is free
+-- releases the lock and answers put" (document 02, W11); its own place is the one that x remembers, and the new place's lock is free. Nobody
+-- lives under that number and nothing stands there, and no home and no other place is changed
 pub record ByPutting (c : State) (x : ℕ) (d : State) : Type 0 where
   pub new-place : d .land .place (freshNumber (c .land .used)) ≡ linkedPlace (plainName (nameOf (c .agent x))) (c .agent x .remembered)
+  pub no-agents : (y : ℕ) → c .given y ≡ true → c .agent y .home ≢ freshNumber (c .land .used)
+  pub no-places : (q : ℕ) → c .land .used q ≡ true → c .land .place q .parent ≢ freshNumber (c .land .used)
   pub places : (q : ℕ) → q ≢ freshNumber (c .land .used) → d .land .place q ≡ c .land .place q
   pub new-lock : d .lock (freshNumber (c .land .used)) ≡ none
   pub own-locks : (q : ℕ) → c .land .used q ≡ true → c .lock q ≡ x → d .lock q ≡ none

@@ -1,4 +1,4 @@
--- What demand 1 claims of every call of the keeper (document 01, "Turned-away calls"; document 02, W8, W9, W10): which numbers it may be refused with,
+-- What demand 1 claims of every call of the keeper (document 01, "Turned-away calls"; document 02, W3, W8, W9, W10, W12): which numbers it may be refused with,
 -- when, and that a refusal changes nothing. A call more is one line more in each of these definitions. Definitions only.
 use mathlib.Core.Path.{_≡_}
 use mathlib.Core.Logic.{_≢_, _⊎_, _↔_}
@@ -176,7 +176,7 @@ before (check-call t) = record { table = t; bytes = [] }
 before (idle-call t) = record { table = t; bytes = [] }
 before (ceiling-call t) = record { table = t; bytes = [] }
 
--- and what it has of it afterwards; an ask changes nothing, nor does a question where a place is
+-- and what it has of it afterwards; an ask changes nothing, nor does a question where a place is or for the ceiling
 abbrev pub after : KeeperCall → Lent
 after (load-call t file) = record { table = loadOf t file .cell; bytes = file }
 after (read-call t text) = record { table = readOf t text .cell; bytes = text }

@@ -32,7 +32,7 @@ use Rattle.meaning.specs.Listing.{inOrder, contentsText, listing}
 use Rattle.meaning.specs.Listing.{listAnswer, listBuffer}
 use Rattle.meaning.specs.Report.{wordText, stepLine, refusedLine, listingLine, callsIn, reportRun, reportOf, report}
 use Rattle.meaning.specs.Codes.{checkOf, idleOf}
-use Rattle.meaning.specs.BenchRow.{Row, file, manyOpens, calls}
+use Rattle.meaning.specs.BenchRow.{Row, file, manyOpens, manyPlaces, calls}
 use Rattle.meaning.specs.BenchPaper.{paperRows, slipRows}
 use Rattle.meaning.specs.BenchFiles.{fileRows}
 use Rattle.meaning.specs.BenchSteps.{stepRows}
@@ -48,7 +48,7 @@ use Rattle.meaning.specs.BenchCeiling.{worked, lone, ceilingRows}
 use Rattle.meaning.specs.BenchOrder.{firstRows, orderRows}
 use Rattle.meaning.specs.BenchKeys.{keyRows, keyNumbers}
 use Rattle.meaning.specs.BenchPlain.{plainRows}
-use Rattle.meaning.specs.BenchRelease.{releaseRows, carrier, releaseNumbers}
+use Rattle.meaning.specs.BenchRelease.{releaseRows, carrier, rested, releaseNumbers}
 
 pub rows : List Row
 rows = keyRows ++ (firstRows ++ (releaseRows ++ (fileRows ++ (listingRows ++ (paperRows ++ (slipRows ++ stepRows))))))
@@ -91,7 +91,7 @@ allMeant (r ∷ rest) = same (r .value) (r .meant) && allMeant rest
 -- what walk cannot show: the plain tree and the calculus, keys and the row of places in a table, the calls and answers of a host, touches, ask
 -- and commit, where a place is, the ceiling, release, the table after each kind of step, and soundness clause by clause
 pub numbers : allMeant (plainRows ++ (keyNumbers ++ (orderRows ++ (callRows ++ (touchRows ++ (askRows ++ (whereRows ++ (ceilingRows ++ (releaseNumbers ++ (afterRows ++ soundRows)))))))))) ≡ true
-unfolding allMeant soundRows callRows afterRows releaseNumbers carrier askRows yard toldAt askOf commitOf handedOf whereRows hall shaft outwards nearest holds common nearestOf commonOf ceilingRows worked lone movesLeft changesLeft ceilingOf touchRows orderRows keyNumbers plainRows treeOf plainOf landIn pickOf plainWord plainStep plainRun
+unfolding allMeant soundRows callRows afterRows releaseNumbers carrier rested manyPlaces askRows yard toldAt askOf commitOf handedOf whereRows hall shaft outwards nearest holds common nearestOf commonOf ceilingRows worked lone movesLeft changesLeft ceilingOf touchRows orderRows keyNumbers plainRows treeOf plainOf landIn pickOf plainWord plainStep plainRun
     standsAt mayEnter mayExit mayOpen hasRoom mayRelease permits putInto openUp putOut move answers rowEnd unused crib counted untouched touchOf touchesOf callOf run sample topmost checkOf idleOf idle loadOf loaded listAnswer listBuffer overlay settled rests file manyOpens
     calls same has wordOf countOf lowestOf freshNumber keep later firstIn occurs counting countingRow hasAll allSmall rowFits chosenOf upd tab foldUp allBelow anyBelow countBelow iter cellOf tableOf bareTable linked
     linkedTo travels nextAction actionsFit ready holdsBoth stageFits firstHeld secondHeld lockIs claims agentFits goingFrom goes placeFits

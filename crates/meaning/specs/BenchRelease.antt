@@ -7,14 +7,15 @@ use lib.Dec.{ltb}
 use lib.ListN.{length, drop}
 use Rattle.sets.specs.Word.{bit}
 use Rattle.table.specs.Base.{tab}
-use Rattle.table.specs.Cell.{State, Land, plainName, cellOf, tableOf, freshNumber}
+use Rattle.table.specs.Cell.{State, plainName, cellOf, tableOf, freshNumber}
+use Rattle.table.specs.declared.Cell.{Cell}
 use Rattle.meaning.specs.Update.{linkedPlace, withPlaces, withUsed, withLand}
-use Rattle.meaning.specs.Run.{Call, stepCall, stepOf, answers}
+use Rattle.meaning.specs.Run.{Call, stepCall, stepOf, run, answers}
 use Rattle.meaning.specs.Ask.{askOf, commitOf}
-use Rattle.meaning.specs.Codes.{askNumber, stepNumber}
-use Rattle.meaning.specs.Calculus.{Tree, permits, move}
+use Rattle.meaning.specs.Codes.{askNumber, stepNumber, idleOf, idleNumber}
+use Rattle.meaning.specs.Calculus.{Tree, nextOf, permits, move}
 use Rattle.meaning.specs.Plain.{Plain, treeOf, plainOf, plainRun}
-use Rattle.meaning.specs.BenchRow.{Row, row, hex, agents, file, place, agent, enters, opens, releases}
+use Rattle.meaning.specs.BenchRow.{Row, row, hex, agents, file, manyPlaces, place, agent, enters, opens, releases}
 use Rattle.meaning.specs.BenchTables.{Computed, number, bytes, holds, fails, locked, staged, touched, loadedFrom, checked}
 
 -- ---- what walk writes
@@ -60,6 +61,11 @@ crowded c = withLand c (withUsed (withPlaces (c .land) (λ q. cond (c .land .use
 -- agent 1, which opens, at stage 3, while agent 2 sleeps on no place and all numbers are in use
 abbrev emptying : State
 emptying = locked 1 1 (locked 4 1 (staged 1 3 1 4 (staged 2 7 64 0 (crowded carrier))))
+
+-- a file with 63 places, and an agent on the floor with `release 5`, after three of its steps
+unfoldable pub rested : Cell
+unfolding file
+rested = run (loadedFrom (manyPlaces 63 (file (agent 0 0 ∷ releases 0 5 ∷ [])))) (stepCall 0 255 ∷ stepCall 0 255 ∷ stepCall 0 255 ∷ [])
 
 -- what a step of agent x answers, and the cell after it
 abbrev answer : ℕ → State → ℕ
@@ -144,6 +150,11 @@ releaseNumbers =
     ∷ number 0x010700 (answer 1 emptying)
     ∷ bytes (0 ∷ 0 ∷ 0 ∷ 0 ∷ []) (agentIn (after 1 emptying) 2)
     ∷ number 4 (freshNumber (after 1 emptying .land .used))
+    -- "When all agents are asleep or done, a release may be an agent's next action, and then only with 64 places in use"
+    ∷ number 0x0100 (idleNumber (idleOf rested))
+    ∷ number 0x000900 (stepNumber (stepOf rested 0 255 .answer))
+    ∷ bytes (7 ∷ 64 ∷ 0 ∷ 0 ∷ []) (agentIn (cellOf rested) 0)
+    ∷ bytes (4 ∷ 64 ∷ []) (nextOf (treeOf (cellOf rested)) 0 .kind ∷ freshNumber (cellOf rested .land .used) ∷ [])
     -- an ask of a release tells no place; a commit of what it tells is the step, one of the new place is refused
     ∷ number 0xff000800 (asks releasing 0)
     ∷ number 0xff000400 (asks (crowded releasing) 0)

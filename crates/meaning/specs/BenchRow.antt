@@ -68,6 +68,11 @@ unfoldable pub manyOpens : ℕ → List ℕ → List ℕ
 manyOpens zero rest = rest
 manyOpens (suc n) rest = opens 0 (suc n) ++ manyOpens n rest
 
+-- so many places named 1 on the floor, and further bytes
+unfoldable pub manyPlaces : ℕ → List ℕ → List ℕ
+manyPlaces zero rest = rest
+manyPlaces (suc n) rest = place (suc n) 0 1 ++ manyPlaces n rest
+
 -- ---- an order
 
 -- agents with numbers of one digit, each with wish 255

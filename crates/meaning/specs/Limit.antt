@@ -21,7 +21,8 @@ agentsOf c = countBelow (c .given) 64
 abbrev pub isAway : ℕ → Bool
 isAway stage = leb onWay stage && leb stage onWayBoth
 
--- the moves before an agent: two for each unused action, leaving and coming, and one more while its place is on its way
+-- the moves before an agent, at most: two for each unused action, since an enter or exit leaves and comes, while an open or a release is one; and one
+-- more while its place is on its way
 abbrev pub movesOf : Agent → ℕ
 movesOf a = 2 * length (unused a) + bit (isAway (a .stage))
 

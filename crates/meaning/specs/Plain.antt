@@ -17,7 +17,8 @@ use Rattle.meaning.specs.Calculus.{Tree, nextOf, standsAt, move, Move}
 use Rattle.meaning.specs.Run.{Call, agentOf, wishOf, Reply, stepReply, touchReply}
 
 -- "It knows each place's name and where it stands, each agent's home and unused actions, which places travel, and a pick for each agent";
--- 64 is no pick. "The plain tree knows this order too, from the file and the words came and opened, and picks by it" (document 02, W5)
+-- 64 is no pick. "The plain tree knows this order too, from the file and the words came and opened, and picks by it" (document 02, W5);
+-- since W11 also from put
 pub record Plain : Type 0 where
   pub tree : Tree
   pub travels : ℕ → Bool
@@ -72,7 +73,7 @@ landIn t = record {
   order = t .order;
 }
 
--- "There p is where its own place stands (open: its own place)"
+-- "There p is where its own place stands (open: its own place)", and so for release
 abbrev pub heldIn : Tree → ℕ → ℕ
 heldIn t a = cond (looksHome (nextOf t a .kind)) (t .home a) (t .parent (t .home a))
 

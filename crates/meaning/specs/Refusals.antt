@@ -28,7 +28,7 @@ notYetGiven = 5
 abbrev pub nameZero : ℕ
 nameZero = 6
 
--- "action kind not 1 to 3"
+-- "action kind not 1 to 3"; "Action kind 4 leaves the wrong kinds" (document 02, W11)
 abbrev pub wrongKind : ℕ
 wrongKind = 7
 

@@ -47,7 +47,7 @@ exitsFrom l n p = linked l p && named exitKind l p n
 unfoldable pub opensAt : Land → ℕ → ℕ → ℕ → Bool
 opensAt l n p q = linkedTo l q p && (named openKind l q n && not (awaited l q))
 
--- the action (kind, n) of an agent that lives in home and holds p fires on q; exit fires on p itself
+-- the action (kind, n), enter, exit or open, of an agent that lives in home and holds p fires on q; exit fires on p itself; no release asks
 unfoldable pub qualifies : Land → ℕ → ℕ → ℕ → ℕ → ℕ → Bool
 qualifies l kind n home p q =
     cond (eqb kind enterKind) (entersAt l n home p q)

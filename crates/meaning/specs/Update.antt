@@ -45,7 +45,7 @@ abbrev pub withActions : Agent → List Action → Agent
 withActions a s = record { home = a .home; stage = a .stage; remembered = a .remembered; chosen = a .chosen; next = a .next; count = a .count; actions = s }
 
 -- "An agent remembers a place at stages 1 to 3 and 7, and a chosen place at stage 3 of enter and open; otherwise nothing": stage,
--- remembered and chosen place, 0 where there is none
+-- remembered and chosen place, 0 where there is none; a release agent that sleeps on no place remembers 64 (document 02, W11)
 abbrev pub atStage : Agent → ℕ → ℕ → ℕ → Agent
 atStage a stage remembered chosen = withChosen (withRemembered (withStage a stage) remembered) chosen
 

@@ -53,8 +53,8 @@ ready some known same kind = some && (known && cond (looksHome kind) same true)
 unfoldable pub holdsBoth : ℕ → Bool → Bool → Bool
 holdsBoth kind here there = cond (eqb kind enterKind) (here && there) (cond (eqb kind exitKind) here (eqb kind openKind && there))
 
--- what each stage asks. some: an action is left; known: the remembered place is in use; same: it is the home;
--- here, there: the home and the chosen place are linked to it
+-- what each stage asks. some: an action is left; known: the remembered place is in use, or none is remembered where that
+-- may be; same: it is the home; here, there: the home and the chosen place are linked to it
 unfoldable pub stageFits : ℕ → Bool → Bool → Bool → ℕ → Bool → Bool → Bool
 stageFits s some known same kind here there =
     cond (eqb s looking) some
