@@ -356,7 +356,8 @@ def write(folder, files):
             (folder / name).write_bytes(content)
 
 
-for name, files in EXAMPLES.items():
-    write(TOP / "examples" / name, files)
-for name, files in CASES.items():
-    write(TOP / "tests" / "walk" / name, files)
+if __name__ == "__main__":
+    for name, files in EXAMPLES.items():
+        write(TOP / "examples" / name, files)
+    for name, files in CASES.items():
+        write(TOP / "tests" / "walk" / name, files)

@@ -49,19 +49,22 @@
 **     answer = keeper_list(&cell, text, sizeof text);
 **     if (keeper_refusal(answer) == 0)
 **         printf("%.*s\n", (int)keeper_length(answer), (const char *)text);
+**     answer = keeper_audit(file, length, trail, trail_length, text, keeper_length(answer));
+**     if (keeper_refusal(answer) == 0 && keeper_reason(answer) != KEEPER_AUDIT_YES)
+**         printf("%s after %llu moves\n", keeper_reason_text(keeper_reason(answer)), (unsigned long long)keeper_moves(answer));
 **
 ** What the caller owes, in every call:
 **
 **   - A pointer is not null, also where the length given with it is 0, and stays valid for the whole call. A cell is aligned as its type
-**     asks; files and texts may stand anywhere. Where the length is 0, nothing is read or written through the pointer, so any that is not
+**     asks; files, texts and trails may stand anywhere. Where the length is 0, nothing is read or written through the pointer, so any that is not
 **     null will do: that of an array, or one past its end.
 **   - A cell has been written before any call but keeper_bare, by that call or in any other way (all zeros will do): the keeper takes
 **     every bit pattern, and refuses one that is not a sound table with 10, but it does read it.
-**   - A file or text lent together with a cell does not overlap it.
+**   - A file or text lent together with a cell does not overlap it. Those lent to keeper_audit, which reads them only, may overlap.
 **   - During the call no other thread writes what is lent, nor reads what the call may write. So calls on different cells may run at the same
 **     time; and on one cell those that only read it (keeper_ask, keeper_list, keeper_check, keeper_idle, keeper_touches, keeper_nearest,
-**     keeper_common, keeper_ceiling), each with a text of its own.
-**   - The stack has room for KEEPER_STACK bytes.
+**     keeper_common, keeper_ceiling), each with a text of its own. keeper_audit and keeper_trail take no cell.
+**   - The stack has room for KEEPER_STACK bytes, in keeper_audit for KEEPER_AUDIT_STACK.
 */
 #ifndef KEEPER_H
 #define KEEPER_H
@@ -82,7 +85,7 @@ extern "C" {
 ** call, a word, a refusal. The patch number changes with anything else.
 */
 #define KEEPER_MAJOR 6
-#define KEEPER_MINOR 1
+#define KEEPER_MINOR 2
 #define KEEPER_PATCH 0
 #define KEEPER_VERSION (KEEPER_MAJOR * 65536 + KEEPER_MINOR * 256 + KEEPER_PATCH)
 
@@ -97,7 +100,7 @@ extern "C" {
 /* What an agent remembers that sleeps on no place: one whose next action is a release and that found all place numbers in use. */
 #define KEEPER_NO_PLACE 64
 
-/* What keeper_ask tells where there is no chosen place. */
+/* What keeper_ask tells where there is no chosen place, and what a trail has in place of one for an exit and a release. */
 #define KEEPER_NONE_CHOSEN 255
 
 /* What keeper_nearest answers where no place around the given one has the name. */
@@ -118,9 +121,15 @@ extern "C" {
 ** No text that keeper_read accepts is longer (counted and not proved); which refusal a longer one gets, only the whole of it decides. */
 #define KEEPER_LISTING_LONGEST 16225
 
-/* The stack that a call uses, in bytes, at most. This is measured and not proved: host/c/stack.c measures it on the library at hand and
-** fails where it is more; keeper_list needs the most. */
+/* How many bytes a trail has for a move; and the longest trail of a run from one load: every move uses up an action, and a cell has 64 times sixteen
+** (counted and not proved). A trail that is longer, from any cell, is never answered with a yes. */
+#define KEEPER_MOVE_BYTES 2
+#define KEEPER_TRAIL_LONGEST 2048
+
+/* The stack that a call uses, in bytes, at most; and what keeper_audit uses, which lists too, into a page of its own. This is measured and not proved:
+** host/c/stack.c measures it on the libraries at hand and fails where it is more; of the keeper's calls keeper_list needs the most. */
 #define KEEPER_STACK 65536
+#define KEEPER_AUDIT_STACK 131072
 
 /*
 ** Place numbers are given again. An opening (the word opened) takes the number of the opened place out of use, and a release (the word put) puts
@@ -213,7 +222,8 @@ KEEPER_ASSERT(offsetof(keeper_cell, touches) == 5200 && offsetof(keeper_cell, or
 ** an action record; of the three the earlier byte in the record decides. A step, an ask or a commit for an agent above 63 is 11. Of
 ** touches, in a record and in a call, and of the places that keeper_nearest and keeper_common are asked about, 3 is for one above 63, and 5
 ** for one that is not there. A place record with keys (kind 6) is tested as one without (kind 1); 6 is for its name alone, and its keys may
-** be any numbers. 16 and 17 are keeper_read's, and it has no others. 18 is keeper_commit's. */
+** be any numbers. 16 and 17 are keeper_read's, and it has no others. 18 is keeper_commit's. Of keeper_audit they are those of keeper_load, of the file that
+** it is lent, with their offsets; of keeper_trail there is 12 alone. */
 enum {
     KEEPER_CUT_SHORT = 1,           /* copy the file anew; put the byte 4 at its end */
     KEEPER_UNKNOWN_KIND = 2,        /* look at the record before it too: a byte too many or too few there shifts all that follows */
@@ -228,7 +238,8 @@ enum {
     KEEPER_AFTER_THE_END = 9,       /* cut the file there, or move the end record to the end */
     KEEPER_UNSOUND = 10,            /* somebody else wrote the cell, or it was restored from a damaged copy: load again */
     KEEPER_NO_SUCH_AGENT = 11,      /* correct the order: the cell has no agent of that number */
-    KEEPER_LISTING_TOO_LONG = 12,   /* lend a larger text; KEEPER_LISTING_LONGEST bytes are enough for every cell */
+    KEEPER_LISTING_TOO_LONG = 12,   /* lend a larger text; KEEPER_LISTING_LONGEST bytes are enough for every cell; of keeper_trail, lend room for two
+                                       bytes more; KEEPER_TRAIL_LONGEST bytes are enough for every run */
     KEEPER_PARENT_TOO_LARGE = 13,   /* look at the record's third byte: it names a place, 0 to 63 */
     KEEPER_AGENT_TOO_LARGE = 14,    /* look at the record's second byte, and number agents 0 to 63 */
     KEEPER_TOO_MANY_TOUCHES = 15,   /* no line comes near that many: find out who adds them */
@@ -252,13 +263,24 @@ enum {
     KEEPER_DONE = 10
 };
 
+/* What keeper_audit says of a trail from an accepted file: yes, or why not. */
+enum {
+    KEEPER_AUDIT_YES = 0,           /* every move is permitted, and the layout after the last one has the given listing */
+    KEEPER_AUDIT_NOT_PERMITTED = 1, /* the next action of the move's agent cannot be made there: the byte names a place that the action does not act on, or
+                                       is not 255 for an exit or a release, or the action is not one that the calculus permits in the layout reached */
+    KEEPER_AUDIT_NO_ACTION = 2,     /* the agent of the move is not given in the file, or has no action left */
+    KEEPER_AUDIT_ODD_BYTE = 3,      /* the trail ends in half a move: it was cut, or a byte is missing; none of its moves was looked at */
+    KEEPER_AUDIT_OTHER_LAYOUT = 4   /* all moves are permitted, and the layout after them has another listing than the given one */
+};
+
 /*
 ** What a call answers, in one number: bits 0 to 7 are 0, or the number with which the call was refused. The bits above are, for keeper_load
 ** and keeper_read, the offset of a refusal; for keeper_step and keeper_commit, the word (bits 8 to 15) and the number woken (bits 16 to 23);
 ** for keeper_ask, these two and the chosen place (bits 24 to 31); for keeper_list, the length; for keeper_idle, 1 if all agents are asleep or
 ** done; for keeper_touch and keeper_touches, the place's touch count; for keeper_nearest and keeper_common, the place that was found (bits 8
-** to 15); for keeper_ceiling, how many step calls can still change the cell. Where nothing is named, a bit is 0. The functions at the end of
-** this file take it apart.
+** to 15); for keeper_ceiling, how many step calls can still change the cell; for keeper_audit, the offset of a refusal, else the reason (bits 8 to 15)
+** and the moves before it (from bit 16 on); for keeper_trail, how many bytes it wrote. Where nothing is named, a bit is 0. The functions at the end
+** of this file take it apart.
 */
 typedef uint64_t keeper_answer;
 
@@ -523,10 +545,55 @@ keeper_answer keeper_nearest(const keeper_cell *cell, uint8_t place, uint16_t na
 */
 keeper_answer keeper_common(const keeper_cell *cell, uint8_t place, uint8_t other);
 
+/*
+** keeper_trail: writes, to trail[0] and trail[1], the move that a step of this agent makes, by the number `asked` that keeper_ask answered for it: the agent
+** and the place that it enters or opens, or 255 (KEEPER_NONE_CHOSEN) for an exit and a release. A step makes a move where its word is left, opened or put;
+** for any other word, and for an ask that was refused, there is nothing to write. `room` is how many bytes may be written at `trail`.
+**
+** So a host keeps the trail of a run, from an accepted keeper_load on:
+**
+**     keeper_answer asked = keeper_ask(&cell, agent, wish);        right before keeper_step, or for a keeper_commit at any time before it
+**     keeper_answer answer = keeper_commit(&cell, agent, wish, asked);
+**     if keeper_refusal(answer) is 0                               a commit that is refused makes no move
+**         length += keeper_length(keeper_trail(agent, asked, trail + length, sizeof trail - length));
+**
+** where `trail` has KEEPER_TRAIL_LONGEST bytes. Touch calls and whatever reads the cell may come between and write nothing. The trail so kept, with the
+** file and the listing of the cell, is answered by keeper_audit with a yes, after every call (proved: crate claims, `asked-run` and `run-upheld`).
+**
+** Answers how many bytes it wrote in keeper_length(answer): 2, or 0 where there is no move. Bytes past them are as they were. Refused with 12 where
+** there is a move and `room` is less than 2; then nothing is written. It takes no cell, so it is never 10 or 11: what it writes is as true as `asked`.
+*/
+keeper_answer keeper_trail(uint8_t agent, keeper_answer asked, uint8_t *trail, size_t room);
+
+/*
+** keeper_audit: whether a trail leads from a cell file to a listing, such as the trail that the dispatcher's maker delivers with each shift. It stands in
+** a library of its own, libauditor.a (`rt staticlib auditor`), which is linked beside libkeeper.a where this call is made. The file is
+** that of file[0] to file[file_length - 1], as for keeper_load; the trail has two bytes for each move, from trail[0] on, as keeper_trail writes them; the
+** listing is compared byte for byte with that of the layout at the end, as keeper_list writes it: no line end, no closing zero byte.
+**
+** A yes means that each move is one that the calculus permits for its agent's next action in the layout that the moves before it have reached, and that the
+** layout after the last one has this listing; so it is that of the file after these very moves, and the trail of every run of the keeper is a yes (both
+** are proved: crates trail and claims). It does not mean that the keeper made them, nor that it would have in this order: locks, wishes, ways, sleep and
+** touches play no part, a trail may stop anywhere, and whether the plant's carriers are where the listing says, no trail shows.
+**
+** Answers 0 for a yes. Else, where the file is accepted, keeper_reason(answer) is why not (KEEPER_AUDIT_..), and keeper_moves(answer) is how many moves
+** stand before what is wrong: for 1 and 2, how many were made before the one that is denied, which is the move in trail[2 * moves] and the byte after it;
+** for 3, how many whole moves the trail has, so that trail[2 * moves] is the odd byte; for 4, all of them. The number as a whole is
+**
+**     bits 0 to 7      0, or the refusal; then the offset from bit 8 on, as keeper_load answers it
+**     bits 8 to 15     the reason, 0 for a yes
+**     from bit 16 on   the moves
+**
+** A bad file is refused as keeper_load refuses it, whatever the trail and the listing; then an odd trail is a no, whatever its moves; then the first move
+** that is denied decides, and the listing last. Nothing is written; file, trail and listing are only read.
+*/
+keeper_answer keeper_audit(const uint8_t *file, size_t file_length, const uint8_t *trail, size_t trail_length, const uint8_t *listing,
+                           size_t listing_length);
+
 /* The number with which the call was refused, or 0. */
 static inline unsigned keeper_refusal(keeper_answer answer) { return (unsigned)(answer & 255); }
 
-/* The offset at which keeper_load refused the file, or keeper_read the text. */
+/* The offset at which keeper_load or keeper_audit refused the file, or keeper_read the text. */
 static inline size_t keeper_offset(keeper_answer answer) { return (size_t)(answer >> 8); }
 
 /* The word that keeper_step or keeper_commit answers, or that keeper_ask tells. */
@@ -538,7 +605,7 @@ static inline unsigned keeper_woken(keeper_answer answer) { return (unsigned)(an
 /* The chosen place that keeper_ask tells, or KEEPER_NONE_CHOSEN. */
 static inline unsigned keeper_chosen(keeper_answer answer) { return (unsigned)(answer >> 24 & 255); }
 
-/* The length of the listing that keeper_list wrote. */
+/* The length of the listing that keeper_list wrote, or how many bytes keeper_trail wrote. */
 static inline size_t keeper_length(keeper_answer answer) { return (size_t)(answer >> 8); }
 
 /* 1 if keeper_idle found all agents asleep or done, else 0. */
@@ -552,6 +619,12 @@ static inline unsigned keeper_found(keeper_answer answer) { return (unsigned)(an
 
 /* How many step calls can still change the cell, at most, as keeper_ceiling answers it. */
 static inline uint64_t keeper_most_changes(keeper_answer answer) { return answer >> 8; }
+
+/* Why keeper_audit says no, or KEEPER_AUDIT_YES; it means something where the file is not refused. */
+static inline unsigned keeper_reason(keeper_answer answer) { return (unsigned)(answer >> 8 & 255); }
+
+/* How many moves stand before what keeper_audit finds wrong. */
+static inline uint64_t keeper_moves(keeper_answer answer) { return answer >> 16; }
 
 /* The word's name, as `walk` prints it; "unknown" for a number that is no word. */
 static inline const char *keeper_word_name(unsigned word)
@@ -572,6 +645,19 @@ static inline const char *keeper_word_name(unsigned word)
     }
 }
 
+/* What keeper_audit's reason means, as `audit` prints it; "unknown" for a number that is none. */
+static inline const char *keeper_reason_text(unsigned reason)
+{
+    switch (reason) {
+    case KEEPER_AUDIT_YES: return "yes";
+    case KEEPER_AUDIT_NOT_PERMITTED: return "not permitted";
+    case KEEPER_AUDIT_NO_ACTION: return "no action left";
+    case KEEPER_AUDIT_ODD_BYTE: return "odd last byte";
+    case KEEPER_AUDIT_OTHER_LAYOUT: return "other layout";
+    default: return "unknown";
+    }
+}
+
 /* What a refusal's number means; "unknown" for a number that is none. */
 static inline const char *keeper_refusal_text(unsigned refusal)
 {
@@ -587,7 +673,7 @@ static inline const char *keeper_refusal_text(unsigned refusal)
     case KEEPER_AFTER_THE_END: return "bytes after the end record";
     case KEEPER_UNSOUND: return "unsound table";
     case KEEPER_NO_SUCH_AGENT: return "no such agent";
-    case KEEPER_LISTING_TOO_LONG: return "listing longer than the buffer";
+    case KEEPER_LISTING_TOO_LONG: return "listing or move longer than the buffer";
     case KEEPER_PARENT_TOO_LARGE: return "parent or home above 63";
     case KEEPER_AGENT_TOO_LARGE: return "agent number above 63";
     case KEEPER_TOO_MANY_TOUCHES: return "more than 1,000,000,000,000 touches in all";

@@ -12,6 +12,7 @@ from ceiling import ceiling
 from release import release, semaphore
 from railroad import Again, Box, Either, Row, Skip, tracks
 from timeline import asking
+from trail import trail
 from where import where
 
 
@@ -290,5 +291,5 @@ def language():
 
 if __name__ == "__main__":
     for draw in (cell, stages, enter, exit_, open_, release, semaphore, touches, served, layouts, language, rights, example_trees, example_held, example_locks, slips,
-                 asking, where, ceiling):
+                 asking, where, ceiling, trail):
         draw()

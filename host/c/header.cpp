@@ -46,6 +46,15 @@ int main()
         return 1;
     if (keeper_word(keeper_step(&cell, 0, 255)) != KEEPER_TOOK || keeper_word(keeper_step(&cell, 0, 255)) != KEEPER_PUT || cell.used != 3)
         return 1;
+    const uint8_t moves[] = {0, 255};
+    const uint8_t release[] = {2, 0, 0, 3, 0, 4, 9, 0, 4};
+    if (keeper_trail(0, KEEPER_PUT << 8 | 0xFF000000, text, 2) != 2 << 8 || std::memcmp(text, moves, 2) != 0)
+        return 1;
+    if (keeper_audit(release, sizeof release, moves, 2, reinterpret_cast<const uint8_t *>("9[]"), 3) != KEEPER_AUDIT_YES)
+        return 1;
+    const keeper_answer audited = keeper_audit(release, sizeof release, moves, 2, moves, 2);
+    if (keeper_reason(audited) != KEEPER_AUDIT_OTHER_LAYOUT || keeper_moves(audited) != 1)
+        return 1;
     std::puts("1 passed, 0 failed");
     return 0;
 }

@@ -4,7 +4,7 @@
 ** which they are listed; all agents with sixteen actions. Where the agents release, one number is unused: one of them puts its place there,
 ** and the others sleep on no place. All agents step, many times; each step is also asked for before, and committed on a copy. A listing is
 ** also made in a room that not every listing fits, and each listing is read back. Where a place is, is asked of the last one, which in a
-** chain has all others around it.
+** chain has all others around it. The trail of the steps is kept and audited with the listing at their end; it must be a yes.
 */
 #define _POSIX_C_SOURCE 200809L
 #include "../keeper.h"
@@ -16,8 +16,8 @@
 
 #define ROOM (1024 * 1024)
 #define PATTERN 0xA5
-#define CALLS 15
-#define STEPPING 3 /* the last ones: ask, commit and step */
+#define CALLS 17
+#define STEPPING 5 /* the last ones: ask, commit, step, trail and audit */
 
 static keeper_cell cell;
 static uint8_t file[KEEPER_FILE_LONGEST];
@@ -26,6 +26,8 @@ static uint8_t text[KEEPER_LISTING_LONGEST];
 static size_t text_length;
 static uint8_t agent; /* or the place of a call for a place */
 static keeper_answer asked;
+static uint8_t moves[KEEPER_TRAIL_LONGEST];
+static size_t trail_length;
 
 static void bare(void) { keeper_bare(&cell); }
 static void load(void) { keeper_load(&cell, file, file_length); }
@@ -42,6 +44,8 @@ static void touch(void) { keeper_touch(&cell, agent, 1); }
 static void touches(void) { keeper_touches(&cell, agent); }
 static void nearest(void) { keeper_nearest(&cell, agent, 0); }
 static void common(void) { keeper_common(&cell, agent, 1); }
+static void trail(void) { trail_length += keeper_length(keeper_trail(agent, asked, moves + trail_length, sizeof moves - trail_length)); }
+static void audit(void) { keeper_audit(file, file_length, moves, trail_length, text, text_length); }
 
 /* A call to measure, the stack that it runs on, and what it used. */
 typedef struct measured {
@@ -117,9 +121,9 @@ int main(void)
 {
     size_t used[CALLS] = {0};
     void (*const calls[CALLS])(void) = {bare,  load,    check,   idle,   ceiling, list,   list_short, read,
-                                        touch, touches, nearest, common, ask,     commit, step};
+                                        touch, touches, nearest, common, ask,     commit, step,       trail, audit};
     const char *const names[CALLS] = {"bare",  "load",    "check",   "idle",   "ceiling", "list",   "list in a short room", "read",
-                                      "touch", "touches", "nearest", "common", "ask",     "commit", "step"};
+                                      "touch", "touches", "nearest", "common", "ask",     "commit", "step",                 "trail", "audit"};
     size_t most = 0;
 
     if (!keeper_fits())
@@ -127,27 +131,36 @@ int main(void)
     for (uint8_t kind = 1; kind <= 4; kind++) {
         for (int shape = 0; shape < 3; shape++) {
             make_file(shape, kind);
+            trail_length = 0;
             measure(bare, &used[0]);
             agent = kind == 4 ? 62 : 63;
             keeper_load(&cell, file, file_length);
             text_length = keeper_length(keeper_list(&cell, text, sizeof text));
             for (int call = 1; call < CALLS - STEPPING; call++)
                 measure(calls[call], &used[call]);
+            keeper_load(&cell, file, file_length);
             for (int turn = 0; turn < 8 * 64; turn++) {
                 keeper_cell before = cell;
 
                 agent = (uint8_t)(turn / 8);
-                measure(ask, &used[CALLS - 3]);
-                measure(commit, &used[CALLS - 2]);
+                measure(ask, &used[CALLS - 5]);
+                measure(commit, &used[CALLS - 4]);
                 cell = before;
-                measure(step, &used[CALLS - 1]);
+                measure(step, &used[CALLS - 3]);
+                measure(trail, &used[CALLS - 2]);
             }
+            text_length = keeper_length(keeper_list(&cell, text, sizeof text));
+            measure(audit, &used[CALLS - 1]);
+            if (keeper_audit(file, file_length, moves, trail_length, text, text_length) != KEEPER_AUDIT_YES)
+                return 1;
         }
     }
     for (int call = 0; call < CALLS; call++) {
         printf("stack used by keeper_%s: %zu bytes\n", names[call], used[call]);
-        most = used[call] > most ? used[call] : most;
+        if (calls[call] != audit)
+            most = used[call] > most ? used[call] : most;
     }
     printf("stack used: %zu bytes, promised: at most %d\n", most, KEEPER_STACK);
-    return most <= KEEPER_STACK ? 0 : 1;
+    printf("stack used by keeper_audit: %zu bytes, promised: at most %d\n", used[CALLS - 1], KEEPER_AUDIT_STACK);
+    return most <= KEEPER_STACK && used[CALLS - 1] <= KEEPER_AUDIT_STACK ? 0 : 1;
 }

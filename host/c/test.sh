@@ -162,7 +162,7 @@ if [ "$status" -ne 1 ] || [ -s "$folder/printed" ]; then
 fi
 passed=$((passed + 1))
 
-for program in calls calls-sanitized ask ask-sanitized ceiling ceiling-sanitized served served-sanitized keys keys-sanitized layouts layouts-sanitized release release-sanitized texts texts-sanitized where where-sanitized header; do
+for program in calls calls-sanitized ask ask-sanitized audit audit-sanitized ceiling ceiling-sanitized served served-sanitized keys keys-sanitized layouts layouts-sanitized release release-sanitized texts texts-sanitized where where-sanitized header; do
     printf '%s: ' "$program"
     "target/$program"
     passed=$((passed + 1))

@@ -1,7 +1,7 @@
 -- From what a writer promises to the whole text, and from the bytes that were read to the files.
 use mathlib.Core.Path.{_≡_, refl, sym, ap, ap₂, _∙_}
 use mathlib.Core.List.{List, [], _∷_, _++_}
-use Prim.Native.Nat.{ℕ, zero, suc, _≤_, _<_}
+use Prim.Native.Nat.{ℕ, zero, suc, _+_, _≤_, _<_}
 use native.Mathlib.Nat.{not-suc-le-zero, le-of-suc-le-suc}
 use native.Mathlib.Omega.{arith}
 use lib.Dec.{ltb, lit<}
@@ -12,8 +12,9 @@ use Rattle.table.specs.BaseLaws.{Told, yea, nay, told}
 use Rattle.meaning.specs.Text.{overlay}
 use Rattle.meaning.specs.Report.{report}
 use Rattle.text.specs.Wrote.{Wrote, least}
+use Rattle.text.specs.TextLaws.{capped-low}
 use Rattle.lengths.specs.Longest.{decidingBytes, longestReport}
-use Rattle.lengths.specs.ReportLength.{report-longest, text-whole}
+use Rattle.lengths.specs.ReportLength.{report-longest}
 use Rattle.lengths.specs.Prefix.{report-prefix}
 use Rattle.buffers.specs.Held.{Bytes, Holds, Whole}
 
@@ -49,16 +50,21 @@ over-fits [] b l = refl
 over-fits (x ∷ t) [] l = absurd (not-suc-le-zero l)
 over-fits (x ∷ t) (y ∷ b) l = ap (λ (s : List ℕ). x ∷ s) (over-fits t b (le-of-suc-le-suc l))
 
--- with room for the longest report a text that is not longer is written whole
-pub fitting-whole : {text before after : List ℕ} {answer : ℕ} → length text ≤ longestReport → longestReport ≤ length before
+-- so the whole text stands at the buffer's start
+pub wrote-whole : {text before after : List ℕ} {answer : ℕ} → length text ≤ length before → length text ≤ 18446744073709551615
     → Wrote text 0 before after answer → Whole text before after answer
-fitting-whole {text} {before} {after} {answer} short room w = record {
+wrote-whole {text} {before} {after} {answer} fits low w = record {
   count = count;
-  bytes = w .text ∙ over-fits text before (omega arith) ∙ ap (λ (k : ℕ). text ++ drop k before) (sym count);
+  bytes = w .text ∙ over-fits text before fits ∙ ap (λ (k : ℕ). text ++ drop k before) (sym count);
 }
   where
     count : answer ≡ length text
-    count = text-whole text before after answer short room w .0
+    count = w .count ∙ capped-low (0 + length text) (omega arith) ∙ omega arith
+
+-- with room for the longest report a text that is not longer is written whole
+pub fitting-whole : {text before after : List ℕ} {answer : ℕ} → length text ≤ longestReport → longestReport ≤ length before
+    → Wrote text 0 before after answer → Whole text before after answer
+fitting-whole short room w = wrote-whole (omega arith) (omega arith) w
 
 -- what stands whole at a buffer's start is what is found there
 pub whole-start : {text before after : List ℕ} {answer : ℕ} → Whole text before after answer → take answer after ≡ text

@@ -6,17 +6,20 @@ use mathlib.Core.List.{List, [], _∷_}
 use Prim.Native.Nat.{ℕ, zero, suc, _+_, _≤_, _<_}
 use native.Mathlib.Nat.{not-suc-le-zero, le-of-suc-le-suc}
 use native.Mathlib.Omega.{arith}
-use lib.Dec.{eqb}
+use lib.Dec.{eqb, leb}
 use lib.ListN.{length, getD, drop, take}
-use borrow.Author.Tests.{eq-eqb, ne-eqb}
+use borrow.Author.Tests.{eq-eqb, ne-eqb, le-leb}
 use Rattle.table.specs.Bounds.{Names16}
 use Rattle.table.specs.Cell.{cellOf}
 use Rattle.table.specs.declared.Cell.{Cell}
 use Rattle.meaning.specs.Listing.{listing}
-use Rattle.text.specs.Wrote.{Wrote}
-use Rattle.text.specs.TextLaws.{exactly, over-start, wrote-length}
+use Rattle.meaning.specs.Text.{overlay}
+use Rattle.meaning.specs.declared.Listed.{Listed}
+use Rattle.meaning.specs.declared.Listed.the-variants.{Length, Unlisted}
+use Rattle.text.specs.TextLaws.{over-length, over-start}
 use Rattle.lengths.specs.Longest.{longestListing}
 use Rattle.lengths.specs.ListingLength.{listing-longest}
+use Rattle.listing.specs.Known.{knownAnswer, knownBuffer}
 use Rattle.trail.specs.Trail.{sameText}
 
 -- the same byte at i: the rest decides
@@ -57,15 +60,29 @@ same-length (x ∷ s) (y ∷ t) n = sym (and-false (eqb x y)) ∙ ap (_&&_ (eqb 
 
 -- ---- the listing in a page
 
-module _ (t : Cell) (names : Names16 t) {b e : List ℕ} {n : ℕ} (room : length b ≡ longestListing) (w : Wrote (listing (cellOf t)) 0 b e n) where
-  short : length (listing (cellOf t)) ≤ longestListing
-  short = listing-longest t names
+module _ (t : Cell) (names : Names16 t) (b : List ℕ) {e : List ℕ} {r : Listed} (room : length b ≡ longestListing)
+    (says : (r ≡ knownAnswer true (cellOf t) b) × (e ≡ knownBuffer true (cellOf t) b)) where
+  fits : leb (length (listing (cellOf t))) (length b) ≡ true
+  fits = le-leb (length (listing (cellOf t))) (length b) (omega (arith, listing-longest t names, room))
 
-  whole : n ≡ 0 + length (listing (cellOf t))
-  whole = exactly (omega (arith, short)) w
+  answered : r ≡ Length (length (listing (cellOf t)))
+  unfolding knownAnswer
+  answered = says .0 ∙ rw fits
 
-  pub wrote-within : n ≤ length e
-  wrote-within = omega (arith, whole, short, room, wrote-length w)
+  held : e ≡ overlay (listing (cellOf t)) b
+  unfolding knownBuffer
+  held = says .1 ∙ rw fits
 
-  pub wrote-all : take n e ≡ listing (cellOf t)
-  wrote-all = ap₂ take (let q : n ≡ length (listing (cellOf t)) = omega (arith, whole) in q) (w .text) ∙ over-start (listing (cellOf t)) b (omega (arith, short, room))
+  -- it is never refused
+  pub never-refused : {A : Type 0} {number : ℕ} → r ≡ Unlisted number → A
+  never-refused q = let a = answered in let z : _≡_ {A = ℕ} 0 1 = cc in absurd (omega arith)
+
+  module _ {n : ℕ} (q : r ≡ Length n) where
+    whole : n ≡ length (listing (cellOf t))
+    whole = let a = answered in cc
+
+    pub listed-within : n ≤ length e
+    listed-within = omega (arith, whole, listing-longest t names, room, ap length held, over-length (listing (cellOf t)) b)
+
+    pub listed-all : take n e ≡ listing (cellOf t)
+    listed-all = ap₂ take whole held ∙ over-start (listing (cellOf t)) b (omega (arith, listing-longest t names, room))

@@ -1,4 +1,5 @@
 // Whether a text is the listing of a table.
+use meaning::Listed;
 use table::Cell;
 ghost use mathlib.Core.Path.{_≡_};
 ghost use Rattle.table.specs.Cell.{cellOf};
@@ -25,11 +26,14 @@ fn same(s: &[u8], t: &[u8]) -> bool
     true
 }
 
-// Whether the listing of a cell is this text, byte for byte.
+// Whether the listing of a cell is this text, byte for byte. The page holds every listing, so it is never too long.
 pub(super) fn lists_as(c: Cell, text: &[u8]) -> bool
     ensures { λ r. ⌜ r ≡ sameText (now (text .entry)) (listing (cellOf c)) ⌝ }
 {
     let mut page: [u8; PAGE_BYTES] = [0; PAGE_BYTES];
-    let n = listing::write_listing(c, 0, &mut page);
-    same(text, &page[..n])
+    let listed = listing::list_known(true, c, &mut page);
+    match listed {
+        Listed::Length(n) => same(text, &page[..n]),
+        Listed::Unlisted(_) => false,
+    }
 }

@@ -1,12 +1,14 @@
 -- The trail that a host writes by an ask before each call is the trail of the run: `asked-run`, of every accepted file and every list of calls.
--- Idea: at left and opened an ask tells the chosen place of stage 3, which is the agent's pick, and none for exit and release.
+-- Idea: at left and opened an ask tells the chosen place of stage 3, which is the agent's pick, and none for exit and release; and its number has word
+-- and place in their own bits.
 use mathlib.Core.Path.{_≡_, refl, sym, ap, ap₂, _∙_, subst}
 use mathlib.Core.Logic.{_≢_, _⊎_, inl, inr}
 use mathlib.Core.Bool.{Bool, true, false, cond}
 use mathlib.Core.List.{List, [], _∷_, _++_}
-use Prim.Native.Nat.{ℕ}
+use Prim.Native.Nat.{ℕ, _/_, _%_}
 use native.Mathlib.Omega.{arith}
 use lib.Dec.{eqb}
+use borrow.Author.Tests.{eq-eqb, ne-eqb}
 use Rattle.table.specs.BaseLaws.{Told, yea, nay, told, clash}
 use Rattle.table.specs.Bounds.{Sized}
 use Rattle.table.specs.Cell.{State, cellOf, tableOf, kindOf, enterKind, exitKind, openKind, releaseKind, holding, holdingBoth}
@@ -14,14 +16,15 @@ use Rattle.table.specs.CellLaws.{sized-table}
 use Rattle.table.specs.Sound.{sound}
 use Rattle.table.specs.declared.Agent.{Agent}
 use Rattle.table.specs.declared.Cell.{Cell}
-use Rattle.meaning.specs.declared.Asked.the-variants.{Unasked}
+use Rattle.meaning.specs.declared.Asked.{Asked}
+use Rattle.meaning.specs.declared.Asked.the-variants.{Would, Unasked}
 use Rattle.meaning.specs.declared.Stepped.{Stepped}
 use Rattle.meaning.specs.declared.Word.{Word}
-use Rattle.meaning.specs.declared.Word.the-variants.{Back, Left, Opened}
+use Rattle.meaning.specs.declared.Word.the-variants.{Looked, Took, Held, Back, Slept, Left, Came, Opened, Put, Asleep, Done}
 use Rattle.meaning.specs.Ask.{toldPlace, askOf}
 use Rattle.meaning.specs.AskLaws.{committed, ask-given, ask-unsound, ask-unknown, step-given}
 use Rattle.meaning.specs.Calculus.{Tree, nextOf}
-use Rattle.meaning.specs.Codes.{noneTold}
+use Rattle.meaning.specs.Codes.{noneTold, wordNumber, askNumber}
 use Rattle.meaning.specs.File.{load, accepted}
 use Rattle.meaning.specs.Plain.{Plain, plainOf, plainStep, plainRun, isMove, saysMove}
 use Rattle.meaning.specs.Refusals.{noSuchAgent, unsoundTable}
@@ -29,8 +32,10 @@ use Rattle.meaning.specs.Run.{Call, stepCall, touchCall, commitCall, agentOf, w
 use Rattle.meaning.specs.Step.{Outcome, choice, step, still, put, leave, dissolve, arrive}
 use Rattle.demands.specs.Always.{sized-run, inv-run}
 use Rattle.demands.specs.Asking.{on-chosen, Chooses, TellsPlace, tells-chosen, tells-none}
+use Rattle.demands.specs.AskingLaws.{word-small}
 use Rattle.demands.specs.DemandThree.{fresh-same, start-inv}
 use Rattle.demands.specs.Fresh.{Fresh}
+use Rattle.demands.specs.HandedLaws.{place-of, Small, asked-small}
 use Rattle.demands.specs.Invariant.{Inv, Sound}
 use Rattle.demands.specs.LoadingFile.{accepted-fresh}
 use Rattle.demands.specs.LoadingLaws.{fresh-forth}
@@ -45,7 +50,66 @@ use Rattle.demands.specs.Ways.{Way, is-done, is-asleep, held-first, held-second
 use Rattle.demands.specs.Ways.{sleeps-alone, takes-first, goes-back, sleeps-stuck, takes-second, puts, sleeps-full, gives-up, enters, exits, opens}
 use Rattle.demands.specs.Ways.{takes-own, takes-destination, comes}
 use Rattle.trail.specs.Trail.{byteWritten, writtenBy, trailRun}
-use Rattle.claims.specs.Claims.{askedBytes, askedBy, trailAsked, AskedAsRun}
+use Rattle.trail.specs.Written.{wordMoves, toldBytes}
+use Rattle.claims.specs.Claims.{askedBy, trailAsked, AskedAsRun}
+
+-- ---- the bytes by an ask's number
+
+-- the same by value: at left, opened and put the agent and the place, 255 for none; else nothing
+abbrev pub askedBytes : ℕ → Asked → List ℕ
+askedBytes x (Would word woken place) = cond (isMove word) (x ∷ place ∷ []) []
+askedBytes x (Unasked number) = []
+
+-- the words of a move, by their numbers
+word-moves : (w : Word) → wordMoves (wordNumber w) ≡ isMove w
+word-moves Looked = refl
+word-moves Took = refl
+word-moves Held = refl
+word-moves Back = refl
+word-moves Slept = refl
+word-moves Left = refl
+word-moves Came = refl
+word-moves Opened = refl
+word-moves Put = refl
+word-moves Asleep = refl
+word-moves Done = refl
+
+-- the word stands in its bits, whatever is told beside it
+word-told : (x : ℕ) (w : Word) (n q : ℕ)
+    → toldBytes x (askNumber (Would w n q)) ≡ cond (isMove w) (x ∷ askNumber (Would w n q) / 16777216 % 256 ∷ []) []
+unfolding toldBytes
+word-told x w n q =
+    let l = word-small w in
+    let e : askNumber (Would w n q) / 256 % 256 ≡ wordNumber w = omega (arith, l) in
+    let z : askNumber (Would w n q) % 256 ≡ 0 = omega arith in
+    rw (eq-eqb (askNumber (Would w n q) % 256) 0 z, e, word-moves w)
+
+-- so by the number of what an ask tells, where number woken and place fit into their bits
+would-told : (x : ℕ) (w : Word) (n q : ℕ) → Small (Would w n q) → toldBytes x (askNumber (Would w n q)) ≡ askedBytes x (Would w n q)
+would-told x w n q m =
+    word-told x w n q
+    ∙ ap (λ (b : ℕ). cond (isMove w) (x ∷ b ∷ []) []) (place-of (wordNumber w) n q (omega (arith, word-small w)) (m .0) (m .1))
+
+-- a refusal tells none
+refused-told : (x number : ℕ) → number % 256 ≢ 0 → toldBytes x number ≡ []
+unfolding toldBytes
+refused-told x number d = rw (ne-eqb (number % 256) 0 d)
+
+-- on every table that a host can lend
+pub told-asked : (t : Cell) → Sized t → (x wish : ℕ) → toldBytes x (askNumber (askOf t x wish)) ≡ askedBytes x (askOf t x wish)
+told-asked t z x wish = go (told (sound (cellOf t))) (told (cellOf t .given x))
+  where
+    unasked : (number : ℕ) → number % 256 ≢ 0 → askOf t x wish ≡ Unasked number → toldBytes x (askNumber (askOf t x wish)) ≡ askedBytes x (askOf t x wish)
+    unasked number d e = rw e (refused-told x number d)
+
+    go : Told (sound (cellOf t)) → Told (cellOf t .given x) → toldBytes x (askNumber (askOf t x wish)) ≡ askedBytes x (askOf t x wish)
+    go (nay s) _ = unasked unsoundTable (λ n. omega arith) (ask-unsound t x wish s)
+    go (yea s) (nay g) = unasked noSuchAgent (λ n. omega arith) (ask-unknown t x wish s g)
+    go (yea s) (yea g) =
+        let o : Outcome = step (cellOf t) x wish in
+        let e = ask-given t x wish s g in
+        let m = subst Small e (asked-small t z x wish) in
+        ap (λ (a : Asked). toldBytes x (askNumber a)) e ∙ would-told x (o .word) (o .woken) (toldPlace (cellOf t) x wish) m ∙ ap (askedBytes x) (sym e)
 
 -- ---- the place that is told is the byte that is written
 
@@ -151,7 +215,7 @@ module _ (t : Cell) (z : Sized t) (i : Inv (cellOf t)) (p : Plain) (m : Same (ce
   call-asked k = go (told (saysMove (callOf t k .reply)))
     where
       go : Told (saysMove (callOf t k .reply)) → askedBy t k ≡ writtenBy p k (callOf t k .reply)
-      go (yea e) = rw e (moving-asked k e)
+      go (yea e) = rw e (told-asked t z (agentOf k) (wishOf k) ∙ moving-asked k e)
       go (nay e) = rw e
 
 -- ---- a run
@@ -173,8 +237,8 @@ asked-run file c e = fresh-asked c (accepted-fresh file c e)
 
 -- ---- a step call
 
--- of a step call the ask alone tells what is written, whatever the table
-pub asked-step : (t : Cell) (x wish : ℕ) → askedBy t (stepCall x wish) ≡ askedBytes x (askOf t x wish)
+-- of a step call the ask's number alone tells what is written, whatever the table
+pub asked-step : (t : Cell) (x wish : ℕ) → askedBy t (stepCall x wish) ≡ toldBytes x (askNumber (askOf t x wish))
 unfolding callOf
 asked-step t x wish = go (told (sound (cellOf t))) (told (cellOf t .given x))
   where
@@ -182,18 +246,21 @@ asked-step t x wish = go (told (sound (cellOf t))) (told (cellOf t .given x))
     silent true = refl
     silent false = refl
 
-    unasked : (number : ℕ) → askOf t x wish ≡ Unasked number
-        → cond (saysMove (stepReply (stepOf t x wish .answer))) (askedBytes x (askOf t x wish)) [] ≡ askedBytes x (askOf t x wish)
-    unasked number e = rw e (silent (saysMove (stepReply (stepOf t x wish .answer))))
+    unasked : (number : ℕ) → number % 256 ≢ 0 → askOf t x wish ≡ Unasked number
+        → cond (saysMove (stepReply (stepOf t x wish .answer))) (toldBytes x (askNumber (askOf t x wish))) [] ≡ toldBytes x (askNumber (askOf t x wish))
+    unasked number d e = rw (e, refused-told x number d) (silent (saysMove (stepReply (stepOf t x wish .answer))))
 
     once : (b : Bool) (s : List ℕ) → cond b (cond b s []) [] ≡ cond b s []
     once true s = refl
     once false s = refl
 
     go : Told (sound (cellOf t)) → Told (cellOf t .given x)
-        → cond (saysMove (stepReply (stepOf t x wish .answer))) (askedBytes x (askOf t x wish)) [] ≡ askedBytes x (askOf t x wish)
-    go (nay s) _ = unasked unsoundTable (ask-unsound t x wish s)
-    go (yea s) (nay g) = unasked noSuchAgent (ask-unknown t x wish s g)
+        → cond (saysMove (stepReply (stepOf t x wish .answer))) (toldBytes x (askNumber (askOf t x wish))) [] ≡ toldBytes x (askNumber (askOf t x wish))
+    go (nay s) _ = unasked unsoundTable (λ n. omega arith) (ask-unsound t x wish s)
+    go (yea s) (nay g) = unasked noSuchAgent (λ n. omega arith) (ask-unknown t x wish s g)
     go (yea s) (yea g) =
         let c : State = cellOf t in
-        rw (ask-given t x wish s g, step-given t x wish s g) (unfold made in once (isMove (step c x wish .word)) (x ∷ toldPlace c x wish ∷ []))
+        let w : Word = step c x wish .word in
+        let n : ℕ = askNumber (Would w (step c x wish .woken) (toldPlace c x wish)) in
+        rw (ask-given t x wish s g, step-given t x wish s g, word-told x w (step c x wish .woken) (toldPlace c x wish))
+        (unfold made in once (isMove w) (x ∷ n / 16777216 % 256 ∷ []))

@@ -6,13 +6,11 @@ use mathlib.Core.List.{List, [], _∷_, _++_}
 use Prim.Native.Nat.{ℕ}
 use Rattle.table.specs.Cell.{State, cellOf, tableOf, chooses}
 use Rattle.table.specs.declared.Cell.{Cell}
-use Rattle.meaning.specs.declared.Asked.{Asked}
-use Rattle.meaning.specs.declared.Asked.the-variants.{Would, Unasked}
 use Rattle.meaning.specs.Ask.{askOf}
 use Rattle.meaning.specs.Calculus.{Tree, nextOf}
-use Rattle.meaning.specs.Codes.{noneTold}
+use Rattle.meaning.specs.Codes.{noneTold, askNumber}
 use Rattle.meaning.specs.Listing.{listing}
-use Rattle.meaning.specs.Plain.{plainOf, isMove, saysMove}
+use Rattle.meaning.specs.Plain.{plainOf, saysMove}
 use Rattle.meaning.specs.Run.{Call, agentOf, wishOf, callOf}
 use Rattle.calculus.specs.Formed.{Formed}
 use Rattle.calculus.specs.Published.{Moves}
@@ -24,6 +22,7 @@ use Rattle.demands.specs.Agrees.{termBefore}
 use Rattle.demands.specs.SameListings.{OfBytes}
 use Rattle.trail.specs.declared.Finding.the-variants.{Upheld}
 use Rattle.trail.specs.Trail.{Follows, finding, trailRun}
+use Rattle.trail.specs.Written.{toldBytes}
 
 -- ---- trails and the calculus
 
@@ -80,18 +79,14 @@ RunUpheld file c calls = finding file (trailOf c calls) (listing (cellOf (reache
 
 -- ---- the trail that a host can write
 
--- what an ask right before a step of agent x tells of the trail: at left, opened and put the agent and the place, 255 for none; else nothing
-abbrev pub askedBytes : ℕ → Asked → List ℕ
-askedBytes x (Would word woken place) = cond (isMove word) (x ∷ place ∷ []) []
-askedBytes x (Unasked number) = []
-
--- by a call on table t whose reply says a move; a commit that is refused says none
+-- by a call on table t: what `keeper_trail` writes of the number that `keeper_ask` answers right before it, kept where the reply says a move; a commit
+-- that is refused says none
 abbrev pub askedBy : Cell → Call → List ℕ
-askedBy t k = cond (saysMove (callOf t k .reply)) (askedBytes (agentOf k) (askOf t (agentOf k) (wishOf k))) []
+askedBy t k = cond (saysMove (callOf t k .reply)) (toldBytes (agentOf k) (askNumber (askOf t (agentOf k) (wishOf k)))) []
 
 -- the trail of a list of calls, by an ask before each
 unfoldable pub trailAsked : Cell → List Call → List ℕ
-unfolding callOf askOf
+unfolding callOf askOf toldBytes
 trailAsked t [] = []
 trailAsked t (k ∷ calls) = askedBy t k ++ trailAsked (callOf t k .cell) calls
 

@@ -59,7 +59,7 @@ module _ (w n q : ℕ) (a : w < 256) (b : n < 256) (c : q < 256) where
   woken-of : wokenIn (toldNumber w n q) ≡ n
   woken-of = ap wokenIn exact ∙ omega arith
 
-  place-of : placeIn (toldNumber w n q) ≡ q
+  pub place-of : placeIn (toldNumber w n q) ≡ q
   place-of = ap placeIn exact ∙ omega arith
 
   -- taken apart and put together it is the same
@@ -68,11 +68,11 @@ module _ (w n q : ℕ) (a : w < 256) (b : n < 256) (c : q < 256) where
 
 -- ---- what is told is below 256
 
-abbrev Small : Asked → Type 0
+abbrev pub Small : Asked → Type 0
 Small (Would w n q) = (n < 256) × (q < 256)
 Small (Unasked number) = Unit {0}
 
-asked-small : (t : Cell) → Sized t → (x wish : ℕ) → Small (askOf t x wish)
+pub asked-small : (t : Cell) → Sized t → (x wish : ℕ) → Small (askOf t x wish)
 asked-small t z x wish = go (told (sound (cellOf t))) (told (cellOf t .given x))
   where
     place-small : {q : ℕ} {word : Word} → TellsPlace (cellOf t .land) (cellOf t .agent x) wish word q → q < 256

@@ -2,6 +2,7 @@
 mod card;
 mod exports;
 mod version;
+mod written;
 
 use meaning::Checked;
 use meaning::Idled;
@@ -48,6 +49,10 @@ pub use limit::ceiling;
 
 // The listing in a lent text, or the refusal and the text as it was: `listAnswer` and `listBuffer`.
 pub use listing::list;
+
+// The bytes of a move in what is left of a trail's buffer, by the number that an ask answered, or the refusal and the buffer as it was:
+// `toldAnswer` and `toldBuffer`.
+pub use writer::write_move;
 
 // Every answer as a number.
 pub use numbers::ask_number;

@@ -9,8 +9,10 @@ use meaning::Listed;
 use meaning::Touching;
 use meaning::Verdict;
 use meaning::Word;
+use trail::Finding;
 ghost use mathlib.Core.Path.{_≡_};
 ghost use Rattle.meaning.specs.Codes as codes;
+ghost use Rattle.trail.specs.Trail as trails;
 
 // A number in bits 8 and up, over a refusal's number in bits 0 to 7.
 fn above(number: u64, low: u8) -> u64
@@ -136,5 +138,19 @@ pub fn limit_number(answer: Limit) -> u64
     match answer {
         Limit::AtMost(count) => above(count, 0),
         Limit::Uncounted(number) => number as u64,
+    }
+}
+
+// The finding on a trail: a refused file as a load's answer; else the reason in bits 8 to 15, 0 for yes, and from bit 16 on how many moves stand before
+// what is wrong, of which the lowest 48 bits are told.
+pub fn finding_number(found: Finding) -> u64
+    ensures { λ r. ⌜ r ≡ trails.findingNumber found ⌝ }
+{
+    match found {
+        Finding::Upheld => 0,
+        Finding::Denied(moves, reason) => {
+            above((moves as u64) % 281474976710656 * 256 + (reason as u64), 0)
+        }
+        Finding::BadFile(number, offset) => above(offset as u64, number),
     }
 }

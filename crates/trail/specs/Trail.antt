@@ -93,7 +93,7 @@ unfolding findingOf load
 finding file trail text = findingOf (load file) trail text
 
 -- as a number: bits 0 to 7 the load's refusal with its offset above, as a load's answer; else bits 8 to 15 the reason, 0 for yes, and from bit 16 on how
--- many moves were made before
+-- many moves stand before what is wrong
 abbrev pub findingNumber : Finding → ℕ
 findingNumber Upheld = 0
 findingNumber (Denied moves reason) = above (moves * 256 + reason) 0

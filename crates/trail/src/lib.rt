@@ -1,9 +1,9 @@
 // What the check of a trail answers, as a value that code and written meaning share.
 
-// The trail is upheld; it is not, with how many of its moves were made before that was seen, and why; or the file is refused.
+// The trail is upheld; it is denied, with how many of its moves stand before what is wrong, and why; or the file is refused.
 pub enum Finding {
     Upheld,
-    // Moves made, and the reason's number.
+    // Moves before it, and the reason's number.
     Denied(usize, u8),
     // A load's refusal: number, offset.
     BadFile(u8, usize),

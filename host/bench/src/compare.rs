@@ -7,6 +7,7 @@ use crate::jobs::{Job, Room, Workload};
 use crate::keeper::{Keeper, Proved};
 use crate::plain::Plain;
 use crate::texts;
+use crate::trails;
 use crate::tuned::Tuned;
 
 /// Compares on every workload and on random cells; answers how many calls were compared, or the first difference.
@@ -23,7 +24,7 @@ pub fn compare(workloads: &[Workload], cells: usize) -> Result<usize, String> {
 }
 
 /// The same value from the plain peer, the tuned peer and the keeper, or a difference.
-fn same<T: PartialEq>(what: &str, [plain, tuned, keeper]: [T; 3]) -> Result<(), String> {
+pub fn same<T: PartialEq>(what: &str, [plain, tuned, keeper]: [T; 3]) -> Result<(), String> {
     match (plain == keeper, tuned == keeper) {
         (true, true) => Ok(()),
         (false, true) => Err(format!("{what}: the plain peer differs")),
@@ -79,6 +80,8 @@ fn job(job: &Job) -> Result<usize, String> {
             same("cells", rooms.each_ref().map(|room| room.cell))?;
             same("texts", rooms.map(|room| room.text)).map(|_| 1)
         }
+        Job::Audit { claim, .. } => trails::audit(claim).map(|_| 1),
+        Job::Trail { asks } => asks.iter().try_for_each(|&(agent, asked)| trails::trail(agent, asked)).map(|_| asks.len()),
         Job::Copy { .. } => Ok(0),
     }
 }
@@ -218,6 +221,7 @@ fn one_random(numbers: &mut Random, damaged: bool) -> Result<usize, String> {
         more_digits(&mut file);
     }
     let mut cells = load(&file)?;
+    let audited = trails::audits(numbers, &file)?;
     let (mut touched, mut listed, mut asked) = (0, 0, 0);
     for i in 0..300 {
         if numbers.below(10) == 0 {
@@ -244,7 +248,7 @@ fn one_random(numbers: &mut Random, damaged: bool) -> Result<usize, String> {
     let at = numbers.below(file.len());
     file[at] = numbers.below(256) as u8;
     load(&file)?;
-    Ok(300 + 2 * touched + 2 * asked + listed + 6 * 3 + 2)
+    Ok(300 + 2 * touched + 2 * asked + listed + 6 * 3 + 2 + audited)
 }
 
 /// The touches of a place that a test looks at: at the most that is sound, past it, and so many that a sum of two wraps.

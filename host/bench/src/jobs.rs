@@ -4,6 +4,7 @@ use crate::cell::{Cell, LISTING_LONGEST};
 use crate::cells::{self, Random, Sketch};
 use crate::keeper::Keeper;
 use crate::texts;
+use crate::trails::{self, Claim};
 use crate::tuned::Tuned;
 use crate::walk::{self, walk};
 use std::hint::black_box;
@@ -36,6 +37,10 @@ pub enum Job {
     Ceiling { cell: Box<Cell> },
     /// A whole walk: a file and an order.
     Walk { file: Vec<u8>, order: Vec<u8> },
+    /// The check of a claim, counted as one call or by its moves.
+    Audit { claim: Claim, by_moves: bool },
+    /// What is written of asks, each of an agent with its number.
+    Trail { asks: Vec<(u8, u64)> },
     /// A copy of a cell, by no keeper: what a call by value pays, and how far apart two equal things are measured.
     Copy { cell: Box<Cell> },
 }
@@ -85,6 +90,8 @@ impl Job {
             Job::Touch { order, .. } => order.len(),
             Job::Nearest { order, .. } => order.len(),
             Job::Common { order, .. } => order.len(),
+            Job::Audit { claim, by_moves: true } => claim.trail.len() / 2,
+            Job::Trail { asks } => asks.len(),
             _ => 1,
         }
     }
@@ -127,6 +134,8 @@ impl Job {
             Job::Idle { cell } => K::idle(cell),
             Job::Ceiling { cell } => K::ceiling(cell),
             Job::Walk { file, order } => walk::<K>(file, order, &mut room.cell, &mut room.text) as u64,
+            Job::Audit { claim, .. } => K::audit(&claim.file, &claim.trail, &claim.listing),
+            Job::Trail { asks } => asks.iter().fold(0, |sum, &(agent, asked)| sum + K::trail(agent, asked, &mut room.text)),
             Job::Copy { cell } => {
                 room.cell = **cell;
                 black_box(&room.cell).used
@@ -213,7 +222,7 @@ pub fn workloads() -> Vec<Workload> {
         Job::Walk { file: sketch.file(), order }
     };
     let of = |name: &str, limits, job| Workload { name: name.to_string(), limits, job };
-    vec![
+    let mut rows = vec![
         of("step, no agents", EMPTY, quiet(cells::empty(0))),
         of("step, one agent, done", EMPTY, quiet(cells::empty(1))),
         of("step, typical, at rest", STEP, quiet(cells::typical())),
@@ -266,7 +275,9 @@ pub fn workloads() -> Vec<Workload> {
         of("walk, typical", WALK, whole(cells::typical())),
         of("walk, full", WALK, whole(cells::full())),
         of("a copy of the cell", None, Job::Copy { cell: boxed(&cells::full()) }),
-    ]
+    ];
+    rows.extend(trails::workloads());
+    rows
 }
 
 /// Steps that change nothing, against the number of places and against the number of agents in use, four actions an agent; each is named by

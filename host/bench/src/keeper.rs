@@ -18,6 +18,8 @@ pub trait Keeper {
     fn nearest(cell: &Cell, place: u8, name: u16) -> u64;
     fn common(cell: &Cell, place: u8, other: u8) -> u64;
     fn ceiling(cell: &Cell) -> u64;
+    fn trail(agent: u8, asked: u64, trail: &mut [u8]) -> u64;
+    fn audit(file: &[u8], trail: &[u8], listing: &[u8]) -> u64;
 }
 
 extern "C" {
@@ -35,6 +37,8 @@ extern "C" {
     fn keeper_nearest(cell: *const Cell, place: u8, name: u16) -> u64;
     fn keeper_common(cell: *const Cell, place: u8, other: u8) -> u64;
     fn keeper_ceiling(cell: *const Cell) -> u64;
+    fn keeper_trail(agent: u8, asked: u64, trail: *mut u8, room: usize) -> u64;
+    fn keeper_audit(file: *const u8, n: usize, trail: *const u8, m: usize, listing: *const u8, k: usize) -> u64;
 }
 
 /// The proved keeper, as libkeeper.a exports it.
@@ -82,5 +86,11 @@ impl Keeper for Proved {
     }
     fn ceiling(cell: &Cell) -> u64 {
         unsafe { keeper_ceiling(cell) }
+    }
+    fn trail(agent: u8, asked: u64, trail: &mut [u8]) -> u64 {
+        unsafe { keeper_trail(agent, asked, trail.as_mut_ptr(), trail.len()) }
+    }
+    fn audit(file: &[u8], trail: &[u8], listing: &[u8]) -> u64 {
+        unsafe { keeper_audit(file.as_ptr(), file.len(), trail.as_ptr(), trail.len(), listing.as_ptr(), listing.len()) }
     }
 }

@@ -12,6 +12,7 @@ mod keeper;
 mod measure;
 mod plain;
 mod texts;
+mod trails;
 mod tuned;
 mod walk;
 

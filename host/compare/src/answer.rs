@@ -1,6 +1,6 @@
 //! The library's answers as keeper.h lays them out: what the model's answers are as numbers, and what a number says.
 
-use model::{Asked, Refused, Stepped, Word};
+use model::{Asked, Refused, Stepped, Verdict, Word};
 
 /// The words with their numbers.
 const WORDS: [(Word, u64); 11] = [
@@ -101,6 +101,35 @@ pub fn load_text(answer: u64) -> String {
     match answer & 255 {
         0 => value_text(answer),
         number => format!("refused {number} at {}", answer >> 8),
+    }
+}
+
+/// The answer of an audit: the refusal of the file as a load's; else 0 for a yes, or the reason in bits 8 to 15 and the moves above.
+pub fn of_audit(verdict: Verdict) -> u64 {
+    match verdict {
+        Verdict::Yes => 0,
+        Verdict::No { made, why } => (made as u64) << 16 | (why.number() as u64) << 8,
+        Verdict::Refused(refused) => of_load(Some(refused)),
+    }
+}
+
+/// An audit's answer in words.
+pub fn audit_text(answer: u64) -> String {
+    match (answer & 255, answer >> 8 & 255) {
+        (0, 0) if answer == 0 => "yes".to_string(),
+        (0, reason) => format!("no, {} after {} moves", reason_text(reason as u8), answer >> 16),
+        _ => load_text(answer),
+    }
+}
+
+/// An audit's reason in words.
+pub fn reason_text(reason: u8) -> &'static str {
+    match reason {
+        1 => "not permitted",
+        2 => "no action left",
+        3 => "odd last byte",
+        4 => "other layout",
+        _ => "an unknown reason",
     }
 }
 

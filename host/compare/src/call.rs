@@ -44,6 +44,14 @@ pub enum Call {
     },
     /// Both questions of every place.
     Everywhere,
+    /// The check of the trail since the load, with the cell's listing.
+    Upheld,
+    /// The check of a file, a trail and a listing.
+    Audit {
+        file: Vec<u8>,
+        trail: Vec<u8>,
+        listing: Vec<u8>,
+    },
     List {
         room: usize,
     },
@@ -62,11 +70,7 @@ impl fmt::Display for Call {
         match self {
             Call::Load(file) => {
                 write!(out, "load")?;
-                file.iter().try_for_each(|byte| write!(out, " {byte:02X}"))?;
-                match model::load(file) {
-                    Ok(cell) => write!(out, "   (which is {})", model::listing(&cell)),
-                    Err(_) => Ok(()),
-                }
+                write_file(out, file)
             }
             Call::Read(text) => write!(out, "read \"{}\"", text.escape_ascii()),
             Call::Step { agent, wish } => write!(out, "step of agent {agent}, wish {wish}"),
@@ -81,10 +85,25 @@ impl fmt::Display for Call {
             Call::Nearest { place, name } => write!(out, "nearest of place {place}, name {name}"),
             Call::Common { place, other } => write!(out, "common of places {place} and {other}"),
             Call::Everywhere => write!(out, "nearest and common of every place"),
+            Call::Upheld => write!(out, "audit of the trail since the load, with the cell's listing"),
+            Call::Audit { file, trail, listing } => {
+                write!(out, "audit of")?;
+                write_file(out, file)?;
+                write!(out, ", trail {trail:?}, listing \"{}\"", listing.escape_ascii())
+            }
             Call::List { room } => write!(out, "list with room for {room} bytes"),
             Call::Renumber { seed } => write!(out, "list, and list under other numbers, seed {seed}"),
             Call::Write { at, byte } => write!(out, "the host writes {byte:02X} at byte {at} of the cell ({})", field(*at)),
         }
+    }
+}
+
+/// Writes the bytes of a file and what it gives.
+fn write_file(out: &mut fmt::Formatter<'_>, file: &[u8]) -> fmt::Result {
+    file.iter().try_for_each(|byte| write!(out, " {byte:02X}"))?;
+    match model::load(file) {
+        Ok(cell) => write!(out, "   (which is {})", model::listing(&cell)),
+        Err(_) => Ok(()),
     }
 }
 

@@ -18,7 +18,7 @@ pub fn shorter(calls: &[Call], thorough: bool) -> Option<Vec<Call>> {
 /// Whether orders are made of such calls.
 fn in_orders(call: &Call) -> bool {
     let steps = matches!(call, Call::Step { .. } | Call::Ask { .. } | Call::Commit { .. } | Call::Touch { .. });
-    steps || matches!(call, Call::Nearest { .. } | Call::Common { .. } | Call::Everywhere)
+    steps || matches!(call, Call::Nearest { .. } | Call::Common { .. } | Call::Everywhere | Call::Upheld)
 }
 
 /// A random order of so many calls at most, if library and model differ in it.

@@ -1,5 +1,6 @@
 //! What was done, to print at the end.
 
+use crate::answer::reason_text;
 use std::collections::BTreeMap;
 use std::fmt;
 
@@ -38,6 +39,11 @@ pub struct Counts {
     pub changes: u64,
     /// The calls that changed a cell since its load, and the ceiling there, where they were the largest share of it.
     pub largest: (u64, u64),
+    pub moves_kept: u64,
+    pub trails_kept: u64,
+    pub audits_yes: u64,
+    pub audits_no: BTreeMap<&'static str, u64>,
+    pub audits_refused: BTreeMap<u8, u64>,
     pub sums: u64,
     pub accepted: u64,
     pub refused: BTreeMap<u8, u64>,
@@ -62,6 +68,15 @@ impl Counts {
     /// How many steps were called and committed, to ask slow questions by turns.
     pub fn turns(&self) -> u64 {
         self.steps + self.commits
+    }
+
+    /// Which finding of audits came less often than this, if any: each reason, a yes, and a refused file.
+    pub fn too_few_audits(&self, least: u64) -> Option<String> {
+        let reasons = (1..=4).map(reason_text).map(|reason| (reason, self.audits_no.get(reason).copied().unwrap_or(0)));
+        let refused = self.audits_refused.values().sum();
+        let kept = [("kept", self.trails_kept), ("moves kept", self.moves_kept), ("yes", self.audits_yes), ("refused", refused)];
+        let found = reasons.chain(kept).find(|(_, count)| *count < least);
+        found.map(|(what, count)| format!("of audits there were {count} {what}, fewer than {least}"))
     }
 
     /// So many calls changed a cell since its load, where the ceiling was this: kept if there was no larger share.
@@ -124,6 +139,17 @@ impl fmt::Display for Counts {
             "changing calls  {:>9}   (the largest share of a ceiling since a load: {most} of {ceiling}, {share:.1} %)",
             self.changes
         )?;
+        writeln!(
+            out,
+            "trails kept     {:>9}   (checked with the run's listing; {} moves were written in all runs)",
+            self.trails_kept, self.moves_kept
+        )?;
+        let (denied, refused): (u64, u64) = (self.audits_no.values().sum(), self.audits_refused.values().sum());
+        write!(out, "audits          {:>9}   ({} yes, {denied} no:", self.audits_yes + denied + refused, self.audits_yes)?;
+        self.audits_no.iter().try_for_each(|(reason, count)| write!(out, " {count} {reason},"))?;
+        write!(out, " {refused} refused:")?;
+        self.audits_refused.iter().try_for_each(|(number, count)| write!(out, " {count} with {number}"))?;
+        writeln!(out, ")")?;
         writeln!(out, "sums of touches {:>9}   ({} openings pooled some)", self.sums, self.pooled)?;
         let refused: u64 = self.refused.values().sum();
         write!(out, "files           {:>9}   ({} accepted, {} refused:", self.accepted + refused, self.accepted, refused)?;

@@ -24,19 +24,30 @@ pub enum Edit {
     Keyless(usize, usize),
     /// A byte of a file replaced.
     Byte(usize, usize, u8),
-    /// So many bytes of a text taken out from one on.
-    Piece(usize, usize, usize),
+    /// So many bytes of a text, a trail or a listing taken out from one on.
+    Piece(usize, Which, usize, usize),
     /// A step, ask or commit without a wish, a step in place of an ask or a commit, fewer touches, a lower name or place in a question, a listing
     /// into less room, a lower byte written.
     Plainer(usize),
 }
 
+/// Bytes of a call that are not those of a file.
+#[derive(Clone, Copy)]
+pub enum Which {
+    Text,
+    Trail,
+    Listing,
+}
+
 /// The edits of one sort that an example allows.
 pub type Edits = fn(&[Call]) -> Vec<Edit>;
 
-/// The loads of an example, with their places in it.
+/// The files of an example, with the places of their calls in it.
 fn loads(calls: &[Call]) -> impl DoubleEndedIterator<Item = (usize, &Vec<u8>)> {
-    calls.iter().enumerate().filter_map(|(at, call)| if let Call::Load(file) = call { Some((at, file)) } else { None })
+    calls.iter().enumerate().filter_map(|(at, call)| match call {
+        Call::Load(file) | Call::Audit { file, .. } => Some((at, file)),
+        _ => None,
+    })
 }
 
 /// Each agent out.
@@ -62,18 +73,34 @@ pub fn rows(calls: &[Call]) -> Vec<Edit> {
     loads(calls).flat_map(each).collect()
 }
 
-/// Halves, quarters and so on of each text out.
+/// Halves, quarters and so on of each text, trail and listing out.
 pub fn pieces(calls: &[Call]) -> Vec<Edit> {
     let mut edits = Vec::new();
     for (at, call) in calls.iter().enumerate() {
-        let Call::Read(text) = call else { continue };
-        let mut size = text.len() / 2;
-        while size > 0 {
-            edits.extend((0..=text.len() - size).rev().step_by(size).map(|from| Edit::Piece(at, from, size)));
-            size /= 2;
+        let found = match call {
+            Call::Read(text) => vec![(Which::Text, text.len())],
+            Call::Audit { trail, listing, .. } => vec![(Which::Trail, trail.len()), (Which::Listing, listing.len())],
+            _ => vec![],
+        };
+        for (which, length) in found {
+            let mut size = length.div_ceil(2);
+            while size > 0 {
+                edits.extend((0..=length - size).rev().step_by(size).map(|from| Edit::Piece(at, which, from, size)));
+                size /= 2;
+            }
         }
     }
     edits
+}
+
+/// The bytes of a call that an edit takes a piece from.
+pub fn bytes_of(call: &mut Call, which: Which) -> Option<&mut Vec<u8>> {
+    match (call, which) {
+        (Call::Read(text), Which::Text) => Some(text),
+        (Call::Audit { trail, .. }, Which::Trail) => Some(trail),
+        (Call::Audit { listing, .. }, Which::Listing) => Some(listing),
+        _ => None,
+    }
 }
 
 /// Each agent, place and name with a low number.

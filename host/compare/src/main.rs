@@ -7,13 +7,16 @@
 //! truncation of good files and of texts, and texts at and past each limit; then rounds of random files, random orders of steps, asks, commits,
 //! touch calls and questions where a place is on random cells, some of them with 61 to 64 places in use, random texts, damaged ones and orders
 //! on cells that were read, and cells with bytes changed, those of keys, of the row of places and of agents that release too: a fixed number of
-//! rounds, or as many as fit in N seconds. After each call the ceiling is compared, and the step calls that changed the cell are counted from
-//! its load on: there must be no more of them, and the largest share is printed. Listings are read back. Cells are also listed under other
-//! numbers, which must give the same bytes. The same seed gives the same rounds. With a program `walk`, what it writes is compared too; with
-//! programs that run typed layouts (PROGRAM --text TEXT ORDER), what those write. At a difference the smallest example found is printed and the
-//! exit status is 1.
+//! rounds, or as many as fit in N seconds. Trails are kept of all runs from files, as a host keeps them and by the model; those of some runs,
+//! and of moves of the calculus, are checked by both: whole, shortened, cut, changed, with changed files and with changed listings. After each
+//! call the ceiling is compared, and the step calls that changed the cell are counted from its load on: there must be no more of them, and the
+//! largest share is printed. Listings are read back. Cells are also listed under other numbers, which must give the same bytes. The same seed
+//! gives the same rounds. With a program `walk`, what it writes is compared too; with programs that run typed layouts (PROGRAM --text TEXT
+//! ORDER), what those write. At a difference the smallest example found is printed and the exit status is 1; it is 1 too where some finding on
+//! trails came up too seldom.
 
 mod answer;
+mod audits;
 mod bench;
 mod call;
 mod chance;
@@ -38,10 +41,12 @@ mod shrink;
 mod steps;
 mod texts;
 mod touches;
+mod trails;
 mod walks;
 mod whereabouts;
 
 use call::Call;
+use random::Random;
 use rounds::Session;
 use std::path::PathBuf;
 use std::process::ExitCode;
@@ -49,6 +54,10 @@ use std::time::{Duration, Instant};
 
 /// What the command line may ask for.
 const USAGE: &str = "usage: compare [--quick] [--seconds N] [--seed S] [--walk PROGRAM] [--typed-walk PROGRAM]..";
+
+/// How many random runs have their trails changed before the rounds; how often each finding must have come up at least, in a whole session and in a quick one.
+const TRAILS: usize = 1_500;
+const LEAST: [u64; 2] = [1_000, 100];
 
 /// What the command line asks for.
 struct Options {
@@ -89,13 +98,17 @@ fn run(session: &mut Session, options: &Options) -> Result<(), Vec<Call>> {
     session.full_listings()?;
     session.changed_files(if options.quick { 64 } else { 4 })?;
     session.changed_texts(if options.quick { 64 } else { 4 })?;
+    session.full_trail()?;
+    session.trails(&mut Random::new(13), if options.quick { 100 } else { TRAILS })?;
     let rounds = if options.quick { 20 } else { 500 };
     let mut round = 0;
     while match options.seconds {
         Some(seconds) => start.elapsed() < Duration::from_secs(seconds),
         None => round < rounds,
     } {
-        session.round(options.seed.wrapping_mul(1_000_003).wrapping_add(round))?;
+        let seed = options.seed.wrapping_mul(1_000_003).wrapping_add(round);
+        session.round(seed)?;
+        session.trails(&mut Random::new(seed), 2)?;
         round += 1;
     }
     Ok(())
@@ -121,6 +134,10 @@ fn main() -> ExitCode {
     if let Err(calls) = &outcome {
         session.counts_mut().differences += 1;
         print_example(calls);
+    }
+    if let (Ok(()), Some(text)) = (&outcome, session.counts_mut().too_few_audits(LEAST[options.quick as usize])) {
+        session.counts_mut().differences += 1;
+        println!("{text}");
     }
     let count = if options.quick { 100 } else { 1_000 };
     let walks = options.walk.iter().map(|program| walks::walks(program, options.seed, count));

@@ -1,6 +1,7 @@
 //! The library and the model side by side: each call goes to both, and everything that can be seen is compared after it.
 
 use crate::answer;
+use crate::audits::Trail;
 use crate::call::Call;
 use crate::churn::Churn;
 use crate::counts::Counts;
@@ -33,6 +34,8 @@ pub struct Pair {
     pub plain: Option<Plain>,
     pub total: u128,
     pub churn: Option<Churn>,
+    /// The trail since the last load, as a host keeps it; none where nothing was loaded or somebody else wrote the cell.
+    pub trail: Option<Trail>,
     pub text: Vec<u8>,
     thorough: bool,
     /// The numbers that openings freed and that were not given again.
@@ -47,6 +50,7 @@ pub struct Kept {
     plain: Option<Plain>,
     total: u128,
     churn: Option<Churn>,
+    trail: Option<Trail>,
 }
 
 impl Pair {
@@ -57,7 +61,7 @@ impl Pair {
         let answer = lent.bare();
         let (cell, churn) = (Some(Cell::bare()), Some(Churn::from(&Cell::bare(), true)));
         let (text, freed) = (vec![FILL; ROOM], BTreeSet::new());
-        let mut pair = Pair { lent, cell, plain: None, total: 0, churn, text, thorough, freed, counts: Counts::default() };
+        let mut pair = Pair { lent, cell, plain: None, total: 0, churn, trail: None, text, thorough, freed, counts: Counts::default() };
         same("bare", answer, 0, answer::value_text)?;
         rows::same("bare", pair.bytes(), &rows::loaded(&[]))?;
         pair.agree()?;
@@ -66,7 +70,8 @@ impl Pair {
 
     /// The cell as it is.
     pub fn keep(&self) -> Kept {
-        Kept { lent: self.lent.clone(), cell: self.cell.clone(), plain: self.plain.clone(), total: self.total, churn: self.churn }
+        let (plain, trail) = (self.plain.clone(), self.trail.clone());
+        Kept { lent: self.lent.clone(), cell: self.cell.clone(), plain, total: self.total, churn: self.churn, trail }
     }
 
     /// Back to the cell as it was.
@@ -76,6 +81,7 @@ impl Pair {
         self.plain = kept.plain.clone();
         self.total = kept.total;
         self.churn = kept.churn;
+        self.trail = kept.trail.clone();
         self.freed.clear();
     }
 
@@ -97,6 +103,8 @@ impl Pair {
             Call::Nearest { place, name } => self.nearest(place, name),
             Call::Common { place, other } => self.common(place, other),
             Call::Everywhere => self.everywhere(),
+            Call::Upheld => self.upheld(),
+            Call::Audit { ref file, ref trail, ref listing } => self.audited(file, trail, listing).map(|_| ()),
             Call::List { room } => self.list(room),
             Call::Renumber { seed } => match &self.cell {
                 Some(cell) => renumber::compare(&mut Random::new(seed), &self.lent, cell, &mut self.counts),
@@ -122,6 +130,7 @@ impl Pair {
                 self.plain = Some(Plain::of_load(&cell));
                 self.total = touches::loaded(file);
                 self.churn = Some(Churn::from(&cell, true));
+                self.trail = Some(Trail::from(file));
                 self.freed.clear();
                 rows::same("a load", self.bytes(), &rows::loaded(file))?;
                 self.counts.keyed += keys::loaded(self.bytes(), file)? as u64;
@@ -167,6 +176,7 @@ impl Pair {
     fn write(&mut self, at: usize, byte: u8) -> Result<(), String> {
         self.lent.bytes_mut()[at] = byte;
         self.plain = None;
+        self.trail = None;
         self.cell = Table::read(self.lent.bytes()).cell();
         self.churn = self.cell.as_ref().map(|cell| Churn::from(cell, false));
         match self.cell {

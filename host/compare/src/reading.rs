@@ -28,6 +28,7 @@ impl Pair {
                 self.plain = Some(Plain::of_load(&cell));
                 self.total = 0;
                 self.churn = Some(Churn::from(&cell, true));
+                self.trail = None;
                 self.freed.clear();
                 rows::same("a reading", self.bytes(), &rows::read(cell.places.len() - 1))?;
                 self.cell = Some(cell);

@@ -206,7 +206,7 @@ impl Session {
     }
 
     /// A random order on the cell, with touch calls, asks, commits, questions where a place is, listings into small buffers and listings under other
-    /// numbers among the steps.
+    /// numbers among the steps; at its end the trail is checked.
     pub fn order(&mut self, random: &mut Random) -> Outcome {
         let mut order = Order::new(random);
         let agents = self.pair.cell.as_ref().map_or(0, |cell| cell.agents.len());
@@ -227,7 +227,7 @@ impl Session {
             };
             self.call(call)?;
         }
-        Ok(())
+        self.call(Call::Upheld)
     }
 
     /// A cell somewhere in an order, of which bytes are changed in several ways; after each, some calls on it.

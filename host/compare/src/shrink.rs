@@ -2,7 +2,7 @@
 
 use crate::call::Call;
 use crate::chance::shorter;
-use crate::edits::{agents, bytes, halves, names, numbers, pieces, plainer, rows, Edit, Edits};
+use crate::edits::{agents, bytes, bytes_of, halves, names, numbers, pieces, plainer, rows, Edit, Edits};
 use crate::files::records;
 use crate::pair::Pair;
 use std::time::{Duration, Instant};
@@ -87,9 +87,16 @@ fn far(wish: u8) -> usize {
 
 /// How large an example is: calls first, then the bytes of its files, then how far its numbers are from plain ones.
 fn weight(calls: &[Call]) -> (usize, usize, usize) {
-    let bytes = calls.iter().map(|call| if let Call::Load(bytes) | Call::Read(bytes) = call { bytes.len() } else { 0 }).sum();
+    let bytes = |call: &Call| match call {
+        Call::Load(bytes) | Call::Read(bytes) => bytes.len(),
+        Call::Audit { file, trail, listing } => file.len() + trail.len() + listing.len(),
+        _ => 0,
+    };
+    let sum = |bytes: &[u8]| bytes.iter().map(|&byte| byte as usize).sum();
     let numbers = |call: &Call| match call {
-        Call::Load(bytes) | Call::Read(bytes) => bytes.iter().map(|&byte| byte as usize).sum(),
+        Call::Load(bytes) | Call::Read(bytes) => sum(bytes),
+        Call::Audit { file, .. } => sum(file),
+        Call::Upheld => 0,
         Call::Step { agent, wish } => *agent as usize + far(*wish),
         Call::Ask { agent, wish } => 500 + *agent as usize + far(*wish),
         Call::Invent { agent, wish } => 1_000 + *agent as usize + far(*wish),
@@ -102,7 +109,7 @@ fn weight(calls: &[Call]) -> (usize, usize, usize) {
         Call::Renumber { seed } => *seed as usize,
         Call::Write { byte, .. } => *byte as usize,
     };
-    (calls.len(), bytes, calls.iter().map(numbers).sum())
+    (calls.len(), calls.iter().map(bytes).sum(), calls.iter().map(numbers).sum())
 }
 
 /// The agent that a call names.
@@ -191,11 +198,11 @@ fn edited(calls: &[Call], edit: Edit) -> Option<Vec<Call>> {
             other[at] = only.pop()?;
         }
         Edit::Byte(at, index, to) => match other.get_mut(at)? {
-            Call::Load(file) => *file.get_mut(index)? = to,
+            Call::Load(file) | Call::Audit { file, .. } => *file.get_mut(index)? = to,
             _ => return None,
         },
-        Edit::Piece(at, from, count) => match other.get_mut(at)? {
-            Call::Read(text) if from + count <= text.len() => drop(text.drain(from..from + count)),
+        Edit::Piece(at, which, from, count) => match bytes_of(other.get_mut(at)?, which)? {
+            bytes if from + count <= bytes.len() => drop(bytes.drain(from..from + count)),
             _ => return None,
         },
         Edit::Plainer(at) => match other.get_mut(at)? {
@@ -207,7 +214,7 @@ fn edited(calls: &[Call], edit: Edit) -> Option<Vec<Call>> {
             Call::Touch { number, .. } => *number /= 2,
             Call::Nearest { name, .. } => *name /= 2,
             Call::Common { other: second, .. } => *second /= 2,
-            Call::Everywhere => return None,
+            Call::Everywhere | Call::Upheld | Call::Audit { .. } => return None,
             Call::List { room } => *room /= 2,
             Call::Renumber { seed } => *seed /= 2,
             Call::Write { byte, .. } => *byte /= 2,
@@ -220,7 +227,7 @@ fn edited(calls: &[Call], edit: Edit) -> Option<Vec<Call>> {
 /// Changes the records of every file.
 fn each_file(calls: &mut [Call], change: impl Fn(&mut Vec<Vec<u8>>)) {
     for call in calls {
-        if let Call::Load(file) = call {
+        if let Call::Load(file) | Call::Audit { file, .. } = call {
             let mut rows = records(file);
             change(&mut rows);
             *file = rows.concat();

@@ -10,7 +10,7 @@ use crate::rounds::{Outcome, Session};
 use crate::rows;
 use crate::touches;
 use keeper::lent::Lent;
-use model::{ask, commit, step, Asked, Stepped, Word, ANSWER_DIFFERS, NONE_CHOSEN, UNSOUND};
+use model::{ask, commit, trailed_step, Asked, Stepped, Word, ANSWER_DIFFERS, NONE_CHOSEN, UNSOUND};
 
 /// What is kept of a cell before a step: its bytes, the places among which the agent would choose, and whether it acts by a key that is not the
 /// name.
@@ -24,9 +24,10 @@ impl Pair {
     /// A step: refused with 10 on an unsound table, with 11 for no such agent, else as the model says.
     pub fn step(&mut self, agent: u8, wish: u8) -> Result<(), String> {
         let before = self.before(agent, wish);
+        let (asked, mut moves) = (self.lent.ask(agent, wish), Vec::new());
         let stepped = match &mut self.cell {
             None => Err(UNSOUND),
-            Some(cell) => step(cell, agent, wish),
+            Some(cell) => trailed_step(cell, &mut moves, agent, wish),
         };
         self.counts.steps += 1;
         let answer = self.lent.step(agent, wish);
@@ -38,6 +39,7 @@ impl Pair {
             }
             Ok(Stepped { word, .. }) => {
                 *self.counts.words.entry(word.text()).or_default() += 1;
+                self.trailed(agent, asked, &moves)?;
                 self.stepped(before, agent, wish, word)
             }
         }
@@ -120,6 +122,7 @@ impl Pair {
         let before = self.lent.clone();
         let refused = if number & 255 == 0 { ANSWER_DIFFERS as u64 } else { number };
         self.counts.invented += 1;
+        self.written(agent, other)?;
         let answer = self.lent.commit(agent, wish, other);
         if answer != refused {
             let answer = answer::step_text(answer);
@@ -135,9 +138,13 @@ impl Pair {
     pub fn commit(&mut self, agent: u8, wish: u8, asked: u64) -> Result<(), String> {
         let before = self.before(agent, wish);
         let (word, woken, chosen) = answer::handed_back(asked);
+        let mut moves = Vec::new();
         let committed = match &mut self.cell {
             None => Err(UNSOUND),
-            Some(cell) => commit(cell, agent, wish, word, woken, chosen),
+            Some(cell) => {
+                let _ = trailed_step(&mut cell.clone(), &mut moves, agent, wish);
+                commit(cell, agent, wish, word, woken, chosen)
+            }
         };
         self.counts.commits += 1;
         let answer = self.lent.commit(agent, wish, asked);
@@ -145,10 +152,12 @@ impl Pair {
         match committed {
             Err(refused) => {
                 *self.counts.commits_refused.entry(refused).or_default() += 1;
+                self.written(agent, asked)?;
                 self.unchanged("a refused commit", before.lent.bytes())
             }
             Ok(Stepped { word, .. }) => {
                 *self.counts.committed.entry(word.text()).or_default() += 1;
+                self.trailed(agent, asked, &moves)?;
                 self.stepped(before, agent, wish, word)
             }
         }

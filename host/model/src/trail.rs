@@ -12,7 +12,7 @@ use crate::word::{Stepped, Word};
 pub enum Verdict {
     /// "It says yes".
     Yes,
-    /// No, after so many moves were made.
+    /// No, after so many moves: those that were made; of an odd trail, the whole moves that stand before the odd byte.
     No { made: usize, why: Why },
     /// "A bad file keeps its load refusal".
     Refused(Refused),
@@ -53,7 +53,7 @@ pub fn check(file: &[u8], trail: &[u8], last: &[u8]) -> Verdict {
         Err(refused) => return Verdict::Refused(refused),
     };
     if trail.len() % 2 == 1 {
-        return Verdict::No { made: 0, why: Why::OddByte };
+        return Verdict::No { made: trail.len() / 2, why: Why::OddByte };
     }
     for (made, pair) in trail.chunks(2).enumerate() {
         if term.next_action(pair[0]).is_none() {

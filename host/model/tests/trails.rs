@@ -59,7 +59,7 @@ fn bytes(found: &Move) -> [u8; 2] {
 fn defined(file: &[u8], trail: &[u8], last: &str) -> Verdict {
     let mut tree = Tree::of(&load(file).expect("the file is accepted"));
     if trail.len() % 2 == 1 {
-        return Verdict::No { made: 0, why: Why::OddByte };
+        return Verdict::No { made: trail.len() / 2, why: Why::OddByte };
     }
     for made in 0..trail.len() / 2 {
         let pair = [trail[2 * made], trail[2 * made + 1]];
@@ -111,7 +111,7 @@ fn of_runs() {
             assert_eq!(check(&file, shorter, last.as_bytes()), other);
             if 2 * made < trail.len() {
                 let cut = &trail[..2 * made + 1];
-                assert_eq!(check(&file, cut, last.as_bytes()), Verdict::No { made: 0, why: Why::OddByte });
+                assert_eq!(check(&file, cut, last.as_bytes()), Verdict::No { made, why: Why::OddByte });
             }
         }
         moves += trail.len() / 2;

@@ -1,6 +1,8 @@
 //! What an ask tells, to be handed back to a commit.
 
 use crate::answer::{Stepped, Word};
+use crate::lent;
+use crate::refusal::{accepted, Refused};
 use core::fmt;
 
 /// What a step of an agent would answer, and the place that it would choose: [`Cell::ask`](crate::Cell::ask) tells it, and
@@ -60,6 +62,55 @@ impl Asked {
             Asked::NONE_CHOSEN => None,
             place => Some(place),
         }
+    }
+
+    /// Writes the move that the step makes to the start of `room`, which is what is left of a trail, and answers how many bytes that are: 2, the agent
+    /// and the place that it enters or opens, or 255 for an exit and a release; or 0 where it makes none, since its word is not [`Word::Left`],
+    /// [`Word::Opened`] or [`Word::Put`]. A host keeps them if the step or the commit then goes through, as [`Asked::trail`] says. Bytes past them are as
+    /// they were.
+    ///
+    /// # Errors
+    ///
+    /// Refused with 12 where there is a move and less room than two bytes; then nothing is written.
+    pub fn write_move(self, room: &mut [u8]) -> Result<usize, Refused> {
+        let answer = lent::trail(self.agent, self.number, room);
+        accepted(answer)?;
+        Ok((answer >> 8) as usize)
+    }
+
+    /// Adds the move that the step makes, if it makes one, to the trail of a run. It is called after a [`Cell::commit`](crate::Cell::commit) that went
+    /// through, or after a [`Cell::step`](crate::Cell::step) that this ask was made right before; a commit that is refused makes no move. The trail that is so
+    /// kept from a load on is upheld by [`audit`](crate::audit()), with the file and the listing of the cell, after every call (proved: crate `claims`,
+    /// `asked-run` and `run-upheld`).
+    ///
+    /// ```
+    /// use keeper::{audit, Cell, Finding};
+    ///
+    /// // The worked example: place 1, named 7, enters place 2, named 9, whose agent finds nothing to leave.
+    /// let file = [1, 1, 0, 7, 0, 1, 2, 0, 9, 0, 2, 0, 1, 3, 0, 1, 9, 0, 2, 1, 2, 3, 1, 2, 7, 0, 4];
+    /// let mut cell = Cell::load(&file)?;
+    /// let mut trail = Vec::new();
+    /// while !cell.idle()? {
+    ///     for agent in [0, 1] {
+    ///         let asked = cell.ask(agent, 255)?;
+    ///         cell.commit(asked)?;
+    ///         asked.trail(&mut trail)?;
+    ///     }
+    /// }
+    /// assert_eq!(trail, [0, 2]);
+    /// assert_eq!(audit(&file, &trail, cell.listing()?.as_bytes())?, Finding::Upheld);
+    /// # Ok::<(), keeper::Refused>(())
+    /// ```
+    ///
+    /// # Errors
+    ///
+    /// Only [`Refusal::OtherLibrary`](crate::Refusal::OtherLibrary); then the trail is as it was.
+    #[cfg(feature = "alloc")]
+    pub fn trail(self, trail: &mut alloc::vec::Vec<u8>) -> Result<(), Refused> {
+        let mut room = [0; crate::MOVE_BYTES];
+        let length = self.write_move(&mut room)?;
+        trail.extend(room.iter().take(length));
+        Ok(())
     }
 }
 

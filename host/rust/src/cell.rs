@@ -7,7 +7,7 @@ mod steps;
 mod touches;
 
 use crate::lent::Lent;
-use crate::refusal::{Refusal, Refused};
+use crate::refusal::{accepted, accepted_whole, Refused};
 
 /// A cell. One that came from [`Cell::bare`], [`Cell::load`] or [`Cell::read`] stays sound, so its calls are never refused with 10.
 #[derive(Clone, Debug)]
@@ -145,20 +145,4 @@ impl Cell {
     pub fn lent(&self) -> &Lent {
         &self.lent
     }
-}
-
-/// The number in bits 0 to 7 of an answer: 0, or why the call was refused.
-fn accepted(answer: u64) -> Result<(), Refused> {
-    match answer as u8 {
-        0 => Ok(()),
-        number => Err(Refused { refusal: Refusal::of(number), offset: None }),
-    }
-}
-
-/// The same of a file or a text, which is refused with an offset; what another library would say of it is not known.
-fn accepted_whole(answer: u64) -> Result<(), Refused> {
-    accepted(answer).map_err(|refused| match refused.refusal {
-        Refusal::OtherLibrary => refused,
-        _ => Refused { offset: Some((answer >> 8) as usize), ..refused },
-    })
 }

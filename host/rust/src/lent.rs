@@ -134,6 +134,8 @@ extern "C" {
     fn keeper_nearest(cell: *const Lent, place: u8, name: u16) -> u64;
     fn keeper_common(cell: *const Lent, place: u8, other: u8) -> u64;
     fn keeper_ceiling(cell: *const Lent) -> u64;
+    fn keeper_trail(agent: u8, asked: u64, trail: *mut u8, room: usize) -> u64;
+    fn keeper_audit(file: *const u8, n: usize, trail: *const u8, m: usize, listing: *const u8, k: usize) -> u64;
 }
 
 /// The version of the linked library: the major number from bit 16 on, the minor one in bits 8 to 15, the patch in bits 0 to 7.
@@ -171,6 +173,17 @@ fn answered(call: impl FnOnce() -> u64) -> u64 {
 // SAFETY of every call below: the library fits, so it takes a cell for what `Lent` says; a reference is not null, is aligned, is initialised and is not shared with a writer for as long as the
 // call runs, and references that are lent together do not overlap. The library keeps no pointer after a call, and writes only values
 // for which every bit pattern is allowed. All fields are integers without gaps between them, so a cell can be read and written as bytes.
+
+/// Writes the two bytes of the move that an ask of this agent told, if it told one, to the start of what is left of a trail.
+pub fn trail(agent: u8, asked: u64, trail: &mut [u8]) -> u64 {
+    answered(|| unsafe { keeper_trail(agent, asked, trail.as_mut_ptr(), trail.len()) })
+}
+
+/// Whether a trail leads from a cell file to a listing.
+pub fn audit(file: &[u8], trail: &[u8], listing: &[u8]) -> u64 {
+    let (file, n, trail, m) = (file.as_ptr(), file.len(), trail.as_ptr(), trail.len());
+    answered(|| unsafe { keeper_audit(file, n, trail, m, listing.as_ptr(), listing.len()) })
+}
 
 impl Lent {
     /// A cell of zeros, which is no sound table yet.

@@ -3,9 +3,9 @@
 //! A cell holds places nested in each other and agents that move them, one lock step at a time. A [`Cell`] is loaded from a cell file, or read
 //! from a line that a person typed, and stepped once per lock step. Every call ends, every input is accepted or refused with a number, and a refused call changes nothing.
 //!
-//! The crate is a thin safe layer over the C exports of libkeeper.a, which it links from the folder that the environment variable
-//! KEEPER_LIB_DIR names by its absolute path (or from the repository's target/staticlib). It needs no `std`. It allocates only in `Cell::listing`, which the
-//! feature `alloc`, on by default, adds. No function of it panics.
+//! The crate is a thin safe layer over the C exports of libkeeper.a and libauditor.a, which it links from the folder that the environment variable
+//! KEEPER_LIB_DIR names by its absolute path (or from the repository's target/staticlib). It needs no `std`. It allocates only in
+//! `Cell::listing` and `Asked::trail`, which the feature `alloc`, on by default, adds. No function of it panics.
 //!
 //! ```
 //! use keeper::{Cell, Refusal, Word};
@@ -93,6 +93,12 @@
 //! while cell.step(0, 255)?.word != Word::Came {}
 //! assert_eq!(cell.ceiling()?, 32);
 //!
+//! // Checking a claim: the trail says that agent 0 took its place 1, named 7, into place 2. From this file that leads to the first listing and not to the
+//! // second.
+//! let (file, trail) = ([1, 1, 0, 7, 0, 1, 2, 0, 9, 0, 2, 0, 1, 3, 0, 1, 9, 0, 4], [0, 2]);
+//! assert!(keeper::audit(&file, &trail, b"9[7[]]")?.is_upheld());
+//! assert!(!keeper::audit(&file, &trail, b"7[9[]]")?.is_upheld());
+//!
 //! // A file of length 0 is a bare floor: a line with nothing on it yet.
 //! let cell = Cell::load(&[])?;
 //! let length = cell.list(&mut text)?;
@@ -102,7 +108,7 @@
 //!
 //! # What a host owes
 //!
-//! The thread that calls has [`STACK`] bytes of stack left. Rust's own threads have 2 MiB unless they are given less. Calls on different cells
+//! The thread that calls has [`STACK`] bytes of stack left, for [`audit`](audit()) [`AUDIT_STACK`]. Rust's own threads have 2 MiB unless they are given less. Calls on different cells
 //! may run at the same time, and on one cell those that only read it, which take `&self`; the compiler sees to it that no others do.
 //!
 //! # The library
@@ -118,18 +124,20 @@ extern crate alloc;
 
 mod answer;
 mod asked;
+mod audit;
 mod cell;
 pub mod lent;
 mod refusal;
 
 pub use answer::{Stepped, Word};
 pub use asked::Asked;
+pub use audit::{audit, Finding, Reason};
 pub use cell::Cell;
 pub use refusal::{Refusal, Refused};
 
 /// The version of the library that this crate was made for: the major number from bit 16 on, the minor one in bits 8 to 15, the patch in
 /// bits 0 to 7.
-pub const VERSION: u64 = 393_472;
+pub const VERSION: u64 = 393_728;
 
 /// The longest cell file that can be accepted.
 pub const FILE_LONGEST: usize = 6_390;
@@ -141,11 +149,20 @@ pub const FILE_DECIDING: usize = 6_400;
 /// longer (counted and not proved).
 pub const LISTING_LONGEST: usize = 16_225;
 
+/// How many bytes a trail has for a move: the agent, and the place that it enters or opens, or 255.
+pub const MOVE_BYTES: usize = 2;
+
+/// The longest trail of a run from one load: every move uses up an action, and a cell has 64 times sixteen (counted and not proved).
+pub const TRAIL_LONGEST: usize = 2_048;
+
 /// The touches that the places in use may have together, at most.
 pub const TOUCHES_MOST: u64 = 1_000_000_000_000;
 
 /// The stack that a call uses, in bytes, at most: measured by `host/c/stack.c`, not proved.
 pub const STACK: usize = 65_536;
+
+/// The stack that [`audit`](audit()) uses, in bytes, at most: measured likewise.
+pub const AUDIT_STACK: usize = 131_072;
 
 /// Whether the linked library is one that this crate was made for.
 ///

@@ -34,7 +34,8 @@ pub enum Refusal {
     Unsound,
     /// 11: no such agent in the cell. Correct the order.
     NoSuchAgent,
-    /// 12: the listing is longer than the text lent for it. [`LISTING_LONGEST`](crate::LISTING_LONGEST) bytes are enough for every cell.
+    /// 12: the listing is longer than the text lent for it, or the two bytes of a move are more than the room lent for them.
+    /// [`LISTING_LONGEST`](crate::LISTING_LONGEST) bytes are enough for every cell, [`TRAIL_LONGEST`](crate::TRAIL_LONGEST) for the trail of every run.
     ListingTooLong,
     /// 13: a place's parent or an agent's home is above 63. Look at the record's third byte.
     ParentTooLarge,
@@ -160,7 +161,7 @@ impl Refusal {
             Refusal::AfterTheEnd => "bytes after the end record",
             Refusal::Unsound => "unsound table",
             Refusal::NoSuchAgent => "no such agent",
-            Refusal::ListingTooLong => "listing longer than the buffer",
+            Refusal::ListingTooLong => "listing or move longer than the buffer",
             Refusal::ParentTooLarge => "parent or home above 63",
             Refusal::AgentTooLarge => "agent number above 63",
             Refusal::TooManyTouches => "more than 1,000,000,000,000 touches in all",
@@ -171,6 +172,22 @@ impl Refusal {
             Refusal::Unknown(_) => "unknown",
         }
     }
+}
+
+/// The number in bits 0 to 7 of an answer: 0, or why the call was refused.
+pub(crate) fn accepted(answer: u64) -> Result<(), Refused> {
+    match answer as u8 {
+        0 => Ok(()),
+        number => Err(Refused { refusal: Refusal::of(number), offset: None }),
+    }
+}
+
+/// The same of a file or a text, which is refused with an offset; what another library would say of it is not known.
+pub(crate) fn accepted_whole(answer: u64) -> Result<(), Refused> {
+    accepted(answer).map_err(|refused| match refused.refusal {
+        Refusal::OtherLibrary => refused,
+        _ => Refused { offset: Some((answer >> 8) as usize), ..refused },
+    })
 }
 
 impl fmt::Display for Refusal {

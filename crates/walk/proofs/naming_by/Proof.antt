@@ -1,6 +1,6 @@
 -- By the tests, which are the definition's.
 use borrow.Author.Tests.{lt-ltb, le-ltb, eq-eqb, ne-eqb}
-use Rattle.walk.specs.Inputs.{namingBy}
+use Rattle.walk.specs.Names.{namingBy}
 use Rattle.walk.proofs.naming_by.Statement.{statement}
 use Rattle.walk.proofs.naming_by.Tie as tie
 

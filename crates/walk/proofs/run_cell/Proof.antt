@@ -10,10 +10,8 @@ pub run-cell-spec : {M : Type 1} → statement M
 run-cell-spec =
     tie.close
     (tie.spec
-    (λ c. search needs) (λ c. search needs) (λ c κs. search needs)
-    (λ c. search needs) (λ c. search needs) (λ c. search needs)
-    (λ c. search needs) (λ c. search needs) (λ c κs. search needs)
-    (λ c. search needs) (λ c. search needs) (λ c. search needs)
+    (λ c. search needs) (λ c. search needs) (λ c κs. search needs) (λ c. search needs) (λ c. search needs)
+    (λ c. search needs) (λ c. search needs) (λ c κs. search needs) (λ c. search needs) (λ c. search needs)
     (λ c κs. search needs)
     (λ c. whole-within _ _ _ _ (c .write-whole .ensures .0))
     (λ c. sym (length-take-le _ _ (whole-within _ _ _ _ (c .before .write-whole .ensures .0))))

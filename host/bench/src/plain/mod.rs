@@ -3,6 +3,7 @@
 //! The cell is changed in place; an ask steps a copy, and a commit takes that copy. Every pass goes over all 64 numbers and asks of each whether
 //! it is in use. Loading is the tuned peer's.
 
+mod audit;
 mod list;
 mod read;
 mod sound;
@@ -144,6 +145,26 @@ impl Keeper for Plain {
             left += 2 * (agent.count - agent.next) as u64 + (4..=6).contains(&agent.stage) as u64;
         }
         (5 * agents * (left + 1) + left) << 8
+    }
+
+    #[inline(never)]
+    fn trail(agent: u8, asked: u64, trail: &mut [u8]) -> u64 {
+        let mut told = Vec::new();
+        if asked & 255 == 0 && [5, 7, 8].contains(&(asked >> 8 & 255)) {
+            told.extend([agent, (asked >> 24) as u8]);
+        }
+        match trail.get_mut(..told.len()) {
+            Some(trail) => {
+                trail.copy_from_slice(&told);
+                (told.len() as u64) << 8
+            }
+            None => TOO_LONG,
+        }
+    }
+
+    #[inline(never)]
+    fn audit(file: &[u8], trail: &[u8], listing: &[u8]) -> u64 {
+        audit::audit(file, trail, listing)
     }
 }
 

@@ -18,9 +18,9 @@ const PUT: u64 = 8;
 const ASLEEP: u64 = 9;
 const DONE: u64 = 10;
 
-const ENTER: u8 = 1;
-const EXIT: u8 = 2;
-const OPEN: u8 = 3;
+pub const ENTER: u8 = 1;
+pub const EXIT: u8 = 2;
+pub const OPEN: u8 = 3;
 const RELEASE: u8 = 4;
 
 /// What a step reads of its agent.

@@ -4,6 +4,7 @@
 //! The calls are not inlined into the loops that measure them, as those of the library are not.
 
 mod ask;
+mod audit;
 mod list;
 mod load;
 mod read;
@@ -13,6 +14,7 @@ mod whereabouts;
 
 use crate::cell::{has, members, Agent, Cell, MOST_TOUCHES};
 use crate::keeper::Keeper;
+pub use audit::{denied, NOT_PERMITTED, NO_ACTION, NO_BYTE, ODD_BYTE, OTHER_LAYOUT};
 pub use load::Refused;
 use sound::{sound, sound_touches};
 
@@ -188,5 +190,24 @@ impl Keeper for Tuned {
         let left_of = |agent: &Agent| 2 * (agent.count - agent.next) as u64 + (4..=6).contains(&agent.stage) as u64;
         let left: u64 = members(cell.given).map(|x| left_of(&cell.agents[x as usize])).sum();
         (5 * cell.given.count_ones() as u64 * (left + 1) + left) << 8
+    }
+
+    #[inline(never)]
+    fn trail(agent: u8, asked: u64, trail: &mut [u8]) -> u64 {
+        if asked & 255 != 0 || !matches!(asked >> 8 & 255, 5 | 7 | 8) {
+            return 0;
+        }
+        match trail.first_chunk_mut() {
+            Some(pair) => {
+                *pair = [agent, (asked >> 24) as u8];
+                2 << 8
+            }
+            None => TOO_LONG,
+        }
+    }
+
+    #[inline(never)]
+    fn audit(file: &[u8], trail: &[u8], listing: &[u8]) -> u64 {
+        audit::audit(file, trail, listing)
     }
 }

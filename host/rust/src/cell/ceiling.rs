@@ -1,7 +1,7 @@
 //! The ceiling: how many step calls can still change a cell.
 
-use super::{accepted, Cell};
-use crate::refusal::Refused;
+use super::Cell;
+use crate::refusal::{accepted, Refused};
 
 impl Cell {
     /// How many step calls can still change the cell, at most. No order churns forever: of all the calls of [`Cell::step`] from here on, with any

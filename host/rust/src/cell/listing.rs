@@ -1,7 +1,7 @@
 //! The listing, in a lent text or as a string.
 
-use super::{accepted, Cell};
-use crate::refusal::Refused;
+use super::Cell;
+use crate::refusal::{accepted, Refused};
 #[cfg(feature = "alloc")]
 use crate::LISTING_LONGEST;
 

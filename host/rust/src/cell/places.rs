@@ -1,7 +1,7 @@
 //! Where a place is: in which place of a name, and what it shares with another.
 
-use super::{accepted, Cell};
-use crate::refusal::Refused;
+use super::Cell;
+use crate::refusal::{accepted, Refused};
 
 /// What the library answers for a place where there is none.
 const NOWHERE: u8 = 255;

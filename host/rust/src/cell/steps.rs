@@ -1,9 +1,9 @@
 //! Steps: made at once, or asked for and then committed.
 
-use super::{accepted, Cell};
+use super::Cell;
 use crate::answer::Stepped;
 use crate::asked::Asked;
-use crate::refusal::Refused;
+use crate::refusal::{accepted, Refused};
 
 impl Cell {
     /// One lock step of an agent. `wish` is the number of the place that an enter or open should choose where several qualify. It counts

@@ -1,7 +1,7 @@
 //! Touches: added to a place, and counted.
 
-use super::{accepted, Cell};
-use crate::refusal::Refused;
+use super::Cell;
+use crate::refusal::{accepted, Refused};
 
 impl Cell {
     /// Adds a number to the touch count of a place and answers its new count. The count stays with the place wherever it goes, and is added
