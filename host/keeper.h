@@ -4,7 +4,7 @@
 ** A cell holds places nested in each other and agents that move them, one lock step at a time. The host lends the memory of a cell and
 ** calls the keeper once per lock step. The keeper allocates nothing, keeps nothing between calls, reads no clock and no file, and calls
 ** memcpy and memset and nothing else outside itself. Every call ends, and every input is accepted or refused with a number; a refused
-** call leaves the cell and every lent buffer as they were.
+** call leaves the cell and every lent buffer as they were. (A card's window is there to be told of a refusal, and is: keeper_command.)
 **
 ** In short:
 **
@@ -37,6 +37,10 @@
 **     answer = keeper_commit(&cell, agent, wish, answer);
 **     if (keeper_refusal(answer) == KEEPER_ANSWER_DIFFERS)
 **         printf("another step came between: ask again\n");
+**     window.command = KEEPER_COMMAND_STEP, window.agent = agent, window.wish = wish, window.mask = KEEPER_FLAG_WOKE | KEEPER_FLAG_REST;
+**     keeper_command(&cell, &window);
+**     if (window.line == 1)
+**         keeper_clear(&window, window.flags);
 **     answer = keeper_touch(&cell, place, touches);
 **     if (keeper_refusal(answer) == 0)
 **         printf("%llu touches\n", (unsigned long long)keeper_count(answer));
@@ -56,12 +60,13 @@
 ** What the caller owes, in every call:
 **
 **   - A pointer is not null, also where the length given with it is 0, and stays valid for the whole call. A cell is aligned as its type
-**     asks; files, texts and trails may stand anywhere. Where the length is 0, nothing is read or written through the pointer, so any that is not
+**     asks; files, texts, trails and windows may stand anywhere. Where the length is 0, nothing is read or written through the pointer, so any that is not
 **     null will do: that of an array, or one past its end.
 **   - A cell has been written before any call but keeper_bare, by that call or in any other way (all zeros will do): the keeper takes
 **     every bit pattern, and refuses one that is not a sound table with 10, but it does read it.
-**   - A file or text lent together with a cell does not overlap it. Those lent to keeper_audit, which reads them only, may overlap.
-**   - During the call no other thread writes what is lent, nor reads what the call may write. So calls on different cells may run at the same
+**   - A file, text or window lent together with a cell does not overlap it. Those lent to keeper_audit, which reads them only, may overlap.
+**   - During the call no other thread writes what is lent, nor reads what the call may write; the card writes its own bytes of a window when it
+**     likes (keeper_window). So calls on different cells may run at the same
 **     time; and on one cell those that only read it (keeper_ask, keeper_list, keeper_check, keeper_idle, keeper_touches, keeper_nearest,
 **     keeper_common, keeper_ceiling), each with a text of its own. keeper_audit and keeper_trail take no cell.
 **   - The stack has room for KEEPER_STACK bytes, in keeper_audit for KEEPER_AUDIT_STACK.
@@ -85,7 +90,7 @@ extern "C" {
 ** call, a word, a refusal. The patch number changes with anything else.
 */
 #define KEEPER_MAJOR 6
-#define KEEPER_MINOR 2
+#define KEEPER_MINOR 3
 #define KEEPER_PATCH 0
 #define KEEPER_VERSION (KEEPER_MAJOR * 65536 + KEEPER_MINOR * 256 + KEEPER_PATCH)
 
@@ -434,6 +439,93 @@ keeper_answer keeper_ask(const keeper_cell *cell, uint8_t agent, uint8_t wish);
 keeper_answer keeper_commit(keeper_cell *cell, uint8_t agent, uint8_t wish, keeper_answer asked);
 
 /*
+** keeper_window: the register window of a card, such as a bonder's, that makes its steps itself and has an interrupt line. The card lends one
+** record, and each command and each clear changes it where it lies.
+**
+**     byte  name     who writes it       what it holds
+**     0     command  the card            KEEPER_COMMAND_STEP, which is 1: a step. Any other number: nothing, but the line is set anew
+**     1     agent    the card            whose step it is
+**     2     wish     the card            its wish, as keeper_step has it; 255 for none
+**     3     answer   a step              0 to 10, the word (KEEPER_LOOKED to KEEPER_DONE); or KEEPER_WINDOW_REFUSED plus the number of a refusal
+**     4     woken    a step              how many sleeping agents the step woke; 0 where it was refused
+**     5     flags    a step, a clear     what has happened since the card last cleared it, a bit for each
+**     6     mask     the card            the flags that the card wants to hear of
+**     7     line     a command, a clear  1 if flags and mask share a bit, else 0
+**
+**     bit of flags  7 .. 3          2                    1                   0
+**                   set by nobody   KEEPER_FLAG_REFUSED  KEEPER_FLAG_REST    KEEPER_FLAG_WOKE
+**                                   a step was refused   all agents asleep   a step woke
+**                                                        or done after it    someone
+**
+** Eight zeros are a window in which nothing has happened. Whatever else stands in it is taken as it is: bits 3 to 7 of flags too stay until they are
+** cleared, and raise the line where the mask has them.
+**
+** A call reads the window at its start. Of its bytes keeper_command stores answer, woken, flags and line, and keeper_clear flags and line. So what
+** the card writes to command, agent, wish and mask while a call runs is not lost: that call may go by the bytes as they were, the next one
+** goes by the new ones. A new mask shows in the line after the next command or clear; an unknown command, such as 0, does that and nothing else.
+*/
+typedef struct keeper_window {
+    uint8_t command;
+    uint8_t agent;
+    uint8_t wish;
+    uint8_t answer;
+    uint8_t woken;
+    uint8_t flags;
+    uint8_t mask;
+    uint8_t line;
+} keeper_window;
+
+KEEPER_ASSERT(sizeof(keeper_window) == 8 && offsetof(keeper_window, agent) == 1, "keeper_window has 8 bytes");
+KEEPER_ASSERT(offsetof(keeper_window, wish) == 2 && offsetof(keeper_window, answer) == 3, "keeper_window");
+KEEPER_ASSERT(offsetof(keeper_window, woken) == 4 && offsetof(keeper_window, flags) == 5, "keeper_window");
+KEEPER_ASSERT(offsetof(keeper_window, mask) == 6 && offsetof(keeper_window, line) == 7, "keeper_window");
+
+/* The command that makes a step. */
+#define KEEPER_COMMAND_STEP 1
+
+/* What is added to the number of a refusal in a window's answer; every answer below it is a word. */
+#define KEEPER_WINDOW_REFUSED 128
+
+/* The flags of a window, and so the bits of its mask and of the ones of a clear. */
+#define KEEPER_FLAG_WOKE 1    /* a step woke someone */
+#define KEEPER_FLAG_REST 2    /* after a step that was not refused all agents were asleep or done: no step changes the cell any more */
+#define KEEPER_FLAG_REFUSED 4 /* a step was refused */
+
+/*
+** keeper_command: carries out the command in a card's window.
+**
+** Where `command` is KEEPER_COMMAND_STEP, it is the step of `agent` with `wish`: the cell is left as keeper_step leaves it, and the window tells
+** of it:
+**
+**     answer   the word; or KEEPER_WINDOW_REFUSED plus 10 where the table is unsound, else plus 11 where no such agent is in the cell
+**     woken    how many sleeping agents the step woke
+**     flags    a step that was made sets KEEPER_FLAG_WOKE if it woke someone, and KEEPER_FLAG_REST if all agents are asleep or done after it; a
+**              refused one sets KEEPER_FLAG_REFUSED alone. A flag that is set stays set, whatever later steps do, until it is cleared
+**
+** A refused step leaves the cell as it was, but not the window. Any other command leaves the cell, and of the window all but the line. After
+** every command the line is 1 exactly if flags and mask share a bit, else 0.
+**
+** For the card it goes so:
+**
+**     window.command = KEEPER_COMMAND_STEP, window.agent = agent, window.wish = wish;
+**     keeper_command(&cell, &window);
+**     if window.line is 1                                          the interrupt: something that the mask names has happened
+**         seen = window.flags                                      what it was; window.answer and window.woken are those of the latest step
+**         keeper_clear(&window, seen);                             and of nothing else, so that no flag is lost that came since
+**
+** After any commands and clears the cell is the one that the same calls of keeper_step give, and no waking, rest or refusal goes unseen: its
+** flag is set until a clear names it. Both are proved (crate window, `SessionRight`). It is a step for every statement on steps: those of
+** keeper_ceiling, keeper_check and keeper_commit too.
+*/
+void keeper_command(keeper_cell *cell, keeper_window *window);
+
+/*
+** keeper_clear: ones written to the flags of a card's window clear those bits, and the others stay. Then the line is 1 exactly if flags and mask
+** share a bit, else 0. Nothing else is written, and it needs no cell.
+*/
+void keeper_clear(keeper_window *window, uint8_t ones);
+
+/*
 ** keeper_list: writes the listing of the cell, in ASCII and without a closing zero byte, to text[0] and on. `room` is how many bytes may
 ** be written there. A place whose three keys are its name is written as `7[]`, any other with its keys for entering, exiting and opening
 ** after the name, as `7/8/9/0[]`.
@@ -456,7 +548,7 @@ keeper_answer keeper_list(const keeper_cell *cell, uint8_t *text, size_t room);
 
 /*
 ** keeper_check: whether the table is sound. A cell that keeper_bare or an accepted keeper_load or keeper_read wrote, and that only
-** keeper_step, keeper_commit and keeper_touch have changed since, always is.
+** keeper_step, keeper_commit, keeper_command and keeper_touch have changed since, always is.
 **
 ** Answers 0 if it is sound; refused with 10 if it is not. The cell is only read.
 */
@@ -604,6 +696,12 @@ static inline unsigned keeper_woken(keeper_answer answer) { return (unsigned)(an
 
 /* The chosen place that keeper_ask tells, or KEEPER_NONE_CHOSEN. */
 static inline unsigned keeper_chosen(keeper_answer answer) { return (unsigned)(answer >> 24 & 255); }
+
+/* The number with which the latest step of a window was refused, or 0; where it is 0, the window's answer is a word. */
+static inline unsigned keeper_window_refusal(const keeper_window *window)
+{
+    return window->answer < KEEPER_WINDOW_REFUSED ? 0u : (unsigned)(window->answer - KEEPER_WINDOW_REFUSED);
+}
 
 /* The length of the listing that keeper_list wrote, or how many bytes keeper_trail wrote. */
 static inline size_t keeper_length(keeper_answer answer) { return (size_t)(answer >> 8); }

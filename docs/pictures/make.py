@@ -14,6 +14,7 @@ from railroad import Again, Box, Either, Row, Skip, tracks
 from timeline import asking
 from trail import trail
 from where import where
+from window import flags, window
 
 
 def cell():
@@ -291,5 +292,5 @@ def language():
 
 if __name__ == "__main__":
     for draw in (cell, stages, enter, exit_, open_, release, semaphore, touches, served, layouts, language, rights, example_trees, example_held, example_locks, slips,
-                 asking, where, ceiling, trail):
+                 asking, where, ceiling, trail, window, flags):
         draw()

@@ -40,6 +40,13 @@ int main()
         return 1;
     if (keeper_found(keeper_nearest(&cell, 2, 7)) != KEEPER_NOWHERE || keeper_found(keeper_common(&cell, 1, 2)) != 1)
         return 1;
+    keeper_window window = {KEEPER_COMMAND_STEP, 3, 255, 0, 0, 0, KEEPER_FLAG_REFUSED, 0};
+    keeper_command(&cell, &window);
+    if (keeper_window_refusal(&window) != KEEPER_NO_SUCH_AGENT || window.flags != KEEPER_FLAG_REFUSED || window.line != 1)
+        return 1;
+    keeper_clear(&window, KEEPER_FLAG_REFUSED);
+    if (window.flags != 0 || window.line != 0)
+        return 1;
     if (keeper_read(&cell, reinterpret_cast<const uint8_t *>("release 9"), 9) != 0 || keeper_most_changes(keeper_ceiling(&cell)) != 17)
         return 1;
     if (keeper_step(&cell, 0, 255) != 0)

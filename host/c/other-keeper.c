@@ -18,6 +18,8 @@ keeper_answer keeper_commit(keeper_cell *cell, uint8_t agent, uint8_t wish, keep
 {
     (void)cell, (void)agent, (void)wish, (void)asked, abort();
 }
+void keeper_command(keeper_cell *cell, keeper_window *window) { (void)cell, (void)window, abort(); }
+void keeper_clear(keeper_window *window, uint8_t ones) { (void)window, (void)ones, abort(); }
 keeper_answer keeper_list(const keeper_cell *cell, uint8_t *text, size_t room) { (void)cell, (void)text, (void)room, abort(); }
 keeper_answer keeper_check(const keeper_cell *cell) { (void)cell, abort(); }
 keeper_answer keeper_idle(const keeper_cell *cell) { (void)cell, abort(); }

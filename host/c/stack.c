@@ -2,7 +2,7 @@
 ** How much stack the calls use: each runs in a thread whose stack was filled with a pattern, and what has lost it below the caller was
 ** used. The cells are full: all places in each other, side by side, or in a chain with one beside each, numbered against the order in
 ** which they are listed; all agents with sixteen actions. Where the agents release, one number is unused: one of them puts its place there,
-** and the others sleep on no place. All agents step, many times; each step is also asked for before, and committed on a copy. A listing is
+** and the others sleep on no place. All agents step, many times; each step is also asked for before, and committed and commanded on copies. A listing is
 ** also made in a room that not every listing fits, and each listing is read back. Where a place is, is asked of the last one, which in a
 ** chain has all others around it. The trail of the steps is kept and audited with the listing at their end; it must be a yes.
 */
@@ -16,8 +16,8 @@
 
 #define ROOM (1024 * 1024)
 #define PATTERN 0xA5
-#define CALLS 17
-#define STEPPING 5 /* the last ones: ask, commit, step, trail and audit */
+#define CALLS 19
+#define STEPPING 6 /* the last ones: ask, commit, step, command, trail and audit */
 
 static keeper_cell cell;
 static uint8_t file[KEEPER_FILE_LONGEST];
@@ -28,6 +28,7 @@ static uint8_t agent; /* or the place of a call for a place */
 static keeper_answer asked;
 static uint8_t moves[KEEPER_TRAIL_LONGEST];
 static size_t trail_length;
+static keeper_window window;
 
 static void bare(void) { keeper_bare(&cell); }
 static void load(void) { keeper_load(&cell, file, file_length); }
@@ -46,6 +47,8 @@ static void nearest(void) { keeper_nearest(&cell, agent, 0); }
 static void common(void) { keeper_common(&cell, agent, 1); }
 static void trail(void) { trail_length += keeper_length(keeper_trail(agent, asked, moves + trail_length, sizeof moves - trail_length)); }
 static void audit(void) { keeper_audit(file, file_length, moves, trail_length, text, text_length); }
+static void command(void) { keeper_command(&cell, &window); }
+static void clear(void) { keeper_clear(&window, 5); }
 
 /* A call to measure, the stack that it runs on, and what it used. */
 typedef struct measured {
@@ -121,9 +124,9 @@ int main(void)
 {
     size_t used[CALLS] = {0};
     void (*const calls[CALLS])(void) = {bare,  load,    check,   idle,   ceiling, list,   list_short, read,
-                                        touch, touches, nearest, common, ask,     commit, step,       trail, audit};
+                                        touch, touches, nearest, common, clear,   ask,    commit,     step, command, trail, audit};
     const char *const names[CALLS] = {"bare",  "load",    "check",   "idle",   "ceiling", "list",   "list in a short room", "read",
-                                      "touch", "touches", "nearest", "common", "ask",     "commit", "step",                 "trail", "audit"};
+                                      "touch", "touches", "nearest", "common", "clear",   "ask",    "commit",               "step", "command", "trail", "audit"};
     size_t most = 0;
 
     if (!keeper_fits())
@@ -143,10 +146,13 @@ int main(void)
                 keeper_cell before = cell;
 
                 agent = (uint8_t)(turn / 8);
-                measure(ask, &used[CALLS - 5]);
-                measure(commit, &used[CALLS - 4]);
+                measure(ask, &used[CALLS - 6]);
+                measure(commit, &used[CALLS - 5]);
                 cell = before;
-                measure(step, &used[CALLS - 3]);
+                window = (keeper_window){.command = KEEPER_COMMAND_STEP, .agent = agent, .wish = 255};
+                measure(command, &used[CALLS - 3]);
+                cell = before;
+                measure(step, &used[CALLS - 4]);
                 measure(trail, &used[CALLS - 2]);
             }
             text_length = keeper_length(keeper_list(&cell, text, sizeof text));

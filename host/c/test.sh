@@ -167,5 +167,33 @@ for program in calls calls-sanitized ask ask-sanitized audit audit-sanitized cei
     "target/$program"
     passed=$((passed + 1))
 done
+
+# the card drives typed layouts to rest; it is interrupted where someone is woken, and stops where all rest or a step is refused
+# card_of NAME TEXT STATUS EXPECTED
+card_of() {
+    printf "$4" > "$folder/expected"
+    for program in target/window target/window-sanitized; do
+        status=0
+        "$program" "$2" > "$folder/printed" || status=$?
+        if [ "$status" -ne "$3" ] || ! cmp -s "$folder/expected" "$folder/printed"; then
+            echo "$1: $program ended with $status and printed"
+            cat "$folder/printed"
+            exit 1
+        fi
+        passed=$((passed + 1))
+    done
+}
+before='agent 0 looked\nagent 1 looked\nagent 0 took\nagent 1 held\nagent 0 took\nagent 1 held\nagent 0 left\nagent 1 took\nagent 0 took\nagent 1 slept\nagent 0 took\nagent 1 asleep\n'
+since='agent 0 came\nline raised: 1 woken\nagent 1 looked\nagent 0 done\nagent 1 took\nagent 0 done\nagent 1 slept\nline raised: all rest\nend 9[exit 7 | 7[]]\n'
+card_of 'the worked example by a card' "$typed" 0 "$before$since"
+card_of 'a release by a card' 'release 9' 0 'agent 0 looked\nagent 0 took\nagent 0 put\nline raised: all rest\nend 9[]\n'
+card_of 'no agents' '7[]' 0 'agent 0 refused 11\nline raised: no such agent\nend 7[]\n'
+card_of 'a text that a card cannot read' '7[0]' 1 '7[0]\n  ^ not a text of the listing'"'"'s language\n'
+for program in command command-sanitized; do
+    printf '%s: ' "$program"
+    "target/$program"
+    passed=$((passed + 1))
+done
+
 target/stack
 echo "$((passed + 1)) passed, 0 failed"

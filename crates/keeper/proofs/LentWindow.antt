@@ -1,5 +1,6 @@
 -- What the walks of a card's calls share: a lent window is opened and closed; and the functions that they call over the lent cell.
 --     R, val, typed, opened, closed    the row of `Window`; its machine value, which has its MIR type; a `&mut Window` is opened, and closed at another
+--     stored-is, flags-is    a window with some bytes of another is one
 --     Steps, Rests, Commands    `keeper_step`, `at_rest` and `commanded`, in the words of `Altering` and `Passing`
 --     numbers, none, one        the values that they are passed: agent and wish, none, a window
 -- Assumes `Given`.
@@ -17,6 +18,7 @@ use Rattle.meaning.specs.Run.{stepOf}
 use Rattle.meaning.specs.Codes.{stepNumber}
 use Rattle.window.specs.declared.Window.{Window}
 use Rattle.window.specs.Window.{commandOf}
+use Rattle.window.specs.StoredLaws.{stored, storedFlags}
 use Rattle.window.proofs.Window as T
 use Rattle.window.proofs.Window.Laws as T′
 use Rattle.lent.proofs.Walk.{refl, ℕ, _<_, _^_, List, [], _∷_, URA, fullShare, w8, Val, vint, GName, Lft, Share, flft, fobs, fbor, Heap, Atoms, Given, ‵, _$_, _∵_, !, qed, fjoin, done, Body, RattleType, Is, mem, u8, u64, uint-makes, plain, owned, nothing, yes}
@@ -42,6 +44,22 @@ module _ {M : Type 1} {𝓤 : URA M} {H : Heap 𝓤} {A : Atoms 𝓤} {K : Type 
       → Step K W (‵ (fobs γ (R .coded .code w)) ∷ ‵ (fbor κ (Body (mem R) b o γ)) ∷ ‵ (flft κ q) ∷ Γ) G
       (‵ (cellAt fullShare (R .mir) (val w ∷ []) b o) ∷ ‵ (fobor κ q (Body (mem R) b o γ)) ∷ ‵ (fobs γ u) ∷ ‵ (fauth γ v) ∷ Γ) G
   closed t z w is b o = D.closed T.the-type T′.the-laws T′.the-plain t z w is b o
+
+-- ---- some bytes of another window
+
+-- a window with answer, woken, flags and line of another
+pub stored-is : (w r : Window) → Is R w (val w ∷ []) → Is R r (val r ∷ []) → Is R (stored w r) (val (stored w r) ∷ [])
+stored-is w r was is =
+    let p = LL.owed T.the-type T′.the-laws w _ was in
+    let q = LL.owed T.the-type T′.the-laws r _ is in
+    LL.owes T.the-type T′.the-laws (stored w r) (p .0, (p .1 .0, (p .1 .1 .0, (q .1 .1 .1 .0, (q .1 .1 .1 .1 .0, (q .1 .1 .1 .1 .1 .0, (p .1 .1 .1 .1 .1 .1 .0, q .1 .1 .1 .1 .1 .1 .1)))))))
+
+-- and with flags and line
+pub flags-is : (w r : Window) → Is R w (val w ∷ []) → Is R r (val r ∷ []) → Is R (storedFlags w r) (val (storedFlags w r) ∷ [])
+flags-is w r was is =
+    let p = LL.owed T.the-type T′.the-laws w _ was in
+    let q = LL.owed T.the-type T′.the-laws r _ is in
+    LL.owes T.the-type T′.the-laws (storedFlags w r) (p .0, (p .1 .0, (p .1 .1 .0, (p .1 .1 .1 .0, (p .1 .1 .1 .1 .0, (q .1 .1 .1 .1 .1 .0, (p .1 .1 .1 .1 .1 .1 .0, q .1 .1 .1 .1 .1 .1 .1)))))))
 
 -- ---- the functions over the lent cell
 

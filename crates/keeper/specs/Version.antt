@@ -7,9 +7,9 @@ use Prim.Native.Nat.{ℕ, _+_, _*_}
 abbrev pub versionNumber : ℕ → ℕ → ℕ → ℕ
 versionNumber major minor patch = major * 65536 + minor * 256 + patch
 
--- version 6.2.0
+-- version 6.3.0
 abbrev pub keeperVersion : ℕ
-keeperVersion = versionNumber 6 2 0
+keeperVersion = versionNumber 6 3 0
 
 -- ---- how many bytes a cell has, field by field, as C lays it out
 

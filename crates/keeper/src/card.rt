@@ -21,19 +21,25 @@ fn commanded(cell: &mut Cell, w: Window) -> Window
     with_line(w)
 }
 
-// One command: the step of the agent in the window, with its wish, where it is 1.
-
-fn keeper_command(cell: &mut Cell, window: &mut Window)
+// One command: the step of the agent in the window, with its wish, where it is 1. What is the card's is read once and not written.
+#[no_mangle]
+pub extern "C" fn keeper_command(cell: &mut Cell, window: &mut Window)
     ensures { λ _. ⌜ (now (cell .exit) ≡ commandOf (now (cell .entry)) (now (window .entry)) .cell)
         × (now (window .exit) ≡ commandOf (now (cell .entry)) (now (window .entry)) .window) ⌝ }
 {
-    *window = commanded(cell, *window);
+    let w = commanded(cell, *window);
+    window.answer = w.answer;
+    window.woken = w.woken;
+    window.flags = w.flags;
+    window.line = w.line;
 }
 
-// Ones written to the flags clear those bits.
-
-fn keeper_clear(window: &mut Window, ones: u8)
+// Ones written to the flags clear those bits. Nothing else but the line is written.
+#[no_mangle]
+pub extern "C" fn keeper_clear(window: &mut Window, ones: u8)
     ensures { λ _. ⌜ now (window .exit) ≡ clearOf (now (window .entry)) ones ⌝ }
 {
-    *window = clear(*window, ones);
+    let v = clear(*window, ones);
+    window.flags = v.flags;
+    window.line = v.line;
 }

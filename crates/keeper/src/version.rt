@@ -2,12 +2,12 @@
 ghost use mathlib.Core.Path.{_≡_};
 ghost use Rattle.keeper.specs.Version.{keeperVersion, cellBytes};
 
-// The version of the library, 6.2.0, as one number.
+// The version of the library, 6.3.0, as one number.
 #[no_mangle]
 pub extern "C" fn keeper_version() -> u64
     ensures { λ r. ⌜ r ≡ keeperVersion ⌝ }
 {
-    393728
+    393984
 }
 
 // How many bytes a cell has.

@@ -4,3 +4,4 @@ pub mod Noted
 pub mod BitLaws
 pub mod NotedLaws
 pub mod SessionLaws
+pub mod StoredLaws

@@ -1,5 +1,6 @@
 //! The three keepers side by side: the same answers, cells and buffers, or the benchmark stops.
 
+use crate::card;
 use crate::cell::{members, Cell, Name, LISTING_LONGEST, MOST_TOUCHES};
 use crate::cells::{random, Random};
 use crate::files::{keyed, more_digits, releasing, renumbered};
@@ -49,6 +50,7 @@ fn job(job: &Job) -> Result<usize, String> {
             order.iter().try_for_each(|&(agent, wish, asked)| commit(&mut cells, agent, wish, asked))?;
             Ok(order.len())
         }
+        Job::Command { start, order } => card::agree(start, order),
         Job::Touch { start, order } => {
             let mut cells = [**start; 3];
             order.iter().try_for_each(|&(place, number)| touch(&mut cells, place, number))?;

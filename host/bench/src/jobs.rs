@@ -1,5 +1,6 @@
 //! What is measured: jobs that each keeper can do, each a lap of calls.
 
+use crate::card;
 use crate::cell::{Cell, LISTING_LONGEST};
 use crate::cells::{self, Random, Sketch};
 use crate::keeper::Keeper;
@@ -17,6 +18,8 @@ pub enum Job {
     Ask { cells: Vec<Cell>, order: Vec<(usize, u8, u8)> },
     /// Commits on a cell, which is set back before each lap, of what asks tell there.
     Commit { start: Box<Cell>, order: Vec<(u8, u8, u64)> },
+    /// The steps of an order as commands in a card's window, on a cell, which is set back before each lap.
+    Command { start: Box<Cell>, order: Vec<(u8, u8)> },
     /// Touch calls on a cell, which is set back before each lap.
     Touch { start: Box<Cell>, order: Vec<(u8, u32)> },
     /// Questions which place of a name a place of the cell is in.
@@ -84,12 +87,11 @@ impl Job {
     /// The calls of a lap; a walk counts as one.
     pub fn calls(&self) -> usize {
         match self {
-            Job::Step { order, .. } => order.len(),
+            Job::Step { order, .. } | Job::Command { order, .. } | Job::Common { order, .. } => order.len(),
             Job::Ask { order, .. } => order.len(),
             Job::Commit { order, .. } => order.len(),
             Job::Touch { order, .. } => order.len(),
             Job::Nearest { order, .. } => order.len(),
-            Job::Common { order, .. } => order.len(),
             Job::Audit { claim, by_moves: true } => claim.trail.len() / 2,
             Job::Trail { asks } => asks.len(),
             _ => 1,
@@ -121,6 +123,7 @@ impl Job {
                 room.cell = **start;
                 order.iter().fold(0, |sum, &(agent, wish, asked)| sum + K::commit(&mut room.cell, agent, wish, asked))
             }
+            Job::Command { start, order } => card::lap::<K>(&mut room.cell, start, order),
             Job::Touch { start, order } => {
                 room.cell = **start;
                 order.iter().fold(0, |sum, &(place, number)| sum + K::touch(&mut room.cell, place, number))
@@ -156,13 +159,13 @@ const READ: Option<Limits> = within(Beside::Bytes, 4.0, None);
 const WALK: Option<Limits> = within(Beside::Plain, 1.2, None);
 
 /// Calls that change nothing: of agents that are held, asleep or done.
-fn quiet(sketch: Sketch) -> Job {
+pub fn quiet(sketch: Sketch) -> Job {
     let (start, order) = cells::at_rest(&sketch.cell(), 400);
     Job::Step { start: Box::new(start), order }
 }
 
 /// Calls that move places: after so many from the load on, to rest or four hundred.
-fn busy(sketch: Sketch, before: usize) -> Job {
+pub fn busy(sketch: Sketch, before: usize) -> Job {
     let mut start = Box::new(sketch.cell());
     for (agent, wish) in cells::busy(&start, before) {
         Tuned::step(&mut start, agent, wish);
@@ -277,6 +280,7 @@ pub fn workloads() -> Vec<Workload> {
         of("a copy of the cell", None, Job::Copy { cell: boxed(&cells::full()) }),
     ];
     rows.extend(trails::workloads());
+    rows.extend(card::rows().into_iter().map(|(name, job)| of(name, None, job)));
     rows
 }
 

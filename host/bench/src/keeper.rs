@@ -1,5 +1,6 @@
 //! The calls of a keeper, and the proved keeper behind its C exports.
 
+use crate::card::{by_step, Window};
 use crate::cell::Cell;
 
 /// A keeper: bits 0 to 7 of an answer are 0 or the refusal's number, what else there is to say stands above them.
@@ -20,6 +21,14 @@ pub trait Keeper {
     fn ceiling(cell: &Cell) -> u64;
     fn trail(agent: u8, asked: u64, trail: &mut [u8]) -> u64;
     fn audit(file: &[u8], trail: &[u8], listing: &[u8]) -> u64;
+
+    /// The command in a card's window; of a peer, its step and the window's bytes.
+    fn command(cell: &mut Cell, window: &mut Window)
+    where
+        Self: Sized,
+    {
+        by_step::<Self>(cell, window)
+    }
 }
 
 extern "C" {
@@ -39,6 +48,7 @@ extern "C" {
     fn keeper_ceiling(cell: *const Cell) -> u64;
     fn keeper_trail(agent: u8, asked: u64, trail: *mut u8, room: usize) -> u64;
     fn keeper_audit(file: *const u8, n: usize, trail: *const u8, m: usize, listing: *const u8, k: usize) -> u64;
+    fn keeper_command(cell: *mut Cell, window: *mut Window);
 }
 
 /// The proved keeper, as libkeeper.a exports it.
@@ -92,5 +102,8 @@ impl Keeper for Proved {
     }
     fn audit(file: &[u8], trail: &[u8], listing: &[u8]) -> u64 {
         unsafe { keeper_audit(file.as_ptr(), file.len(), trail.as_ptr(), trail.len(), listing.as_ptr(), listing.len()) }
+    }
+    fn command(cell: &mut Cell, window: &mut Window) {
+        unsafe { keeper_command(cell, window) }
     }
 }

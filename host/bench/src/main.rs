@@ -3,6 +3,7 @@
 //! `bench [--quick] [NAME]` prints the table, of the workloads whose names contain NAME. `--sweep` prints the cost of a step against the
 //! size of the cell, as CSV. `--words` prints what the step calls answer. `--count` makes one lap of each for the script `instructions`.
 
+mod card;
 mod cell;
 mod cells;
 mod compare;
@@ -49,13 +50,13 @@ fn main() {
 
 /// The table: each workload with the time of a call.
 fn table(workloads: &[Workload], pace: &Pace) {
-    println!("{:<24}{:>12}{:>12}{:>12}{:>9}{:>9}{:>6}{:>5}", "", "plain ns", "tuned ns", "keeper ns", "k/plain", "k/tuned", "goal", "bar");
+    println!("{:<28}{:>12}{:>12}{:>12}{:>9}{:>9}{:>6}{:>5}", "", "plain ns", "tuned ns", "keeper ns", "k/plain", "k/tuned", "goal", "bar");
     for workload in workloads {
         let cost = measure(&workload.job, pace);
         let own = workload.job.is_own_of_plain();
         let if_own = |value: f64, digits: usize| if own { format!("{value:.digits$}") } else { String::new() };
         let (plain, ratio) = (if_own(cost.plain, 1), if_own(cost.keeper_to_plain, 2));
-        print!("{:<24}{plain:>12}{:>12.1}{:>12.1}{ratio:>9}{:>9.2}", workload.name, cost.tuned, cost.keeper, cost.keeper_to_tuned);
+        print!("{:<28}{plain:>12}{:>12.1}{:>12.1}{ratio:>9}{:>9.2}", workload.name, cost.tuned, cost.keeper, cost.keeper_to_tuned);
         match workload.limits {
             None => println!(),
             Some(limits) => {

@@ -10,15 +10,16 @@
 //! rounds, or as many as fit in N seconds. Trails are kept of all runs from files, as a host keeps them and by the model; those of some runs,
 //! and of moves of the calculus, are checked by both: whole, shortened, cut, changed, with changed files and with changed listings. After each
 //! call the ceiling is compared, and the step calls that changed the cell are counted from its load on: there must be no more of them, and the
-//! largest share is printed. Listings are read back. Cells are also listed under other numbers, which must give the same bytes. The same seed
-//! gives the same rounds. With a program `walk`, what it writes is compared too; with programs that run typed layouts (PROGRAM --text TEXT
+//! largest share is printed. Listings are read back. Cells are also listed under other numbers, which must give the same bytes. Cards drive
+//! random and damaged cells through their windows, and the same steps are made beside them. The same seed gives the same rounds. With a program `walk`, what it writes is compared too; with programs that run typed layouts (PROGRAM --text TEXT
 //! ORDER), what those write. At a difference the smallest example found is printed and the exit status is 1; it is 1 too where some finding on
-//! trails came up too seldom.
+//! trails, or some answer, flag or command of a card, came up too seldom.
 
 mod answer;
 mod audits;
 mod bench;
 mod call;
+mod cards;
 mod chance;
 mod churn;
 mod counts;
@@ -37,6 +38,7 @@ mod releases;
 mod renumber;
 mod rounds;
 mod rows;
+mod sessions;
 mod shrink;
 mod steps;
 mod texts;
@@ -58,6 +60,9 @@ const USAGE: &str = "usage: compare [--quick] [--seconds N] [--seed S] [--walk P
 /// How many random runs have their trails changed before the rounds; how often each finding must have come up at least, in a whole session and in a quick one.
 const TRAILS: usize = 1_500;
 const LEAST: [u64; 2] = [1_000, 100];
+/// How many sessions of cards there are, and how often, at least, each answer, flag and change of the line comes in them.
+const SESSIONS: u64 = 20_000;
+const LEAST_OF_CARDS: u64 = 5_000;
 
 /// What the command line asks for.
 struct Options {
@@ -149,6 +154,19 @@ fn main() -> ExitCode {
                 session.counts_mut().differences += 1;
                 println!("difference: {text}");
             }
+        }
+    }
+    match sessions::sessions(options.seed, if options.quick { SESSIONS / 50 } else { SESSIONS }) {
+        Ok(done) => {
+            println!("{done}");
+            for text in done.too_few(if options.quick { 0 } else { LEAST_OF_CARDS }) {
+                session.counts_mut().differences += 1;
+                println!("too few in the sessions of cards: {text}");
+            }
+        }
+        Err(text) => {
+            session.counts_mut().differences += 1;
+            println!("difference {text}");
         }
     }
     println!("{}", session.counts_mut());

@@ -5,6 +5,7 @@ mod listing;
 mod places;
 mod steps;
 mod touches;
+mod window;
 
 use crate::lent::Lent;
 use crate::refusal::{accepted, accepted_whole, Refused};

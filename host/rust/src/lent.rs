@@ -3,6 +3,10 @@
 //! Each function answers the library's number as it is; the bits are described in `keeper.h`. [`crate::Cell`] takes them apart. Where the
 //! library does not fit ([`fits`]), it is not called: the answer is 255 and nothing changes.
 
+mod window;
+
+pub use window::{Window, WINDOW_SIZE};
+
 use crate::refusal::Refusal;
 use crate::VERSION;
 use core::mem::{offset_of, size_of};

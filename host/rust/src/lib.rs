@@ -99,6 +99,14 @@
 //! assert!(keeper::audit(&file, &trail, b"9[7[]]")?.is_upheld());
 //! assert!(!keeper::audit(&file, &trail, b"7[9[]]")?.is_upheld());
 //!
+//! // A card with an interrupt line drives the cell through eight bytes, until the line says that all agents are asleep or done.
+//! let mut window = keeper::Window { command: keeper::Window::STEP, wish: 255, mask: keeper::Window::REST, ..Default::default() };
+//! let mut cell = Cell::read("7[enter 9] | 9[]")?;
+//! while window.line == 0 {
+//!     cell.command(&mut window)?;
+//! }
+//! assert_eq!(window.stepped()?.word, Word::Came);
+//!
 //! // A file of length 0 is a bare floor: a line with nothing on it yet.
 //! let cell = Cell::load(&[])?;
 //! let length = cell.list(&mut text)?;
@@ -133,11 +141,12 @@ pub use answer::{Stepped, Word};
 pub use asked::Asked;
 pub use audit::{audit, Finding, Reason};
 pub use cell::Cell;
+pub use lent::Window;
 pub use refusal::{Refusal, Refused};
 
 /// The version of the library that this crate was made for: the major number from bit 16 on, the minor one in bits 8 to 15, the patch in
 /// bits 0 to 7.
-pub const VERSION: u64 = 393_728;
+pub const VERSION: u64 = 393_984;
 
 /// The longest cell file that can be accepted.
 pub const FILE_LONGEST: usize = 6_390;

@@ -1,20 +1,23 @@
--- `keeper_clear` meets its contract: the borrow of the window is opened, the window is loaded whole and passed to `clear`, and what that returns is stored whole.
+-- `keeper_clear` meets its contract: the borrow of the window is opened, the window is loaded whole and passed to `clear`, and flags and line of what that returns are stored.
 -- Assumes nothing.
 use mir.Val.{vunit}
 use types.Kit.{use0}
 use types.Run.{unit-lit}
+use types.Part.{store-in}
 use denote.Struct.Laws as LL
 use Rattle.window.specs.declared.Window.{Window}
 use Rattle.window.specs.Window.{clearOf}
+use Rattle.window.specs.StoredLaws.{storedFlags, clear-stored}
 use Rattle.window.proofs.Window as Window′
 use Rattle.window.proofs.Window.Laws as window-laws
 use Rattle.window.proofs.clear as clears
 use Rattle.window.proofs.clear.Symbol as clear-def
 use Rattle.window.proofs.clear.Met as clear-thm
-use Rattle.lent.proofs.Walk.{_≡_, refl, ap, subst, ℕ, _<_, _^_, List, [], _∷_, URA, fullShare, named, w8, Val, vint, vptr, SProp, ent, emp, id⊢, GName, Lft, Share, ftrue, fat, flft, fobs, fbor, Memory, Routine, Heap, Calls, Loops, WpFn, Atoms, Fun, givenOf, tables, Given, ‵, raw, _⊛_, ⋆, _$_, _∵_, !, qed, by, move, keep, drop, split, join, rewrite, fsplit, fsplit3, fjoin, fjoin3, feqI, suffices, frame, done, look, look-raw, init, store-raw, forget, stop, hop, from, load, of-opd, and-then, no-more, assigns, land, returns, enter, alloc1, alloc0, params1, pass1, pass0, Body, FmC, owns, Is, mem, uint-vals, uint-tells, uint-makes, u8, RefT, MutRef, ptr-vals, mut-tells, plain, only, owned, nothing, Contract, Triple, onEntry, tripleOf, cited, says, Stays, stay-ref, stay-none, walkOf, goes-ref, goes-none, ends-at, yes, exported}
+use Rattle.lent.proofs.Walk.{_≡_, refl, ap, subst, ℕ, _<_, _^_, List, [], _∷_, URA, fullShare, named, w8, Val, vint, vptr, SProp, ent, emp, id⊢, GName, Lft, Share, ftrue, fat, flft, fobs, fbor, Memory, Routine, Heap, Calls, Loops, WpFn, Atoms, Fun, givenOf, tables, Given, ‵, raw, _⊛_, ⋆, _$_, _∵_, !, qed, by, move, keep, drop, split, join, rewrite, fsplit, fsplit3, fjoin, fjoin3, feqI, suffices, frame, done, look, look-raw, init, forget, stop, hop, fld, from, load, of-opd, and-then, no-more, assigns, land, returns, enter, alloc1, alloc0, params1, pass1, pass0, whole, sub, look-in, Body, FmC, owns, Is, mem, uint-vals, uint-tells, uint-makes, u8, RefT, MutRef, ptr-vals, mut-tells, plain, only, owned, nothing, Contract, Triple, onEntry, tripleOf, cited, says, Stays, stay-ref, stay-none, walkOf, goes-ref, goes-none, ends-at, yes, exported}
 use Rattle.lent.proofs.Lent.{called}
+use Rattle.lent.proofs.Element.{unraw}
 use Rattle.lent.proofs.Freed.{freed}
-use Rattle.keeper.proofs.LentWindow.{R, val, typed, opened, closed}
+use Rattle.keeper.proofs.LentWindow.{R, val, typed, opened, closed, flags-is}
 use Rattle.keeper.proofs.card.keeper_clear.Key.{name}
 use Rattle.keeper.proofs.card.keeper_clear as f
 use Rattle.keeper.proofs.card.keeper_clear.Statement.{statement}
@@ -64,12 +67,17 @@ module _ {M : Type 1} (𝓤 : URA M) (H : Heap 𝓤) (A : Atoms 𝓤) (W : Given
           called ! fm clears.ended (clears.clauses 𝓤 H A at-mem run) known to-clear (λ r ws. r ≡ clearOf h n) (λ r ws. id⊢ 𝓤 _)
           (and-then ! (load ! (from ! (stop !)) (look ! 5 refl)) (and-then ! (load ! (from ! (stop !)) (look ! 9 refl)) (no-more !))) (λ v r ws e is. drop ! $ drop ! $ drop ! $
           land ! (from ! (stop !)) (init ! 6 refl (typed 𝓤 H A W r v is)) $ rewrite ! 6 (λ (u : Val). ‵ (fat fullShare window-laws.mir l₃ 0 u)) (ap only (LL.tells Window′.the-type window-laws.the-laws r _ is)) refl $
-          assigns ! (of-opd ! (load ! (from ! (stop !)) (look ! 6 refl))) (from ! (hop ! (look ! 10 refl) (stop !))) (store-raw ! 0 refl (typed 𝓤 H A W r (val r) (subst (Is R r) (LL.tells Window′.the-type window-laws.the-laws r _ is) is))) $
+          let was′ = subst (Is R r) (LL.tells Window′.the-type window-laws.the-laws r _ is) is in
+          let owed = LL.owed Window′.the-type window-laws.the-laws r _ was′ in
+          assigns ! (of-opd ! (load ! (from ! (fld ! refl (stop !))) (look-in ! 6 (sub ! 5 refl (whole !))))) (from ! (hop ! (look ! 10 refl) (fld ! refl (stop !))))
+          (store-in ! 0 (sub ! 5 refl (unraw ! {τ = window-laws.mir} (whole !))) (tt, record { fits = owed .1 .1 .1 .1 .1 .0 .1 })) $
+          assigns ! (of-opd ! (load ! (from ! (fld ! refl (stop !))) (look-in ! 6 (sub ! 7 refl (whole !))))) (from ! (hop ! (look ! 10 refl) (fld ! refl (stop !))))
+          (store-in ! 0 (sub ! 7 refl (unraw ! {τ = window-laws.mir} (whole !))) (tt, record { fits = owed .1 .1 .1 .1 .1 .1 .1 .0 .1 })) $
           assigns ! (of-opd ! (unit-lit !)) (from ! (stop !)) (init ! 12 refl (tt, tt)) $
-          closed ! tt r (subst (Is R r) (LL.tells Window′.the-type window-laws.the-laws r _ is) is) b o $
+          closed ! tt (storedFlags h r) (flags-is h r was was′) b o $
           -- [obs; the borrow; the token; _4 at 3; _3; _2; _1; _0 at 11]
           returns ! (look ! 11 refl) $ forget ! 3 refl $ forget ! 5 refl $ forget ! 7 refl $ forget ! 9 refl $ forget ! 11 refl $
-          move ! (11 ∷ 12 ∷ 9 ∷ 10 ∷ 7 ∷ 8 ∷ 5 ∷ 6 ∷ 3 ∷ 4 ∷ []) $ freed ! $ keep ! (0 ∷ 1 ∷ 2 ∷ []) $ by ! (exits r e))))))))
+          move ! (11 ∷ 12 ∷ 9 ∷ 10 ∷ 7 ∷ 8 ∷ 5 ∷ 6 ∷ 3 ∷ 4 ∷ []) $ freed ! $ keep ! (0 ∷ 1 ∷ 2 ∷ []) $ by ! (exits (storedFlags h r) (clear-stored h n r e)))))))))
 
 pub keeper-clear-spec : {M : Type 1} → statement M
 unfolding code.routine

@@ -1,19 +1,22 @@
--- `keeper_command` meets its contract: the borrow of the window is opened, the window is loaded whole, the reference to the cell is lent on to `commanded`, and the window that it
--- returns is stored whole.
+-- `keeper_command` meets its contract: the borrow of the window is opened, the window is loaded whole, the reference to the cell is lent on to `commanded`, and answer,
+-- woken, flags and line of the window that it returns are stored.
 -- Assumes nothing.
 use mir.Val.{vunit}
 use types.Run.{unit-lit}
+use types.Part.{store-in}
 use denote.Struct.Laws as LL
 use Rattle.table.specs.declared.Cell.{Cell}
 use Rattle.window.specs.declared.Window.{Window}
 use Rattle.window.specs.Window.{commandOf}
+use Rattle.window.specs.StoredLaws.{stored, command-stored}
 use Rattle.window.proofs.Window as Window′
 use Rattle.window.proofs.Window.Laws as window-laws
-use Rattle.lent.proofs.Walk.{_≡_, refl, ap, subst, ℕ, List, [], _∷_, URA, fullShare, named, Val, vptr, SProp, ent, GName, Lft, Share, ftrue, fat, flft, fobs, fbor, Memory, Routine, Heap, Calls, Loops, WpFn, Atoms, Fun, AllOutlive, givenOf, tables, Given, ‵, _⊛_, ⋆, _$_, _∵_, !, qed, by, move, drop, split, join, rewrite, fsplit, fsplit3, fjoin, fjoin3, feqI, suffices, frame, done, look, look-raw, init, store-raw, forget, stop, hop, from, load, addr, of-opd, and-then, no-more, assigns, land, returns, enter, alloc1, alloc0, params1, pass1, pass0, Body, FmC, owns, Is, mem, RefT, MutRef, ptr-vals, mut-tells, plain, only, nothing, Triple, onEntry, cited, says, Stays, stay-ref, walkOf, goes-ref, ends-at, exported}
+use Rattle.lent.proofs.Walk.{_≡_, refl, ap, subst, ℕ, List, [], _∷_, URA, fullShare, named, Val, vptr, SProp, ent, GName, Lft, Share, ftrue, fat, flft, fobs, fbor, Memory, Routine, Heap, Calls, Loops, WpFn, Atoms, Fun, AllOutlive, givenOf, tables, Given, ‵, _⊛_, ⋆, _$_, _∵_, !, qed, by, move, drop, split, join, rewrite, fsplit, fsplit3, fjoin, fjoin3, feqI, suffices, frame, done, look, look-raw, init, forget, stop, hop, fld, from, load, addr, of-opd, and-then, no-more, assigns, land, returns, enter, alloc1, alloc0, params1, pass1, pass0, whole, sub, look-in, Body, FmC, owns, Is, mem, RefT, MutRef, ptr-vals, mut-tells, plain, only, nothing, Triple, onEntry, cited, says, Stays, stay-ref, walkOf, goes-ref, ends-at, exported}
 use Rattle.lent.proofs.Lent as lent
+use Rattle.lent.proofs.Element.{unraw}
 use Rattle.lent.proofs.Freed.{freed}
 use Rattle.lending.proofs.Altering.{Altered, altering}
-use Rattle.keeper.proofs.LentWindow.{R, val, typed, opened, closed, Commands, one}
+use Rattle.keeper.proofs.LentWindow.{R, val, typed, opened, closed, stored-is, Commands, one}
 use Rattle.keeper.proofs.card.commanded.Symbol as commanded-def
 use Rattle.keeper.proofs.card.commanded.Met as commanded-thm
 use Rattle.keeper.proofs.card.keeper_command.Key.{name}
@@ -56,12 +59,21 @@ module _ {M : Type 1} (𝓤 : URA M) (H : Heap 𝓤) (A : Atoms 𝓤) (W : Given
         assigns ! (of-opd ! (load ! (from ! (hop ! (look ! 13 refl) (stop !))) (look-raw ! 3 refl))) (from ! (stop !)) (init ! 7 refl (typed 𝓤 H A W w (val w) was)) $
         altering ! fm Commands known (one 𝓤 H A W w was) h b o (λ κs y i. and-then ! (load ! (from ! (stop !)) (look ! 8 refl)) (and-then ! (load ! (from ! (stop !)) (look ! 6 refl)) (no-more !))) (λ v r c κs e e′ is.
         land ! (from ! (stop !)) (init ! 11 refl (typed 𝓤 H A W r v is)) $ rewrite ! 11 (λ (u : Val). ‵ (fat fullShare window-laws.mir l₃ 0 u)) (ap only (LL.tells Window′.the-type window-laws.the-laws r _ is)) refl $
-        assigns ! (of-opd ! (load ! (from ! (stop !)) (look ! 11 refl))) (from ! (hop ! (look ! 13 refl) (stop !))) (store-raw ! 3 refl (typed 𝓤 H A W r (val r) (subst (Is R r) (LL.tells Window′.the-type window-laws.the-laws r _ is) is))) $
+        let is′ = subst (Is R r) (LL.tells Window′.the-type window-laws.the-laws r _ is) is in
+        let owed = LL.owed Window′.the-type window-laws.the-laws r _ is′ in
+        assigns ! (of-opd ! (load ! (from ! (fld ! refl (stop !))) (look-in ! 11 (sub ! 3 refl (whole !))))) (from ! (hop ! (look ! 13 refl) (fld ! refl (stop !))))
+        (store-in ! 3 (sub ! 3 refl (unraw ! {τ = window-laws.mir} (whole !))) (tt, record { fits = owed .1 .1 .1 .0 .1 })) $
+        assigns ! (of-opd ! (load ! (from ! (fld ! refl (stop !))) (look-in ! 11 (sub ! 4 refl (whole !))))) (from ! (hop ! (look ! 13 refl) (fld ! refl (stop !))))
+        (store-in ! 3 (sub ! 4 refl (unraw ! {τ = window-laws.mir} (whole !))) (tt, record { fits = owed .1 .1 .1 .1 .0 .1 })) $
+        assigns ! (of-opd ! (load ! (from ! (fld ! refl (stop !))) (look-in ! 11 (sub ! 5 refl (whole !))))) (from ! (hop ! (look ! 13 refl) (fld ! refl (stop !))))
+        (store-in ! 3 (sub ! 5 refl (unraw ! {τ = window-laws.mir} (whole !))) (tt, record { fits = owed .1 .1 .1 .1 .1 .0 .1 })) $
+        assigns ! (of-opd ! (load ! (from ! (fld ! refl (stop !))) (look-in ! 11 (sub ! 7 refl (whole !))))) (from ! (hop ! (look ! 13 refl) (fld ! refl (stop !))))
+        (store-in ! 3 (sub ! 7 refl (unraw ! {τ = window-laws.mir} (whole !))) (tt, record { fits = owed .1 .1 .1 .1 .1 .1 .1 .0 .1 })) $
         assigns ! (of-opd ! (unit-lit !)) (from ! (stop !)) (init ! 17 refl (tt, tt)) $
-        move ! (3 ∷ 4 ∷ 5 ∷ 6 ∷ []) $ closed ! tt r (subst (Is R r) (LL.tells Window′.the-type window-laws.the-laws r _ is) is) b′ o′ $ move ! (3 ∷ 4 ∷ 5 ∷ []) $
+        move ! (3 ∷ 4 ∷ 5 ∷ 6 ∷ []) $ closed ! tt (stored w r) (stored-is w r was is′) b′ o′ $ move ! (3 ∷ 4 ∷ 5 ∷ []) $
         -- [obs, borrow and token of the cell; those of the window; _5 at 6; …; _0 at 16]
         returns ! (look ! 16 refl) $ forget ! 6 refl $ forget ! 8 refl $ forget ! 10 refl $ forget ! 12 refl $ forget ! 14 refl $ forget ! 16 refl $
-        move ! (16 ∷ 17 ∷ 14 ∷ 15 ∷ 12 ∷ 13 ∷ 10 ∷ 11 ∷ 8 ∷ 9 ∷ 6 ∷ 7 ∷ []) $ freed ! $ by ! (exits c r e e′)))))))))
+        move ! (16 ∷ 17 ∷ 14 ∷ 15 ∷ 12 ∷ 13 ∷ 10 ∷ 11 ∷ 8 ∷ 9 ∷ 6 ∷ 7 ∷ []) $ freed ! $ by ! (exits c (stored w r) e (command-stored h w r e′))))))))))
 
 pub keeper-command-spec : {M : Type 1} → statement M
 unfolding code.routine
