@@ -228,7 +228,7 @@ KEEPER_ASSERT(offsetof(keeper_cell, touches) == 5200 && offsetof(keeper_cell, or
 ** touches, in a record and in a call, and of the places that keeper_nearest and keeper_common are asked about, 3 is for one above 63, and 5
 ** for one that is not there. A place record with keys (kind 6) is tested as one without (kind 1); 6 is for its name alone, and its keys may
 ** be any numbers. 16 and 17 are keeper_read's, and it has no others. 18 is keeper_commit's. Of keeper_audit they are those of keeper_load, of the file that
-** it is lent, with their offsets; of keeper_trail there is 12 alone. */
+** it is lent, with their offsets; of keeper_trail there is 12 alone. A window's answer has 10 and 11, with KEEPER_WINDOW_REFUSED added. */
 enum {
     KEEPER_CUT_SHORT = 1,           /* copy the file anew; put the byte 4 at its end */
     KEEPER_UNKNOWN_KIND = 2,        /* look at the record before it too: a byte too many or too few there shifts all that follows */
@@ -563,8 +563,8 @@ keeper_answer keeper_idle(const keeper_cell *cell);
 
 /*
 ** keeper_ceiling: how many step calls can still change the cell, at most. No order churns forever: of all the calls of keeper_step from here on,
-** with any agents and wishes in any order, and of keeper_commit, no more than this number change the cell. Every other one is refused or answers
-** held, asleep or done. Touch calls may come between and count for nothing here.
+** with any agents and wishes in any order, and of keeper_commit and keeper_command, no more than this number change the cell. Every other one is
+** refused or answers held, asleep or done. Touch calls may come between and count for nothing here.
 **
 ** For a dispatcher it says when waiting may stop:
 **
@@ -644,7 +644,7 @@ keeper_answer keeper_common(const keeper_cell *cell, uint8_t place, uint8_t othe
 **
 ** So a host keeps the trail of a run, from an accepted keeper_load on:
 **
-**     keeper_answer asked = keeper_ask(&cell, agent, wish);        right before keeper_step, or for a keeper_commit at any time before it
+**     keeper_answer asked = keeper_ask(&cell, agent, wish);        right before keeper_step or keeper_command, for a keeper_commit at any time before
 **     keeper_answer answer = keeper_commit(&cell, agent, wish, asked);
 **     if keeper_refusal(answer) is 0                               a commit that is refused makes no move
 **         length += keeper_length(keeper_trail(agent, asked, trail + length, sizeof trail - length));

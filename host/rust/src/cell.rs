@@ -137,7 +137,7 @@ impl Cell {
     }
 
     /// The cell in memory that something else has written. It may be unsound: then each call but [`Cell::reload`] and [`Cell::reread`] is refused with
-    /// 10.
+    /// 10, a [`Cell::command`] in its window.
     pub fn from_lent(lent: Lent) -> Cell {
         Cell { lent }
     }

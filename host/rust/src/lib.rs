@@ -1,7 +1,8 @@
 //! The cell keeper, for hosts in Rust.
 //!
 //! A cell holds places nested in each other and agents that move them, one lock step at a time. A [`Cell`] is loaded from a cell file, or read
-//! from a line that a person typed, and stepped once per lock step. Every call ends, every input is accepted or refused with a number, and a refused call changes nothing.
+//! from a line that a person typed, and stepped once per lock step. Every call ends, every input is accepted or refused with a number, and a refused call changes nothing;
+//! only a card's [`Window`] is told of the refusal.
 //!
 //! The crate is a thin safe layer over the C exports of libkeeper.a and libauditor.a, which it links from the folder that the environment variable
 //! KEEPER_LIB_DIR names by its absolute path (or from the repository's target/staticlib). It needs no `std`. It allocates only in
