@@ -74,6 +74,8 @@ afterRows =
     ∷ bytes (1 ∷ 8 ∷ 0 ∷ 0 ∷ []) (agentIn (after 1 opening) 1)
     ∷ bytes (1 ∷ 0 ∷ 0 ∷ 0 ∷ []) (agentIn (after 1 (staged 2 1 3 0 opening)) 2)
     ∷ bytes (64 ∷ 64 ∷ 64 ∷ 64 ∷ []) (locksIn (after 1 opening))
+    -- "its number becomes unused": nothing is left of the place
+    ∷ bytes (0 ∷ 0 ∷ 0 ∷ []) (placeIn (after 1 opening) 2)
     -- 4 and 5: "Lock its own place: took, stage 5"; "Lock the destination: took, stage 6"
     ∷ bytes (1 ∷ 5 ∷ 0 ∷ 0 ∷ []) (agentIn (after 0 going) 0)
     ∷ bytes (64 ∷ 0 ∷ 64 ∷ 64 ∷ []) (locksIn (after 0 going))

@@ -65,6 +65,10 @@ callRows =
     ∷ holds (settled (cellOf (stepOf (tableOf (placed 1 5 0 0 exiting)) 2 255 .cell)))
     -- opened wakes a moved agent wherever it slept
     ∷ number 0x010700 (stepNumber (stepOf (tableOf (staged 2 7 3 0 opening)) 1 255 .answer))
+    -- "counted from the set of sleepers": an agent that is not given is none, by left, came and opened
+    ∷ number 0x000500 (stepNumber (stepOf (tableOf (staged 9 7 0 0 entering)) 0 255 .answer))
+    ∷ number 0x000600 (stepNumber (stepOf (tableOf (staged 9 7 3 0 going6)) 0 255 .answer))
+    ∷ number 0x000700 (stepNumber (stepOf (tableOf (staged 9 7 1 0 opening)) 1 255 .answer))
     -- "the call answers the length, and bytes past the listing stay untouched": `7[]` in buffers of three and of five bytes
     ∷ number 0x0300 (listNumber (listAnswer (cellOf (loadedFrom (hex "01 01 00 07 00 04"))) (1 ∷ 2 ∷ 3 ∷ [])))
     ∷ bytes (55 ∷ 91 ∷ 93 ∷ []) (listBuffer (cellOf (loadedFrom (hex "01 01 00 07 00 04"))) (1 ∷ 2 ∷ 3 ∷ []))

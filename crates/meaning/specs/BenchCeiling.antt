@@ -9,7 +9,7 @@ use Rattle.meaning.specs.Run.{stepCall, run}
 use Rattle.meaning.specs.Codes.{limitNumber}
 use Rattle.meaning.specs.Limit.{ceilingOf}
 use Rattle.meaning.specs.BenchRow.{file, place, agent, enters, exits, releases}
-use Rattle.meaning.specs.BenchTables.{Computed, number, loadedFrom, notUsed, sample, holding, entering, going, going5, going6}
+use Rattle.meaning.specs.BenchTables.{Computed, number, loadedFrom, notUsed, counted, sample, holding, entering, going, going5, going6, topmost}
 
 -- the worked example of `walk`: `7[enter 9] | 9[exit 7]`
 unfoldable pub worked : Cell
@@ -42,6 +42,9 @@ ceilingRows =
     ∷ number 0x1100 (told lone)
     ∷ number 0x0500 (told (loadedFrom (file (agent 0 0 ∷ []))))
     ∷ number 0 (told bareTable)
+    -- agent 63 counts; an agent that is not given does not, whatever actions the table has there
+    ∷ number 0x1100 (told (tableOf topmost))
+    ∷ number 0x8f00 (told (tableOf (counted 9 0 4 sample)))
     -- locks and stages 0 to 3 play no part
     ∷ number 0x8f00 (told (tableOf holding))
     ∷ number 0x8f00 (told (tableOf entering))

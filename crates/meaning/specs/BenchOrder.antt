@@ -7,7 +7,7 @@ use Rattle.table.specs.Cell.{State, bareTable, cellOf, tableOf}
 use Rattle.meaning.specs.Update.{withLand, withOrder}
 use Rattle.meaning.specs.Run.{stepOf}
 use Rattle.meaning.specs.BenchRow.{Row, row, hex, agents, file, place, agent, enters, exits, opens}
-use Rattle.meaning.specs.BenchTables.{Computed, bytes, number, sample, entering, exiting, opening, going6, checked}
+use Rattle.meaning.specs.BenchTables.{Computed, bytes, number, placed, sample, entering, exiting, opening, going6, checked}
 
 unfoldable pub firstRows : List Row
 firstRows =
@@ -69,6 +69,8 @@ orderRows =
     ∷ bytes (63 ∷ 1 ∷ 2 ∷ 3 ∷ []) (lasts (after 2 exiting))
     ∷ bytes (63 ∷ 2 ∷ 3 ∷ 1 ∷ []) (lasts (after 0 going6))
     ∷ bytes (63 ∷ 1 ∷ 2 ∷ 3 ∷ []) (lasts (after 1 opening))
+    -- nor has a number that is not in use, whatever the table has there
+    ∷ bytes (63 ∷ 1 ∷ 2 ∷ 3 ∷ []) (lasts (after 1 (placed 9 5 2 0 opening)))
     -- sound: every number stands in the row, in whatever order
     ∷ number 0 (checked (ordered countingRow sample))
     ∷ number 0 (checked (ordered (set (set countingRow 0 63) 63 0) sample))

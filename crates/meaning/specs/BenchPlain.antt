@@ -5,11 +5,14 @@ use Prim.Native.Nat.{ℕ}
 use lib.ListN.{length}
 use Rattle.sets.specs.Word.{bit}
 use Rattle.table.specs.Cell.{cellOf}
-use Rattle.meaning.specs.Run.{Call, stepCall, answers}
+use Rattle.meaning.specs.declared.Word.the-variants.{Looked, Held, Back, Slept, Asleep, Done}
+use Rattle.meaning.specs.declared.Answer.the-variants.{Refused}
+use Rattle.meaning.specs.declared.Touching.the-variants.{Count}
+use Rattle.meaning.specs.Run.{Call, stepCall, touchCall, agentOf, wishOf, stepReply, touchReply, answers}
 use Rattle.meaning.specs.Calculus.{Tree, nextOf, permits, move}
-use Rattle.meaning.specs.Plain.{Plain, treeOf, plainOf, plainRun}
+use Rattle.meaning.specs.Plain.{Plain, treeOf, plainOf, plainWord, plainStep, plainRun}
 use Rattle.meaning.specs.BenchRow.{file, place, agent, enters, keyed}
-use Rattle.meaning.specs.BenchTables.{Computed, bytes, holds, fails, loadedFrom, sample}
+use Rattle.meaning.specs.BenchTables.{Computed, bytes, holds, fails, loadedFrom, notUsed, lives, counted, acting, sample}
 
 -- ---- what is read of a tree
 
@@ -73,6 +76,21 @@ plainRows =
     ∷ bytes (1 ∷ 7 ∷ 2 ∷ 1 ∷ 9 ∷ 0 ∷ 1 ∷ 5 ∷ 2 ∷ []) (placesIn (onItsWay .tree))
     -- "came: its own place travels no more"
     ∷ bytes (64 ∷ 0 ∷ []) (pickIn arrived)
+    -- "Any other word, or a refusal: nothing", the pick least of all; "touch calls .., which the plain tree passes over", name no agent and no wish
+    ∷ bytes (2 ∷ 1 ∷ []) (pickIn (plainWord gone 0 255 Looked))
+    ∷ bytes (2 ∷ 1 ∷ []) (pickIn (plainWord gone 0 255 Held))
+    ∷ bytes (2 ∷ 1 ∷ []) (pickIn (plainWord gone 0 255 Back))
+    ∷ bytes (2 ∷ 1 ∷ []) (pickIn (plainWord gone 0 255 Slept))
+    ∷ bytes (2 ∷ 1 ∷ []) (pickIn (plainWord gone 0 255 Asleep))
+    ∷ bytes (2 ∷ 1 ∷ []) (pickIn (plainWord gone 0 255 Done))
+    ∷ bytes (2 ∷ 1 ∷ []) (pickIn (plainStep gone (stepCall 0 255) (stepReply (Refused 11))))
+    ∷ bytes (2 ∷ 1 ∷ []) (pickIn (plainStep gone (touchCall 0 5) (touchReply (Count 5))))
+    ∷ bytes (64 ∷ 64 ∷ []) (agentOf (touchCall 0 5) ∷ wishOf (touchCall 0 5) ∷ [])
+    -- a call without an answer: nothing
+    ∷ bytes (2 ∷ 1 ∷ []) (pickIn (plainRun gone (steps []) []))
+    -- what is not in use has no name and stands at 0, and an agent that is not given is at 0 without actions, whatever the table has there
+    ∷ bytes (1 ∷ 7 ∷ 0 ∷ 0 ∷ 0 ∷ 0 ∷ 1 ∷ 9 ∷ 0 ∷ []) (placesIn (treeOf (notUsed 2 sample)))
+    ∷ bytes (0 ∷ 0 ∷ 0 ∷ 0 ∷ []) (agentIn (treeOf (lives 9 3 (counted 9 0 1 (acting 9 0 1 5 sample)))) 9)
     -- "enter n if another place named n stands beside the agent's own": 9, not its own place and not the 8 inside it
     ∷ holds (permits (treeOf sample) 0 3)
     ∷ fails (permits (treeOf sample) 0 1)

@@ -96,6 +96,10 @@ stepRows =
     ("start open 1 | 1[2[3[exit 2]]]" ∷ "63 looked 0" ∷ "63 took 0" ∷ "63 took 0" ∷ "62 looked 0" ∷ "62 took 0" ∷ "62 took 0" ∷ "62 left 0" ∷
     "63 back 0" ∷ "63 looked 0" ∷ "63 took 0" ∷ "63 slept 0" ∷ "62 took 0" ∷ "62 took 0" ∷ "62 came 1" ∷ "63 looked 0" ∷ "63 took 0" ∷ "63 took 0" ∷
     "63 opened 0" ∷ "end 2[] | 3[]" ∷ [])
+    -- opened wakes agent 63 too
+    ∷ row (file (place 1 0 7 ∷ agent 0 0 ∷ opens 0 7 ∷ agent 63 0 ∷ opens 63 5 ∷ [])) (hex "3f ff 3f ff 3f ff 00 ff 00 ff 00 ff 00 ff")
+    ("start open 5 | open 7 | 7[]" ∷ "63 looked 0" ∷ "63 took 0" ∷ "63 slept 0" ∷ "0 looked 0" ∷ "0 took 0" ∷ "0 took 0" ∷ "0 opened 1" ∷
+    "end open 5" ∷ [])
     -- and place 63 is entered
     ∷ row (file (place 1 0 7 ∷ place 63 0 9 ∷ agent 0 1 ∷ enters 0 9 ∷ [])) (agents "0 0 0 0")
     ("start 7[enter 9] | 9[]" ∷ "0 looked 0" ∷ "0 took 0" ∷ "0 took 0" ∷ "0 left 0" ∷ "end 9[7[]]" ∷ [])
