@@ -134,7 +134,7 @@ extern "C" {
 /* The stack that a call uses, in bytes, at most; and what keeper_audit uses, which lists too, into a page of its own. This is measured and not proved:
 ** host/c/stack.c measures it on the libraries at hand and fails where it is more; of the keeper's calls keeper_list needs the most. */
 #define KEEPER_STACK 65536
-#define KEEPER_AUDIT_STACK 131072
+#define KEEPER_AUDIT_STACK 81920
 
 /*
 ** Place numbers are given again. An opening (the word opened) takes the number of the opened place out of use, and a release (the word put) puts

@@ -27,8 +27,9 @@ use Rattle.demands.specs.ReadingLaws.{agent-given}
 use Rattle.trail.specs.declared.Finding.{Finding}
 use Rattle.trail.specs.declared.Finding.the-variants.{Upheld, Denied, BadFile}
 use Rattle.trail.specs.Trail.{allows, moved, whyNot, oddByte, otherLayout, sameText, judged, findingOf, finding}
+use Rattle.checker.specs.declared.Played.{Played}
 use Rattle.checker.specs.declared.Turned.{Turned}
-use Rattle.checker.specs.OnTable.{Ready, Turns, findingOn}
+use Rattle.checker.specs.OnTable.{Ready, Turns, findingOn, byListing, Stops, Plays}
 
 -- ---- a trail from move n on
 
@@ -81,16 +82,18 @@ module _ {whole : Finding} {trail text : List ℕ} {d : Cell} {n : ℕ} (l : Lef
     left-denied z = let m = turns .denies z in ap (Denied n) (m .why) ∙ (rw (m .refused) at turn-is)
 
   -- nothing is left: the listing decides
-  end-is : length trail ≤ 2 * n → cond (sameText text (listing (cellOf d))) Upheld (Denied n otherLayout) ≡ whole
+  pub left-none : length trail ≤ 2 * n → byListing d n text ≡ whole
   unfolding judged
-  end-is m = ap (λ (s : List ℕ). cond (sameText text s) Upheld (Denied n otherLayout)) (tree-listing (cellOf d))
+  left-none m = ap (λ (s : List ℕ). cond (sameText text s) Upheld (Denied n otherLayout)) (tree-listing (cellOf d))
       ∙ sym (ap (λ (s : List ℕ). judged n (treeOf (cellOf d)) s text) (none-left (2 * n) trail m)) ∙ l .rest
 
-  pub left-same : length trail ≤ 2 * n → (o : Bool) → o ≡ sameText text (listing (cellOf d)) → o ≡ true → Upheld ≡ whole
-  left-same m o e y = rw (sym e ∙ y) at (end-is m)
+-- the listing is the text, or it is not
+module _ (t : Cell) (made : ℕ) (text : List ℕ) {whole : Finding} (e : byListing t made text ≡ whole) (o : Bool) (says : o ≡ sameText text (listing (cellOf t))) where
+  pub listing-same : o ≡ true → Upheld ≡ whole
+  listing-same y = rw (sym says ∙ y) at e
 
-  pub left-other : length trail ≤ 2 * n → (o : Bool) → o ≡ sameText text (listing (cellOf d)) → o ≡ false → Denied n otherLayout ≡ whole
-  left-other m o e y = rw (sym e ∙ y) at (end-is m)
+  pub listing-other : o ≡ false → Denied made otherLayout ≡ whole
+  listing-other y = rw (sym says ∙ y) at e
 
 -- ---- an odd trail, and an even one
 
@@ -149,3 +152,17 @@ module _ (t : Cell) (s : List ℕ) (z : Loaded) (e : z ≡ loadOf t s) where
           let q : z .verdict ≡ Rejected m p = ap (λ (y : Loaded). y .verdict) (e ∙ ap (loaded t) f) in
           let a : m ≡ n = cc in let b : p ≡ o = cc in
           ap₂ BadFile (sym a) (sym b) ∙ sym (ap (λ (l : Load). findingOf l trail text) f)
+
+  -- what the moves come to then
+  module _ (trail : List ℕ) (moves : ℕ) (p : Played) where
+    pub plays-on : z .verdict ≡ Accepted → p .verdict ≡ Accepted → Stops (z .cell) trail moves p → Plays s trail moves p
+    plays-on v w stops = record {
+      bad = λ n o q. let k : _≡_ {A = ℕ} 0 1 = cc in absurd (omega arith);
+      good = λ _. (z .cell, (λ r text. accepted-found r text v, stops));
+    }
+
+    pub plays-not : (n o : ℕ) → z .verdict ≡ Rejected n o → p .verdict ≡ Rejected n o → Plays s trail moves p
+    plays-not n o v w = record {
+      bad = λ m k q r text. refused-found r text m k (v ∙ sym w ∙ q);
+      good = λ q. let k : _≡_ {A = ℕ} 0 1 = cc in absurd (omega arith);
+    }

@@ -33,7 +33,7 @@ use Rattle.demands.specs.Ways.{goesOn}
 use Rattle.moves.specs.declared.Motion.the-variants.{Leave, Dissolve, Put}
 use Rattle.trail.specs.Trail.{byteFits, placeOf, allows, moved}
 use Rattle.claims.specs.FollowsLaws.{allowed-move, place-entered, place-left, place-opened, place-put, mover-kind}
-use Rattle.checker.specs.OnTable.{parentOf, shiftedOn, madeOn, Ready, Makes}
+use Rattle.checker.specs.OnTable.{parentOf, shiftedOn, moverOf, motionOf, madeOn, Ready, Makes}
 use Rattle.checker.specs.BackLaws.{agent-back, tree-back, given-there}
 
 -- a row of actions stays in order, wherever its agent lives and whatever its stage
@@ -223,7 +223,7 @@ module _ (t : Cell) (r : Ready t) (x : ℕ) (g : cellOf t .given x ≡ true) whe
 
     -- the table after it
     pub made-makes : Makes t x b (madeOn t x own b)
-    unfolding madeOn
+    unfolding madeOn moverOf motionOf
     made-makes = go (mover-kind (move-case made-move))
       where
         tests : {n : ℕ} → nextOf tree x .kind ≡ n → (m : ℕ) → eqb (kindOf own) m ≡ eqb n m

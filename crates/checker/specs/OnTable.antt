@@ -1,5 +1,5 @@
 -- The moves of a trail made on a table, without a lock: what the code reads, tests and makes.
-use Prim.Native.Nat.{ℕ, _/_, _%_}
+use Prim.Native.Nat.{ℕ, _*_, _/_, _%_, _≤_}
 use mathlib.Core.Path.{_≡_}
 use mathlib.Core.Logic.{_≢_}
 use mathlib.Core.Bool.{Bool, true, false, cond}
@@ -15,17 +15,20 @@ use Rattle.table.specs.declared.Cell.{Cell}
 use Rattle.table.specs.Bounds.{Sized}
 use Rattle.table.specs.Cell.{Land, landOf, cellOf, noName, freshNumber, kindOf, enterKind, exitKind, openKind}
 use Rattle.meaning.specs.Calculus.{Tree}
+use Rattle.meaning.specs.Listing.{listing}
 use Rattle.meaning.specs.Plain.{treeFrom, treeOf}
 use Rattle.meaning.specs.Run.{made}
 use Rattle.meaning.specs.Update.{atStage}
+use Rattle.meaning.specs.declared.Verdict.the-variants.{Accepted, Rejected}
 use Rattle.calculus.specs.Formed.{Formed}
 use Rattle.demands.specs.Invariant.{Fit}
 use Rattle.moves.specs.Motions.{shifted}
 use Rattle.moves.specs.declared.Motion.{Motion}
 use Rattle.moves.specs.declared.Motion.the-variants.{Leave, Dissolve, Put}
 use Rattle.trail.specs.declared.Finding.{Finding}
-use Rattle.trail.specs.declared.Finding.the-variants.{Denied}
-use Rattle.trail.specs.Trail.{allows, moved, whyNot, notPermitted, noActionLeft, oddByte, judged}
+use Rattle.trail.specs.declared.Finding.the-variants.{Upheld, Denied, BadFile}
+use Rattle.trail.specs.Trail.{allows, moved, whyNot, notPermitted, noActionLeft, oddByte, otherLayout, sameText, judged, finding}
+use Rattle.checker.specs.declared.Played.{Played}
 use Rattle.checker.specs.declared.Turned.{Turned}
 
 -- ---- what is read
@@ -59,13 +62,20 @@ whyKind kind = whyIf (eqb kind 0)
 abbrev pub shiftedOn : Cell → ℕ → Agent → Motion → Cell
 shiftedOn t x a motion = made (shifted (cellOf t) x a motion) .cell
 
--- the table after agent x, which is a, makes the move that the byte b tells
+-- agent a as it makes the move that the byte b tells: to open or release it stands at its own place and has chosen b
+unfoldable pub moverOf : Agent → ℕ → Agent
+moverOf a b = cond (eqb (kindOf a) enterKind) a (cond (eqb (kindOf a) exitKind) a (atStage a 3 (a .home) b))
+
+-- how a place moves then: the agent's own goes on its way, one in it is dissolved, or a new one is put
+unfoldable pub motionOf : Land → Agent → ℕ → Motion
+motionOf l a b =
+    cond (eqb (kindOf a) enterKind) (Leave b)
+    (cond (eqb (kindOf a) exitKind) (Leave (parentOf l (parentOf l (a .home))))
+    (cond (eqb (kindOf a) openKind) Dissolve (Put (freshNumber (l .used)))))
+
+-- the table after agent x, which is a, makes that move
 unfoldable pub madeOn : Cell → ℕ → Agent → ℕ → Cell
-madeOn t x a b =
-    cond (eqb (kindOf a) enterKind) (shiftedOn t x a (Leave b))
-    (cond (eqb (kindOf a) exitKind) (shiftedOn t x a (Leave (parentOf (cellOf t .land) (parentOf (cellOf t .land) (a .home)))))
-    (cond (eqb (kindOf a) openKind) (shiftedOn t x (atStage a 3 (a .home) b) Dissolve)
-    (shiftedOn t x (atStage a 3 (a .home) b) (Put (freshNumber (cellOf t .land .used))))))
+madeOn t x a b = shiftedOn t x (moverOf a b) (motionOf (cellOf t .land) a b)
 
 -- what holds of the table all along: it is of the struct, its tree is formed, the rows of actions are in order
 pub record Ready (t : Cell) : Type 0 where
@@ -93,3 +103,21 @@ pub record Turns (t : Cell) (x b : ℕ) (r : Turned) : Type 0 where
 
 unfoldable pub findingOn : Cell → List ℕ → List ℕ → Finding
 findingOn t trail text = cond (eqb (length trail % 2) 0) (judged 0 (treeOf (cellOf t)) trail text) (Denied (length trail / 2) oddByte)
+
+-- the finding on a whole trail, by the listing at its end
+abbrev pub byListing : Cell → ℕ → List ℕ → Finding
+byListing t made text = cond (sameText text (listing (cellOf t))) Upheld (Denied made otherLayout)
+
+-- so many moves of a trail from a loaded table: one is denied, or all are made; where they are the whole trail, the listing decides
+pub record Stops (t : Cell) (trail : List ℕ) (moves : ℕ) (p : Played) : Type 0 where
+  pub denied : p .reason ≢ 0 → (text : List ℕ) → Denied (p .made) (p .reason) ≡ judged 0 (treeOf (cellOf t)) trail text
+  pub ended : p .reason ≡ 0 → length trail ≤ 2 * moves → (text : List ℕ) → byListing (p .cell) (p .made) text ≡ judged 0 (treeOf (cellOf t)) trail text
+
+-- from a file: a bad one is found bad with any trail; another gives a table, on which the finding is the file's
+pub record Plays (file trail : List ℕ) (moves : ℕ) (p : Played) : Type 0 where
+  pub bad : (number offset : ℕ) → p .verdict ≡ Rejected number offset → (s text : List ℕ) → BadFile number offset ≡ finding file s text
+  pub good : p .verdict ≡ Accepted → (t : Cell) × (((s text : List ℕ) → findingOn t s text ≡ finding file s text) × Stops t trail moves p)
+
+-- the finding whatever the listing
+abbrev pub FoundAnyway : List ℕ → List ℕ → Finding → Type 0
+FoundAnyway file trail r = (text : List ℕ) → r ≡ finding file trail text

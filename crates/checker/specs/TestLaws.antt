@@ -5,16 +5,15 @@ use mathlib.Core.Bool.{Bool, true, false, not, _&&_, cond, and-false}
 use Prim.Native.Nat.{ℕ}
 use lib.Dec.{eqb}
 use borrow.Author.Tests.{eq-eqb, ne-eqb}
-use Rattle.table.specs.Cell.{Land, cellOf, kindOf, freshNumber, enterKind, exitKind, openKind, releaseKind}
+use Rattle.table.specs.Cell.{Land, kindOf, freshNumber, enterKind, exitKind, openKind, releaseKind}
 use Rattle.table.specs.declared.Action.{Action}
 use Rattle.table.specs.declared.Agent.{Agent}
-use Rattle.table.specs.declared.Cell.{Cell}
 use Rattle.meaning.specs.Calculus.{mayEnter, mayExit, mayOpen, hasRoom, mayRelease, permits}
 use Rattle.meaning.specs.Codes.{noneTold}
 use Rattle.meaning.specs.Update.{atStage}
 use Rattle.moves.specs.declared.Motion.the-variants.{Leave, Dissolve, Put}
 use Rattle.trail.specs.Trail.{allows}
-use Rattle.checker.specs.OnTable.{parentOf, oneAgent, shiftedOn, madeOn}
+use Rattle.checker.specs.OnTable.{parentOf, oneAgent, moverOf, motionOf}
 
 pub and-yes : (a b : Bool) → a ≡ true → b ≡ (a && b)
 and-yes a b e = sym (rw e)
@@ -63,22 +62,32 @@ module _ (l : Land) (h : ℕ) (x : Action) (b : ℕ) where
 
 -- ---- what is made, by the kind of the action
 
-module _ (t : Cell) (x : ℕ) (a : Agent) (b : ℕ) where
-  pub made-enter : kindOf a ≡ enterKind → shiftedOn t x a (Leave b) ≡ madeOn t x a b
-  unfolding madeOn
-  made-enter k = sym (rw (eq-eqb (kindOf a) enterKind k))
+module _ (a : Agent) (b : ℕ) where
+  pub mover-enter : kindOf a ≡ enterKind → a ≡ moverOf a b
+  unfolding moverOf
+  mover-enter k = sym (rw (eq-eqb (kindOf a) enterKind k))
 
-  pub made-exit : kindOf a ≢ enterKind → kindOf a ≡ exitKind → (d : ℕ) → d ≡ parentOf (cellOf t .land) (parentOf (cellOf t .land) (a .home))
-      → shiftedOn t x a (Leave d) ≡ madeOn t x a b
-  unfolding madeOn
-  made-exit i k d e = ap (λ (n : ℕ). shiftedOn t x a (Leave n)) e ∙ sym (rw (ne-eqb (kindOf a) enterKind i, eq-eqb (kindOf a) exitKind k))
+  pub mover-exit : kindOf a ≢ enterKind → kindOf a ≡ exitKind → a ≡ moverOf a b
+  unfolding moverOf
+  mover-exit i k = sym (rw (ne-eqb (kindOf a) enterKind i, eq-eqb (kindOf a) exitKind k))
 
-  pub made-open : kindOf a ≢ enterKind → kindOf a ≢ exitKind → kindOf a ≡ openKind → shiftedOn t x (atStage a 3 (a .home) b) Dissolve ≡ madeOn t x a b
-  unfolding madeOn
-  made-open i j k = sym (rw (ne-eqb (kindOf a) enterKind i, ne-eqb (kindOf a) exitKind j, eq-eqb (kindOf a) openKind k))
+  pub mover-other : kindOf a ≢ enterKind → kindOf a ≢ exitKind → atStage a 3 (a .home) b ≡ moverOf a b
+  unfolding moverOf
+  mover-other i j = sym (rw (ne-eqb (kindOf a) enterKind i, ne-eqb (kindOf a) exitKind j))
 
-  pub made-release : kindOf a ≢ enterKind → kindOf a ≢ exitKind → kindOf a ≢ openKind → (q : ℕ) → q ≡ freshNumber (cellOf t .land .used)
-      → shiftedOn t x (atStage a 3 (a .home) b) (Put q) ≡ madeOn t x a b
-  unfolding madeOn
-  made-release i j k q e = ap (λ (n : ℕ). shiftedOn t x (atStage a 3 (a .home) b) (Put n)) e
-      ∙ sym (rw (ne-eqb (kindOf a) enterKind i, ne-eqb (kindOf a) exitKind j, ne-eqb (kindOf a) openKind k))
+module _ (l : Land) (a : Agent) (b : ℕ) where
+  pub motion-enter : kindOf a ≡ enterKind → Leave b ≡ motionOf l a b
+  unfolding motionOf
+  motion-enter k = sym (rw (eq-eqb (kindOf a) enterKind k))
+
+  pub motion-exit : kindOf a ≢ enterKind → kindOf a ≡ exitKind → (d : ℕ) → d ≡ parentOf l (parentOf l (a .home)) → Leave d ≡ motionOf l a b
+  unfolding motionOf
+  motion-exit i k d e = ap Leave e ∙ sym (rw (ne-eqb (kindOf a) enterKind i, eq-eqb (kindOf a) exitKind k))
+
+  pub motion-open : kindOf a ≢ enterKind → kindOf a ≢ exitKind → kindOf a ≡ openKind → Dissolve ≡ motionOf l a b
+  unfolding motionOf
+  motion-open i j k = sym (rw (ne-eqb (kindOf a) enterKind i, ne-eqb (kindOf a) exitKind j, eq-eqb (kindOf a) openKind k))
+
+  pub motion-release : kindOf a ≢ enterKind → kindOf a ≢ exitKind → kindOf a ≢ openKind → (q : ℕ) → q ≡ freshNumber (l .used) → Put q ≡ motionOf l a b
+  unfolding motionOf
+  motion-release i j k q e = ap Put e ∙ sym (rw (ne-eqb (kindOf a) enterKind i, ne-eqb (kindOf a) exitKind j, ne-eqb (kindOf a) openKind k))

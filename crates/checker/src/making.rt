@@ -4,37 +4,57 @@ use super::rules::allowed;
 use super::rules::parent_of;
 use super::rules::why_not;
 use moves::Motion;
+use sets::Set;
 use table::Agent;
 use table::Cell;
+use table::Place;
 use updates::at_stage;
 ghost use mathlib.Core.Path.{_≡_};
-ghost use Rattle.checker.specs.OnTable.{Ready, madeOn, Turns};
+ghost use Rattle.checker.specs.OnTable.{placesOf, moverOf, motionOf, madeOn, Ready, Turns};
 
-// The table after agent x, which is a, makes the move that the byte b tells: its place goes on its way, a place in its own is
-// dissolved, or a new one is put.
+// Agent a as it makes the move that the byte b tells: to open or release it stands at its own place and has chosen b.
+fn mover_of(a: Agent, b: u8) -> Agent
+    ensures { λ r. ⌜ r ≡ moverOf a b ⌝ }
+{
+    let n = table::next_action(a);
+    if n.kind == 1 {
+        return a;
+    }
+    if n.kind == 2 {
+        return a;
+    }
+    at_stage(a, 3, a.home, b)
+}
+
+// How a place moves then: the agent's own goes on its way, one in it is dissolved, or a new one is put.
+fn motion_of(ps: [Place; 64], used: Set, a: Agent, b: u8) -> Motion
+    ensures { λ r. ⌜ r ≡ motionOf (placesOf ps used) a b ⌝ }
+{
+    let n = table::next_action(a);
+    if n.kind == 1 {
+        return Motion::Leave(b);
+    }
+    if n.kind == 2 {
+        let p = parent_of(ps, used, a.home);
+        let d = parent_of(ps, used, p);
+        return Motion::Leave(d);
+    }
+    if n.kind == 3 {
+        return Motion::Dissolve;
+    }
+    let q = table::fresh_number(used);
+    Motion::Put(q)
+}
+
+// The table after agent x, which is a, makes the move that the byte b tells.
 fn make(c: Cell, x: u8, a: Agent, b: u8) -> Cell
     ensures { λ r. ⌜ r ≡ madeOn c x a b ⌝ }
 {
     let ps = c.places;
     let used = c.used;
-    let n = table::next_action(a);
-    if n.kind == 1 {
-        let s = moves::shift(c, x, a, Motion::Leave(b));
-        return s.cell;
-    }
-    if n.kind == 2 {
-        let p = parent_of(ps, used, a.home);
-        let d = parent_of(ps, used, p);
-        let s = moves::shift(c, x, a, Motion::Leave(d));
-        return s.cell;
-    }
-    let o = at_stage(a, 3, a.home, b);
-    if n.kind == 3 {
-        let s = moves::shift(c, x, o, Motion::Dissolve);
-        return s.cell;
-    }
-    let q = table::fresh_number(used);
-    let s = moves::shift(c, x, o, Motion::Put(q));
+    let o = mover_of(a, b);
+    let m = motion_of(ps, used, a, b);
+    let s = moves::shift(c, x, o, m);
     s.cell
 }
 

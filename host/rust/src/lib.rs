@@ -172,7 +172,7 @@ pub const TOUCHES_MOST: u64 = 1_000_000_000_000;
 pub const STACK: usize = 65_536;
 
 /// The stack that [`audit`](audit()) uses, in bytes, at most: measured likewise.
-pub const AUDIT_STACK: usize = 131_072;
+pub const AUDIT_STACK: usize = 81_920;
 
 /// Whether the linked library is one that this crate was made for.
 ///
