@@ -5,7 +5,7 @@ use mathlib.Core.Path.{_≡_, refl, sym, ap, ap₂, _∙_, subst}
 use mathlib.Core.Logic.{_≢_, _⊎_, inl, inr}
 use mathlib.Core.Bool.{Bool, true, false, cond}
 use mathlib.Core.List.{List, [], _∷_, _++_}
-use Prim.Native.Nat.{ℕ, _/_, _%_}
+use Prim.Native.Nat.{ℕ, _%_}
 use native.Mathlib.Omega.{arith}
 use lib.Dec.{eqb}
 use borrow.Author.Tests.{eq-eqb, ne-eqb}
@@ -24,7 +24,7 @@ use Rattle.meaning.specs.declared.Word.the-variants.{Looked, Took, Held, Back, 
 use Rattle.meaning.specs.Ask.{toldPlace, askOf}
 use Rattle.meaning.specs.AskLaws.{committed, ask-given, ask-unsound, ask-unknown, step-given}
 use Rattle.meaning.specs.Calculus.{Tree, nextOf}
-use Rattle.meaning.specs.Codes.{noneTold, wordNumber, askNumber}
+use Rattle.meaning.specs.Codes.{noneTold, wordNumber, wordIn, placeIn, askNumber}
 use Rattle.meaning.specs.File.{load, accepted}
 use Rattle.meaning.specs.Plain.{Plain, plainOf, plainStep, plainRun, isMove, saysMove}
 use Rattle.meaning.specs.Refusals.{noSuchAgent, unsoundTable}
@@ -76,11 +76,11 @@ word-moves Done = refl
 
 -- the word stands in its bits, whatever is told beside it
 word-told : (x : ℕ) (w : Word) (n q : ℕ)
-    → toldBytes x (askNumber (Would w n q)) ≡ cond (isMove w) (x ∷ askNumber (Would w n q) / 16777216 % 256 ∷ []) []
+    → toldBytes x (askNumber (Would w n q)) ≡ cond (isMove w) (x ∷ placeIn (askNumber (Would w n q)) ∷ []) []
 unfolding toldBytes
 word-told x w n q =
     let l = word-small w in
-    let e : askNumber (Would w n q) / 256 % 256 ≡ wordNumber w = omega (arith, l) in
+    let e : wordIn (askNumber (Would w n q)) ≡ wordNumber w = omega (arith, l) in
     let z : askNumber (Would w n q) % 256 ≡ 0 = omega arith in
     rw (eq-eqb (askNumber (Would w n q) % 256) 0 z, e, word-moves w)
 
@@ -263,4 +263,4 @@ asked-step t x wish = go (told (sound (cellOf t))) (told (cellOf t .given x))
         let w : Word = step c x wish .word in
         let n : ℕ = askNumber (Would w (step c x wish .woken) (toldPlace c x wish)) in
         rw (ask-given t x wish s g, step-given t x wish s g, word-told x w (step c x wish .woken) (toldPlace c x wish))
-        (unfold made in once (isMove w) (x ∷ n / 16777216 % 256 ∷ []))
+        (unfold made in once (isMove w) (x ∷ placeIn n ∷ []))

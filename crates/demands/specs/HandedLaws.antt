@@ -22,7 +22,7 @@ use Rattle.meaning.specs.declared.Word.{Word}
 use Rattle.meaning.specs.Refusals.{answerDiffers}
 use Rattle.meaning.specs.Step.{step}
 use Rattle.meaning.specs.StepCall.{turnedAway, stepOf}
-use Rattle.meaning.specs.Codes.{wordNumber, toldNumber, askNumber}
+use Rattle.meaning.specs.Codes.{wordNumber, toldNumber, wordIn, wokenIn, placeIn, askNumber}
 use Rattle.meaning.specs.Ask.{askOf, agrees, commitOf, handsBack, handedOf}
 use Rattle.meaning.specs.AskLaws.{agrees-same, same-agrees, ask-unsound, ask-unknown, ask-given}
 use Rattle.demands.specs.StepWays.{step-way}
@@ -37,16 +37,6 @@ use Rattle.demands.specs.AskingLaws.{word-small}
 same-number : {w w′ n n′ q q′ : ℕ} → w ≡ w′ → n ≡ n′ → q ≡ q′ → toldNumber w n q ≡ toldNumber w′ n′ q′
 same-number {w} {w′} {n} {n′} {q} a b c =
     ap (λ (i : ℕ). toldNumber i n q) a ∙ ap (λ (i : ℕ). toldNumber w′ i q) b ∙ ap (λ (i : ℕ). toldNumber w′ n′ i) c
-
--- the three in the bits of a number
-abbrev wordIn : ℕ → ℕ
-wordIn n = n / 256 % 256
-
-abbrev wokenIn : ℕ → ℕ
-wokenIn n = n / 65536 % 256
-
-abbrev placeIn : ℕ → ℕ
-placeIn n = n / 16777216 % 256
 
 module _ (w n q : ℕ) (a : w < 256) (b : n < 256) (c : q < 256) where
   -- nothing of it is lost

@@ -1,5 +1,5 @@
 -- The remaining calls on a table, and every answer as numbers: refusals by the numbers of document 01, words by those of the register window.
-use Prim.Native.Nat.{ℕ, _+_, _*_, _%_, _^_}
+use Prim.Native.Nat.{ℕ, _+_, _*_, _/_, _%_, _^_}
 use mathlib.Core.Bool.{cond}
 use Rattle.table.specs.Cell.{cellOf}
 use Rattle.table.specs.Sound.{sound}
@@ -69,6 +69,16 @@ stepNumber (Refused number) = number
 -- word, number woken and place in one number: the word in bits 8 to 15, the number woken in bits 16 to 23, the place in bits 24 to 31
 abbrev pub toldNumber : ℕ → ℕ → ℕ → ℕ
 toldNumber word woken place = above (place * 65536 + (woken * 256 + word)) 0
+
+-- the three in the bits of such a number
+abbrev pub wordIn : ℕ → ℕ
+wordIn n = n / 256 % 256
+
+abbrev pub wokenIn : ℕ → ℕ
+wokenIn n = n / 65536 % 256
+
+abbrev pub placeIn : ℕ → ℕ
+placeIn n = n / 16777216 % 256
 
 -- an ask's answer: word and number woken as in a step's answer, and the place, or the refusal's number
 abbrev pub askNumber : Asked → ℕ

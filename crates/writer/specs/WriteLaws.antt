@@ -6,13 +6,13 @@ use Prim.Native.Nat.{ℕ, _<_, _≤_}
 use native.Mathlib.Omega.{arith}
 use lib.ListN.{length, set}
 use borrow.Author.Tests.{le-leb, lt-leb}
+use Rattle.meaning.specs.Codes.{placeIn}
 use Rattle.meaning.specs.Text.{overlay}
 use Rattle.meaning.specs.declared.Listed.the-variants.{Length, Unlisted}
-use Rattle.trail.specs.Written.{toldBytes, toldAnswer, toldBuffer}
-use Rattle.writer.specs.Tells.{tellsMove, toldByte}
+use Rattle.trail.specs.Written.{tellsMove, toldBytes, toldAnswer, toldBuffer}
 
 module _ (x asked : ℕ) where
-  bytes-two : tellsMove asked ≡ true → toldBytes x asked ≡ x ∷ toldByte asked ∷ []
+  bytes-two : tellsMove asked ≡ true → toldBytes x asked ≡ x ∷ placeIn asked ∷ []
   unfolding toldBytes
   bytes-two e = rw e
 
@@ -31,7 +31,7 @@ module _ (x asked : ℕ) where
   no-room b e l = (rw (bytes-two e, lt-leb 2 (length b) l), rw (bytes-two e, lt-leb 2 (length b) l))
 
   -- the two bytes at the start of a buffer
-  two-over : (b : List ℕ) → 2 ≤ length b → set (set b 0 x) 1 (toldByte asked) ≡ overlay (x ∷ toldByte asked ∷ []) b
+  two-over : (b : List ℕ) → 2 ≤ length b → set (set b 0 x) 1 (placeIn asked) ≡ overlay (x ∷ placeIn asked ∷ []) b
   unfolding overlay
   two-over [] l = absurd (omega arith)
   two-over (y ∷ []) l = absurd (omega arith)
@@ -39,6 +39,6 @@ module _ (x asked : ℕ) where
 
   -- a move with room
   pub room : (b : List ℕ) → tellsMove asked ≡ true → 2 ≤ length b
-      → (set (set b 0 x) 1 (toldByte asked) ≡ toldBuffer x asked b) × (Length 2 ≡ toldAnswer x asked b)
+      → (set (set b 0 x) 1 (placeIn asked) ≡ toldBuffer x asked b) × (Length 2 ≡ toldAnswer x asked b)
   unfolding toldBuffer toldAnswer
   room b e l = (rw (bytes-two e, le-leb 2 (length b) l) (two-over b l), rw (bytes-two e, le-leb 2 (length b) l))

@@ -1,8 +1,7 @@
 // The two bytes that a move adds to a trail, by what an ask told right before its step: a host writes a run's trail with it.
 use meaning::Listed;
 ghost use mathlib.Core.Path.{_≡_};
-ghost use Rattle.trail.specs.Written.{wordMoves, toldAnswer, toldBuffer};
-ghost use Rattle.writer.specs.Tells.{tellsMove};
+ghost use Rattle.trail.specs.Written.{wordMoves, tellsMove, toldAnswer, toldBuffer};
 
 // Whether a word, by its number, says a move: left, opened or put.
 fn says_move(word: u64) -> bool
