@@ -17,7 +17,6 @@ use Rattle.table.specs.declared.Agent.{Agent}
 use Rattle.table.specs.declared.Place.{Place}
 use Rattle.table.specs.declared.Cell.{Cell}
 use Rattle.soundness.specs.Pass.{quiet, quietFits, busyFits, landsFit}
-use Rattle.soundness.specs.declared.sound.Seen.{Seen}
 use Rattle.soundness.specs.declared.touches.Left.{Left}
 use Rattle.soundness.specs.declared.turns.Walk.{Walk}
 use Rattle.soundness.specs.declared.turns.Sight.{Sight}
@@ -80,5 +79,5 @@ abbrev pub Walked : Cell → Walk → Type 0
 Walked c w = core c w ≡ coreSound (cellOf c)
 
 -- and then the touches and the row
-abbrev pub tellOf : Bool → Left → List ℕ → Agent → Seen
-tellOf fit left row mine = record { sound = fit && (left .fits && rowFits row); agent = mine }
+abbrev pub tellOf : Bool → Left → List ℕ → Bool
+tellOf fit left row = fit && (left .fits && rowFits row)

@@ -23,12 +23,10 @@ use Rattle.table.specs.declared.Place.{Place}
 use Rattle.table.specs.declared.Cell.{Cell}
 use Rattle.soundness.specs.Pass.{quiet, quietFits, busyFits, landsFit}
 use Rattle.soundness.specs.Left.{leftOf}
-use Rattle.soundness.specs.Seen.{seenOf}
 use Rattle.soundness.specs.AgentLaws.{home-out, row-out, second-same, busy-same, quiet-same}
 use Rattle.soundness.specs.PassLaws.{Passed, passed-are, passed-start, passed-stop, passed-twice, passed-quiet, passed-busy}
 use Rattle.soundness.specs.SoundLaws.{lands-same}
 use Rattle.soundness.specs.Turn.{standingAt, stoppedOf, startOf, stillWith, busyWith, glanceOf, secondOf, passedOf, busyOf, Walked, tellOf}
-use Rattle.soundness.specs.declared.sound.Seen.{Seen}
 use Rattle.soundness.specs.declared.turns.Walk.{Walk}
 use Rattle.soundness.specs.declared.turns.Sight.{Sight}
 
@@ -275,6 +273,6 @@ module _ (c : Cell) (z : Sized c) where
 -- ---- the whole
 
 -- the places, the touches and the row decide
-pub tell-seen : (c : Cell) (b : Bool) (n : ℕ) → b ≡ coreSound (cellOf c) → tellOf b (leftOf (c .touches) (c .used)) (c .order) (getD (c .agents) (n % 64) noAgent) ≡ seenOf c n
+pub tell-sound : (c : Cell) (b : Bool) → b ≡ coreSound (cellOf c) → tellOf b (leftOf (c .touches) (c .used)) (c .order) ≡ sound (cellOf c)
 unfolding sound booksSound leftOf touchSum cellOf
-tell-seen c b n e = ap {B = Seen} (λ (b : Bool). record { sound = b && (leftOf (c .touches) (c .used) .fits && rowFits (c .order)); agent = getD (c .agents) (n % 64) noAgent }) e
+tell-sound c b e = ap (λ (b : Bool). b && (leftOf (c .touches) (c .used) .fits && rowFits (c .order))) e

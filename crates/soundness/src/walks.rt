@@ -6,10 +6,11 @@ use super::touches::Left;
 use super::touches::touches_left;
 use super::turns;
 use super::turns::Walk;
-use table::Agent;
 use table::Cell;
 use table::at;
 ghost use mathlib.Core.Path.{_≡_};
+ghost use Rattle.table.specs.Cell.{cellOf};
+ghost use Rattle.table.specs.Sound.{sound};
 ghost use Rattle.soundness.specs.Seen.{seenOf};
 ghost use Rattle.soundness.specs.Turn.{Walked, core, tellOf};
 
@@ -60,31 +61,36 @@ fn places_seen(cell: &Cell, w: Walk) -> bool
     lands::led(l, up)
 }
 
-// Whether the table is sound, after its agents, its places and its touches, and the agent that the call is for.
-fn tell(fit: bool, left: Left, row: [u8; 64], mine: Agent) -> Seen
-    ensures { λ r. ⌜ r ≡ tellOf fit left row mine ⌝ }
+// Whether the table is sound, after its agents, its places and its touches.
+fn tell(fit: bool, left: Left, row: [u8; 64]) -> bool
+    ensures { λ r. ⌜ r ≡ tellOf fit left row ⌝ }
 {
     if fit {
-        Seen {
-            sound: books::books_fit(left.fits, row),
-            agent: mine,
-        }
+        books::books_fit(left.fits, row)
     } else {
-        Seen {
-            sound: false,
-            agent: mine,
-        }
+        false
     }
+}
+
+// Whether a lent cell is sound.
+pub fn sound_lent(cell: &Cell) -> bool
+    ensures { λ r. ⌜ r ≡ sound (cellOf (now (cell .entry))) ⌝ }
+{
+    let w = agents_seen(cell);
+    let fit = places_seen(cell, w);
+    let left = touches_left(&cell.touches, cell.used);
+    tell(fit, left, cell.order)
 }
 
 // What a call for this agent sees of a lent cell; past 63 agents are numbered from 0 again.
 pub fn see_lent(cell: &Cell, agent: u8) -> Seen
     ensures { λ r. ⌜ r ≡ seenOf (now (cell .entry)) agent ⌝ }
 {
-    let w = agents_seen(cell);
-    let fit = places_seen(cell, w);
-    let left = touches_left(&cell.touches, cell.used);
+    let s = sound_lent(cell);
     let own = at(agent);
     let mine = cell.agents[own];
-    tell(fit, left, cell.order, mine)
+    Seen {
+        sound: s,
+        agent: mine,
+    }
 }

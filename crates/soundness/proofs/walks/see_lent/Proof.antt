@@ -1,63 +1,34 @@
--- `see_lent` meets its contract: the agents and then the places are walked over with the reference; its touches are lent on; one agent and the row of
--- places are read, and `tell` is called with what was found.
+-- `see_lent` meets its contract: the reference is passed on to `sound_lent`, and one agent is read where it lies.
 -- Assumes nothing.
-use mathlib.Core.List.{map}
-use Prim.Native.Nat.{_+_, _*_, _%_}
+use Prim.Native.Nat.{_*_, _%_}
 use native.Mathlib.Omega.{arith}
 use lib.ListN.{getD}
 use denote.Struct.Laws as LL
 use mathlib.Core.Bool.{Bool}
 use mir.Syntax.{tyInt, tyBool}
-use mir.Val.{vbool}
-use types.Kit.{use0, use2}
+use types.Kit.{use2}
 use types.Run.{bin}
 use types.Tokens.{res-dup, shr-bor-dup}
-use denote.Array.{Array, array-makes}
-use denote.Builtin.{bool, usize}
-use denote.Plain.{bool-makes, bool-lawful}
-use Rattle.sets.proofs.Set as Set′
-use Rattle.sets.proofs.Set.Laws as set-laws
+use denote.Builtin.{usize}
+use denote.Plain.{bool-lawful}
 use Rattle.table.specs.Cell.{noAgent, cellOf}
-use Rattle.table.specs.Sound.{coreSound}
-use Rattle.table.specs.declared.Agent.{Agent}
+use Rattle.table.specs.Sound.{sound}
 use Rattle.table.specs.declared.Cell.{Cell}
 use Rattle.table.proofs.Agent as Agent′
 use Rattle.table.proofs.Agent.Laws as agent-laws
-use Rattle.table.proofs.Cell as T
-use Rattle.table.proofs.Cell.Laws as T′
 use Rattle.table.proofs.at.Symbol as at-def
 use Rattle.table.proofs.at.Met as at-thm
-use Rattle.soundness.specs.Left.{leftOf}
 use Rattle.soundness.specs.Seen.{seenOf}
-use Rattle.soundness.specs.Turn.{Walked, core, tellOf}
-use Rattle.soundness.specs.TurnLaws.{tell-seen}
 use Rattle.soundness.specs.declared.sound.Seen.{Seen}
-use Rattle.soundness.specs.declared.touches.Left.{Left}
-use Rattle.soundness.specs.declared.turns.Walk.{Walk}
 use Rattle.soundness.proofs.sound.Seen as Seen′
 use Rattle.soundness.proofs.sound.Seen.Laws as seen-laws
-use Rattle.soundness.proofs.turns.Walk as Walk′
-use Rattle.soundness.proofs.turns.Walk.Laws as walk-laws
-use Rattle.soundness.proofs.walks.agents_seen as walks
-use Rattle.soundness.proofs.walks.agents_seen.Symbol as walks-def
-use Rattle.soundness.proofs.walks.agents_seen.Met as walks-thm
-use Rattle.soundness.proofs.walks.places_seen as climbing
-use Rattle.soundness.proofs.walks.places_seen.Symbol as climbing-def
-use Rattle.soundness.proofs.walks.places_seen.Met as climbing-thm
-use Rattle.soundness.proofs.touches.touches_left as leaves
-use Rattle.soundness.proofs.touches.touches_left.Symbol as leaves-def
-use Rattle.soundness.proofs.touches.touches_left.Met as leaves-thm
-use Rattle.soundness.proofs.touches.Left as Left′
-use Rattle.soundness.proofs.touches.Left.Laws as left-laws
-use Rattle.soundness.proofs.walks.tell as tells
-use Rattle.soundness.proofs.walks.tell.Symbol as tell-def
-use Rattle.soundness.proofs.walks.tell.Met as tell-thm
-use Rattle.lent.proofs.Walk.{_≡_, refl, ap, subst, _∙_, ℕ, _<_, _^_, List, [], _∷_, URA, fullShare, named, w8, w64, Val, vint, vptr, SProp, ent, emp, id⊢, GName, Lft, Share, ftrue, fat, flft, fres, fshr-bor, Memory, Routine, Heap, Calls, Loops, WpFn, Atoms, Fun, givenOf, tables, Given, ‵, raw, _⊛_, ⋆, _$_, _∵_, !, qed, by, move, keep, drop, use1, split, join, rewrite, fsplit, fsplit3, fjoin, fjoin3, feqI, suffices, frame, done, look, init, forget, stop, hop, fld, from, load, lit, addr, of-opd, and-then, no-more, assigns, land, returns, enter, alloc1, alloc0, params1, pass1, pass0, whole, sub, look-in, FmC, owns, Is, partAt, uint-vals, uint-tells, uint-makes, uint-lawful, u8, u64, RefT, ShrRef, ptr-vals, shr-tells, plain, only, owned, nothing, Contract, Triple, onEntry, tripleOf, cited, says, Stays, stay-none, stay-none-ref, walkOf, goes-none, goes-none-ref, ends-at, yes, exported}
-use Rattle.lent.proofs.Lent.{R, mach, looked, shut, called, Equates, applied}
-use Rattle.lent.proofs.Element.{Element, unraw}
-use Rattle.lent.proofs.Offsets.{usedField, orderField, touchesAt, agentSize}
-use Rattle.lent.proofs.Reading.{agent-val, Agent-is, agent-is, read-agent, bytes-val, order-are}
-use Rattle.lent.proofs.Within.{within-touches}
+use Rattle.soundness.proofs.walks.sound_lent as sounds
+use Rattle.soundness.proofs.walks.sound_lent.Symbol as sound-def
+use Rattle.soundness.proofs.walks.sound_lent.Met as sound-thm
+use Rattle.lent.proofs.Walk.{_≡_, refl, ap, _∙_, ℕ, _<_, _^_, List, [], _∷_, URA, fullShare, named, w8, w64, Val, vint, vptr, SProp, ent, id⊢, GName, Lft, Share, ftrue, fat, flft, fres, fshr-bor, Memory, Routine, Heap, Calls, Loops, WpFn, Atoms, Fun, givenOf, tables, Given, ‵, raw, _⊛_, ⋆, _$_, _∵_, !, qed, by, move, keep, drop, use1, split, join, rewrite, fsplit, fsplit3, fjoin, fjoin3, feqI, suffices, frame, done, look, init, forget, stop, hop, fld, from, load, lit, addr, of-opd, and-then, no-more, agg, assigns, land, returns, enter, alloc1, alloc0, params1, pass1, pass0, FmC, owns, Is, partAt, uint-vals, uint-tells, uint-makes, uint-lawful, u8, RefT, ShrRef, ptr-vals, shr-tells, plain, only, owned, nothing, Contract, Triple, onEntry, tripleOf, cited, says, Stays, stay-none, stay-none-ref, walkOf, goes-none, goes-none-ref, ends-at, yes, exported}
+use Rattle.lent.proofs.Lent.{R, looked, shut, called, Equates, applied}
+use Rattle.lent.proofs.Offsets.{agentSize}
+use Rattle.lent.proofs.Reading.{agent-is, read-agent}
 use Rattle.lent.proofs.Freed.{freed}
 use Rattle.soundness.proofs.walks.see_lent.Key.{name}
 use Rattle.soundness.proofs.walks.see_lent as f
@@ -73,34 +44,12 @@ small k m e = omega (arith, e)
 times : (k : ℕ) → k < 64 → k * agentSize < 2 ^ 64
 times k h = omega (arith, h)
 
-abbrev val : Walk → Val
-val w = LL.val Walk′.the-type walk-laws.the-laws w
-
-told-walk : (w : Walk) (v : Val) → Is Walk′.the-row w (v ∷ []) → Is Walk′.the-row w (val w ∷ [])
-told-walk w v is = subst (Is Walk′.the-row w) (LL.tells Walk′.the-type walk-laws.the-laws w _ is) is
-
-abbrev left-val : Left → Val
-left-val f = LL.val Left′.the-type left-laws.the-laws f
-
-told-left : (f : Left) (v : Val) → Is Left′.the-row f (v ∷ []) → Is Left′.the-row f (left-val f ∷ [])
-told-left f v is = subst (Is Left′.the-row f) (LL.tells Left′.the-type left-laws.the-laws f _ is) is
-
-same-list : (l : List ℕ) → map (λ z. z) l ≡ l
-same-list [] = refl
-same-list (n ∷ l) = ap (_∷_ n) (same-list l)
+abbrev val : Seen → Val
+val s = LL.val Seen′.the-type seen-laws.the-laws s
 
 module _ {M : Type 1} (𝓤 : URA M) (H : Heap 𝓤) (A : Atoms 𝓤) (W : Given 𝓤 H A) (at-mem : Memory → SProp 𝓤) (run : Routine → Fun 𝓤) where
-  abbrev Walks : Contract 𝓤
-  Walks = tripleOf 𝓤 H A walks.signature (walks.spec 𝓤 H A at-mem run)
-
-  abbrev Climbing : Contract 𝓤
-  Climbing = tripleOf 𝓤 H A climbing.signature (climbing.spec 𝓤 H A at-mem run)
-
-  abbrev Leaves : Contract 𝓤
-  Leaves = tripleOf 𝓤 H A leaves.signature (leaves.spec 𝓤 H A at-mem run)
-
-  abbrev Tell : Contract 𝓤
-  Tell = tripleOf 𝓤 H A tells.signature (tells.spec 𝓤 H A at-mem run)
+  abbrev Sounds : Contract 𝓤
+  Sounds = tripleOf 𝓤 H A sounds.signature (sounds.spec 𝓤 H A at-mem run)
 
   module _ (κ : Lft) (q : Share) (b o : ℕ) (γ : GName) (h : Cell) (m : ℕ) (m-fits : m < 2 ^ 8) where
     abbrev x : RefT Cell × (ℕ × Unit {0})
@@ -112,95 +61,54 @@ module _ {M : Type 1} (𝓤 : URA M) (H : Heap 𝓤) (A : Atoms 𝓤) (W : Given
     abbrev Post : Val → SProp 𝓤
     Post = walkOf 𝓤 H A f.ended stayed (f.clauses 𝓤 H A at-mem run) .post (((κ, tt), (q, tt), tt, x, at), tt)
 
-    exits : (r : Seen) (v : Val) → r ≡ seenOf h m
-        → ent 𝓤 (⋆ 𝓤 H A (‵ (flft κ q) ∷ ‵ (fres γ (R .coded .code h)) ∷ ‵ (fshr-bor κ (λ s. partAt R s h b o)) ∷ ‵ (Seen′.the-row .own r (v ∷ [])) ∷ [])) (Post v)
-    exits r v e =
-        qed W (‵ (flft κ q) ∷ ‵ (fres γ (R .coded .code h)) ∷ ‵ (fshr-bor κ (λ s. partAt R s h b o)) ∷ ‵ (Seen′.the-row .own r (v ∷ [])) ∷ []) ∵
-        suffices ! _ (ends-at 𝓤 H A f.ended stayed (f.clauses 𝓤 H A at-mem run) W (((κ, tt), (q, tt), tt, x, at), tt) v r (tt, (tt, tt)) (tt, (tt, tt))) $ says ! e $
+    exits : (r : Seen) → Is Seen′.the-row r (val r ∷ []) → r ≡ seenOf h m
+        → ent 𝓤 (⋆ 𝓤 H A (‵ (flft κ q) ∷ ‵ (fres γ (R .coded .code h)) ∷ ‵ (fshr-bor κ (λ s. partAt R s h b o)) ∷ [])) (Post (val r))
+    exits r is e =
+        qed W (‵ (flft κ q) ∷ ‵ (fres γ (R .coded .code h)) ∷ ‵ (fshr-bor κ (λ s. partAt R s h b o)) ∷ []) ∵
+        suffices ! _ (ends-at 𝓤 H A f.ended stayed (f.clauses 𝓤 H A at-mem run) W (((κ, tt), (q, tt), tt, x, at), tt) (val r) r (tt, (tt, tt)) (tt, (tt, tt))) $ says ! e $
         nothing ! $ move ! (1 ∷ 0 ∷ []) $ join ! $ frame ! $ feqI ! (List Val) (vptr b o ∷ []) (vptr b o ∷ []) refl $ fjoin3 ! $
-        nothing ! $ owned ! u8 (Is u8) (uint-makes 𝓤 H A W w8) m _ (refl, m-fits) $ fjoin ! $ move ! (1 ∷ 0 ∷ []) $ fjoin ! $ done !
+        nothing ! $ owned ! u8 (Is u8) (uint-makes 𝓤 H A W w8) m _ (refl, m-fits) $ fjoin ! $ move ! (1 ∷ 0 ∷ []) $ fjoin ! $
+        owned ! Seen′.the-row (Is Seen′.the-row) (LL.makes Seen′.the-type seen-laws.the-plain 𝓤 H A) r _ is $ move ! (1 ∷ 0 ∷ []) $ done !
 
-    abbrev to-walks : Walks .Ghost
-    to-walks = (((κ, tt), (q, tt), tt, (record { ptr = (b, o); name = γ; now = h }, tt), (vptr b o ∷ [], tt)), tt)
+    abbrev to-sounds : Sounds .Ghost
+    to-sounds = (((κ, tt), (q, tt), tt, (record { ptr = (b, o); name = γ; now = h }, tt), (vptr b o ∷ [], tt)), tt)
 
-    goes-walks : ent 𝓤 (⋆ 𝓤 H A (‵ (flft κ q) ∷ ‵ (ShrRef (named 0) κ R .own (record { ptr = (b, o); name = γ; now = h }) (vptr b o ∷ [])) ∷ [])) (Walks .pre to-walks)
-    goes-walks = qed W (‵ (flft κ q) ∷ ‵ (ShrRef (named 0) κ R .own (record { ptr = (b, o); name = γ; now = h }) (vptr b o ∷ [])) ∷ []) ∵
+    goes-sounds : ent 𝓤 (⋆ 𝓤 H A (‵ (flft κ q) ∷ ‵ (ShrRef (named 0) κ R .own (record { ptr = (b, o); name = γ; now = h }) (vptr b o ∷ [])) ∷ [])) (Sounds .pre to-sounds)
+    goes-sounds = qed W (‵ (flft κ q) ∷ ‵ (ShrRef (named 0) κ R .own (record { ptr = (b, o); name = γ; now = h }) (vptr b o ∷ [])) ∷ []) ∵
         nothing ! $ move ! (2 ∷ 0 ∷ []) $ fjoin ! $ nothing ! $ move ! (2 ∷ 0 ∷ []) $ join ! $ join ! $ nothing ! $ move ! (1 ∷ 0 ∷ []) $ join ! $ done !
 
-    abbrev to-climbing : Walk → Climbing .Ghost
-    to-climbing w = (((κ, tt), (q, tt), tt, (record { ptr = (b, o); name = γ; now = h }, (w, tt)), (vptr b o ∷ [], (val w ∷ [], tt))), tt)
+    -- what was told and read is what a call sees
+    seen-so : (y : Bool) (k : ℕ) → y ≡ sound (cellOf h) → k ≡ m % 64 → record { sound = y; agent = getD (h .agents) k noAgent } ≡ seenOf h m
+    seen-so y k e e-k = ap {B = Seen} (λ (b : Bool). record { sound = b; agent = getD (h .agents) k noAgent }) e ∙ ap {B = Seen} (λ (i : ℕ). record { sound = sound (cellOf h); agent = getD (h .agents) i noAgent }) e-k
 
-    goes-climbing : (w : Walk) → Is Walk′.the-row w (val w ∷ []) → ent 𝓤 (⋆ 𝓤 H A (‵ (flft κ q) ∷ ‵ (ShrRef (named 0) κ R .own (record { ptr = (b, o); name = γ; now = h }) (vptr b o ∷ [])) ∷ [])) (Climbing .pre (to-climbing w))
-    goes-climbing w is = qed W (‵ (flft κ q) ∷ ‵ (ShrRef (named 0) κ R .own (record { ptr = (b, o); name = γ; now = h }) (vptr b o ∷ [])) ∷ []) ∵
-        nothing ! $ owned ! Walk′.the-row (Is Walk′.the-row) (LL.makes Walk′.the-type walk-laws.the-plain 𝓤 H A) w _ is $ fjoin ! $ move ! (2 ∷ 0 ∷ []) $ fjoin ! $
-        nothing ! $ move ! (2 ∷ 0 ∷ []) $ join ! $ join ! $ nothing ! $ move ! (1 ∷ 0 ∷ []) $ join ! $ done !
-
-    used-is : Is R h (mach h) → Element Set′.the-field set-laws.the-field-laws (h .used)
-    used-is was = LL.owed T.the-type T′.the-laws h _ was .1 .1 .1 .0
-
-    abbrev to-leaves : GName → Leaves .Ghost
-    to-leaves γ₁ = (((κ, tt), (q, tt), tt, (record { ptr = (b, o + touchesAt); name = γ₁; now = map (λ z. z) (h .touches) }, (h .used, tt)), (vptr b (o + touchesAt) ∷ [], (set-laws.the-field-laws .val (Set′.the-type .to (h .used)) ∷ [], tt))), tt)
-
-    goes-leaves : (γ₁ : GName) → Is R h (mach h) → ent 𝓤 (⋆ 𝓤 H A (‵ (flft κ q) ∷ ‵ (ShrRef (named 0) κ (Array u64 64) .own (record { ptr = (b, o + touchesAt); name = γ₁; now = map (λ z. z) (h .touches) }) (vptr b (o + touchesAt) ∷ [])) ∷ [])) (Leaves .pre (to-leaves γ₁))
-    goes-leaves γ₁ was = qed W (‵ (flft κ q) ∷ ‵ (ShrRef (named 0) κ (Array u64 64) .own (record { ptr = (b, o + touchesAt); name = γ₁; now = map (λ z. z) (h .touches) }) (vptr b (o + touchesAt) ∷ [])) ∷ []) ∵
-        nothing ! $ owned ! Set′.the-row (Is Set′.the-row) (LL.makes Set′.the-type set-laws.the-plain 𝓤 H A) (h .used) _ (used-is was) $ fjoin ! $ move ! (2 ∷ 0 ∷ []) $ fjoin ! $
-        nothing ! $ move ! (2 ∷ 0 ∷ []) $ join ! $ join ! $ nothing ! $ move ! (1 ∷ 0 ∷ []) $ join ! $ done !
-
-    abbrev to-tell : Bool → Left → Agent → Tell .Ghost
-    to-tell y f a = ((tt, tt, tt, (y, (f, (h .order, (a, tt)))), (vbool y ∷ [], (left-val f ∷ [], (bytes-val (h .order) ∷ [], (agent-val a ∷ [], tt))))), tt)
-
-    goes-tell : (y : Bool) (f : Left) (a : Agent) → Is R h (mach h) → Is Left′.the-row f (left-val f ∷ []) → Agent-is a → ent 𝓤 (emp 𝓤) (Tell .pre (to-tell y f a))
-    goes-tell y f a was is is-a = qed W [] ∵
-        nothing ! $ owned ! Agent′.the-row (Is Agent′.the-row) (LL.makes Agent′.the-type agent-laws.the-plain 𝓤 H A) a _ is-a $ fjoin ! $
-        owned ! (Array u8 64) (Is (Array u8 64)) (array-makes 𝓤 H A W u8 (uint-makes 𝓤 H A W w8) 64) (h .order) _ (order-are h was) $ fjoin ! $
-        owned ! Left′.the-row (Is Left′.the-row) (LL.makes Left′.the-type left-laws.the-plain 𝓤 H A) f _ is $ fjoin ! $ owned ! bool (Is bool) (bool-makes 𝓤 H A W) y (vbool y ∷ []) refl $ fjoin ! $
-        nothing ! $ join ! $ nothing ! $ move ! (1 ∷ 0 ∷ []) $ join ! $ done !
-
-    -- what was read and told is what a call sees
-    seen-so : (y : Bool) (f : Left) (k : ℕ) → y ≡ coreSound (cellOf h) → f ≡ leftOf (h .touches) (h .used) → k ≡ m % 64 → tellOf y f (h .order) (getD (h .agents) k noAgent) ≡ seenOf h m
-    seen-so y f k e e-f e-k = ap (λ (l : Left). tellOf y l (h .order) (getD (h .agents) k noAgent)) e-f ∙ ap (λ (i : ℕ). tellOf y (leftOf (h .touches) (h .used)) (h .order) (getD (h .agents) i noAgent)) e-k ∙ tell-seen h y m e
-
-    module _ (C : Calls 𝓤 H) (Λ : Loops 𝓤 H) (fm : FmC 𝓤 H (W .laws) C) (known-walks : Triple 𝓤 (C walks-def.name) Walks) (known-climbing : Triple 𝓤 (C climbing-def.name) Climbing) (known-leaves : Triple 𝓤 (C leaves-def.name) Leaves) (known-tell : Triple 𝓤 (C tell-def.name) Tell) (known-at : Triple 𝓤 (C at-def.name) (Equates 𝓤 H A u8 usize (λ z. z % 64))) where
+    module _ (C : Calls 𝓤 H) (Λ : Loops 𝓤 H) (fm : FmC 𝓤 H (W .laws) C) (known-sounds : Triple 𝓤 (C sound-def.name) Sounds) (known-at : Triple 𝓤 (C at-def.name) (Equates 𝓤 H A u8 usize (λ z. z % 64))) where
       walk : ent 𝓤 (onEntry 𝓤 H A f.signature (κ, tt) (q, tt) x at) (WpFn 𝓤 H C Λ code.function (vptr b o ∷ vint w8 m ∷ []) Post)
       walk =
           qed W ((‵ (flft κ q) ⊛ ‵ ftrue) ∷ ‵ (owns (ShrRef (named 0) κ R ∷ u8 ∷ []) x at) ∷ []) ∵ enter ! C Λ code.function (vptr b o ∷ vint w8 m ∷ []) _ $
-          alloc1 ! (λ l₀. alloc1 ! (λ l₁. alloc1 ! (λ l₂. alloc1 ! (λ l₃. alloc1 ! (λ l₄. alloc1 ! (λ l₅. alloc1 ! (λ l₆. alloc1 ! (λ l₇. alloc1 ! (λ l₈. alloc1 ! (λ l₉. alloc1 ! (λ l₁₀. alloc1 ! (λ l₁₁. alloc1 ! (λ l₁₂. alloc1 ! (λ l₁₃. alloc1 ! (λ l₁₄. alloc0 ! $ params1 ! $ pass1 ! (init ! 26 refl (tt, tt)) $ pass1 ! (init ! 24 refl (tt, record { fits = m-fits })) $ pass0 ! $
-          move ! (31 ∷ []) $ fsplit ! $ fsplit3 ! $ drop ! $ move ! (33 ∷ []) $ split ! $ move ! (1 ∷ 4 ∷ []) $ drop ! $ drop ! $
-          -- [the token; res; the fractured borrow; _14 at 3; …; _0 at 31]: the reference is passed on, and kept
-          move ! (2 ∷ []) $ shr-bor-dup ! $ move ! (3 ∷ []) $ res-dup ! $ feqI ! (List Val) (vptr b o ∷ []) (vptr b o ∷ []) refl $ move ! (0 ∷ 1 ∷ 3 ∷ []) $ fjoin3 ! $ move ! (3 ∷ 0 ∷ []) $ use2 W (raw (Walks .pre to-walks)) goes-walks $
-          called ! fm walks.ended (walks.clauses 𝓤 H A at-mem run) known-walks to-walks (λ r ws. Walked h r) (λ r ws. id⊢ 𝓤 _) (and-then ! (load ! (from ! (stop !)) (look ! 29 refl)) (no-more !)) (λ v r ws e is.
+          alloc1 ! (λ l₀. alloc1 ! (λ l₁. alloc1 ! (λ l₂. alloc1 ! (λ l₃. alloc1 ! (λ l₄. alloc1 ! (λ l₅. alloc1 ! (λ l₆. alloc1 ! (λ l₇. alloc1 ! (λ l₈. alloc1 ! (λ l₉. alloc0 ! $ params1 ! $ pass1 ! (init ! 16 refl (tt, tt)) $ pass1 ! (init ! 14 refl (tt, record { fits = m-fits })) $ pass0 ! $
+          move ! (21 ∷ []) $ fsplit ! $ fsplit3 ! $ drop ! $ move ! (23 ∷ []) $ split ! $ move ! (1 ∷ 4 ∷ []) $ drop ! $ drop ! $
+          -- [the token; res; the fractured borrow; _9 at 3; …; _0 at 21]: the reference is passed on, and kept
+          move ! (2 ∷ []) $ shr-bor-dup ! $ move ! (3 ∷ []) $ res-dup ! $ feqI ! (List Val) (vptr b o ∷ []) (vptr b o ∷ []) refl $ move ! (0 ∷ 1 ∷ 3 ∷ []) $ fjoin3 ! $ move ! (3 ∷ 0 ∷ []) $ use2 W (raw (Sounds .pre to-sounds)) goes-sounds $
+          called ! fm sounds.ended (sounds.clauses 𝓤 H A at-mem run) known-sounds to-sounds (λ y ws. y ≡ sound (cellOf h)) (λ y ws. id⊢ 𝓤 _) (and-then ! (load ! (from ! (stop !)) (look ! 19 refl)) (no-more !)) (λ v y ws e is.
           drop ! $ use1 W (‵ (flft κ q) ⊛ ‵ ftrue) (id⊢ 𝓤 _) $ split ! $ move ! (1 ∷ 2 ∷ []) $ drop ! $ drop ! $
-          land ! (from ! (stop !)) (init ! 25 refl (LL.lawful Walk′.the-type walk-laws.the-laws 𝓤 H A W .typed r _ is .0)) $ rewrite ! 25 (λ (z : Val). ‵ (fat fullShare walk-laws.mir l₃ 0 z)) (ap only (LL.tells Walk′.the-type walk-laws.the-laws r _ is)) refl $
-          move ! (2 ∷ []) $ shr-bor-dup ! $ move ! (3 ∷ []) $ res-dup ! $ feqI ! (List Val) (vptr b o ∷ []) (vptr b o ∷ []) refl $ move ! (0 ∷ 1 ∷ 3 ∷ []) $ fjoin3 ! $ move ! (3 ∷ 0 ∷ []) $ use2 W (raw (Climbing .pre (to-climbing r))) (goes-climbing r (told-walk r v is)) $
-          called ! fm climbing.ended (climbing.clauses 𝓤 H A at-mem run) known-climbing (to-climbing r) (λ y ws. y ≡ core h r) (λ y ws. id⊢ 𝓤 _) (and-then ! (load ! (from ! (stop !)) (look ! 29 refl)) (and-then ! (load ! (from ! (stop !)) (look ! 25 refl)) (no-more !))) (λ t y ws d is-y.
-          drop ! $ use1 W (‵ (flft κ q) ⊛ ‵ ftrue) (id⊢ 𝓤 _) $ split ! $ move ! (1 ∷ 2 ∷ []) $ drop ! $ drop ! $
-          land ! (from ! (stop !)) (init ! 23 refl (bool-lawful 𝓤 H A W .typed y _ is-y .0)) $ rewrite ! 23 (λ (z : Val). ‵ (fat fullShare tyBool l₄ 0 z)) (ap only is-y) refl $
-          assigns ! (addr ! (from ! (hop ! (look ! 29 refl) (fld ! refl (stop !))))) (from ! (stop !)) (init ! 15 refl (tt, tt)) $ move ! (2 ∷ 0 ∷ []) $ looked ! tt h b o (λ q₁ was₁.
-          assigns ! (of-opd ! (load ! (from ! (hop ! (look ! 30 refl) (fld ! refl (stop !)))) (look-in ! 0 (sub ! usedField refl (unraw ! {τ = T′.mir} (whole !)))))) (from ! (stop !)) (init ! 14 refl (T′.the-laws .1 .1 .1 .0 .lawful 𝓤 H A W .typed (T.the-type .to h .1 .1 .1 .0) _ (used-is was₁) .0)) $
-          shut ! tt q₁ h was₁ b o $ move ! (1 ∷ []) $ shr-bor-dup ! $ move ! (0 ∷ 2 ∷ []) $ within-touches ! tt h b o (λ γ₁. move ! (1 ∷ 0 ∷ []) $
-          use2 W (raw (Leaves .pre (to-leaves γ₁))) (goes-leaves γ₁ was₁) $
-          called ! fm leaves.ended (leaves.clauses 𝓤 H A at-mem run) known-leaves (to-leaves γ₁) (λ f ws. f ≡ leftOf (map (λ z. z) (h .touches)) (h .used)) (λ f ws. id⊢ 𝓤 _) (and-then ! (load ! (from ! (stop !)) (look ! 15 refl)) (and-then ! (load ! (from ! (stop !)) (look ! 13 refl)) (no-more !))) (λ t₁ f ws₁ e-f is-f.
-          drop ! $ use1 W (‵ (flft κ q) ⊛ ‵ ftrue) (id⊢ 𝓤 _) $ split ! $ move ! (1 ∷ 2 ∷ []) $ drop ! $ drop ! $ move ! (0 ∷ 2 ∷ []) $
-          land ! (from ! (stop !)) (init ! 21 refl (LL.lawful Left′.the-type left-laws.the-laws 𝓤 H A W .typed f _ is-f .0)) $ rewrite ! 21 (λ (z : Val). ‵ (fat fullShare left-laws.mir l₅ 0 z)) (ap only (LL.tells Left′.the-type left-laws.the-laws f _ is-f)) refl $
-          owned ! u8 (Is u8) (uint-makes 𝓤 H A W w8) m _ (refl, m-fits) $ applied ! fm u8 usize (λ z. z % 64) known-at m (vint w8 m) (and-then ! (load ! (from ! (stop !)) (look ! 28 refl)) (no-more !)) (λ v′ k e′ is′. drop ! $
-          land ! (from ! (stop !)) (init ! 19 refl (uint-lawful 𝓤 H A W w64 .typed k _ is′ .0)) $ rewrite ! 19 (λ (z : Val). ‵ (fat fullShare (tyInt w64) l₆ 0 z)) (ap only (is′ .0)) refl $
+          land ! (from ! (stop !)) (init ! 15 refl (bool-lawful 𝓤 H A W .typed y _ is .0)) $ rewrite ! 15 (λ (z : Val). ‵ (fat fullShare tyBool l₃ 0 z)) (ap only is) refl $
+          owned ! u8 (Is u8) (uint-makes 𝓤 H A W w8) m _ (refl, m-fits) $ applied ! fm u8 usize (λ z. z % 64) known-at m (vint w8 m) (and-then ! (load ! (from ! (stop !)) (look ! 18 refl)) (no-more !)) (λ v′ k e′ is′. drop ! $
+          land ! (from ! (stop !)) (init ! 13 refl (uint-lawful 𝓤 H A W w64 .typed k _ is′ .0)) $ rewrite ! 13 (λ (z : Val). ‵ (fat fullShare (tyInt w64) l₄ 0 z)) (ap only (is′ .0)) refl $
           move ! (2 ∷ 0 ∷ []) $ looked ! tt h b o (λ q′ was.
-          -- [a share of the cell; the open borrow; the fractured borrow; res; _14 at 4; …; _0 at 32]
+          -- [a share of the cell; the open borrow; the fractured borrow; res; _9 at 4; …; _0 at 22]
           let k-small = small k m e′ in let a = getD (h .agents) k noAgent in let is-a = agent-is h was k k-small in let a-typed = agent-laws.the-field-laws .lawful 𝓤 H A W .typed (Agent′.the-type .to a) _ is-a .0 in
-          assigns ! (bin ! (load ! (from ! (stop !)) (look ! 20 refl)) (lit ! tt) (record { fits = times k k-small })) (from ! (stop !)) (init ! 12 refl (tt, record { fits = times k k-small })) $
-          assigns ! (addr ! (from ! (hop ! (look ! 30 refl) (fld ! refl (stop !))))) (from ! (stop !)) (init ! 10 refl (tt, tt)) $
-          assigns ! (bin ! (load ! (from ! (stop !)) (look ! 10 refl)) (load ! (from ! (stop !)) (look ! 12 refl)) tt) (from ! (stop !)) (init ! 8 refl (tt, tt)) $
-          assigns ! (of-opd ! (load ! (from ! (hop ! (look ! 8 refl) (stop !))) (read-agent ! h k was k-small))) (from ! (stop !)) (init ! 6 refl a-typed) $
-          assigns ! (of-opd ! (load ! (from ! (stop !)) (look ! 6 refl))) (from ! (stop !)) (init ! 18 refl a-typed) $
-          assigns ! (of-opd ! (load ! (from ! (hop ! (look ! 30 refl) (fld ! refl (stop !)))) (look-in ! 0 (sub ! orderField refl (unraw ! {τ = T′.mir} (whole !)))))) (from ! (stop !)) (init ! 4 refl (T′.the-laws .1 .1 .1 .1 .1 .1 .0 .lawful 𝓤 H A W .typed (T.the-type .to h .1 .1 .1 .1 .1 .1 .0) _ (LL.owed T.the-type T′.the-laws h _ was .1 .1 .1 .1 .1 .1 .0) .0)) $
-          shut ! tt q′ h was b o $ use0 W (raw (Tell .pre (to-tell y f a))) (goes-tell y f a was (told-left f t₁ is-f) is-a) $
-          called ! fm tells.ended (tells.clauses 𝓤 H A at-mem run) known-tell (to-tell y f a) (λ s ws′. s ≡ tellOf y f (h .order) a) (λ s ws′. id⊢ 𝓤 _)
-          (and-then ! (load ! (from ! (stop !)) (look ! 24 refl)) (and-then ! (load ! (from ! (stop !)) (look ! 22 refl)) (and-then ! (load ! (from ! (stop !)) (look ! 4 refl)) (and-then ! (load ! (from ! (stop !)) (look ! 18 refl)) (no-more !))))) (λ u s ws′ e″ is″.
-          -- [what s owns; …; …; the token; the fractured borrow; res; _14 at 6; …; _0 at 34]
-          land ! (from ! (stop !)) (init ! 34 refl (LL.lawful Seen′.the-type seen-laws.the-laws 𝓤 H A W .typed s _ is″ .0)) $
-          returns ! (look ! 34 refl) $ forget ! 6 refl $ forget ! 8 refl $ forget ! 10 refl $ forget ! 12 refl $ forget ! 14 refl $ forget ! 16 refl $ forget ! 18 refl $ forget ! 20 refl $ forget ! 22 refl $ forget ! 24 refl $ forget ! 26 refl $ forget ! 28 refl $ forget ! 30 refl $ forget ! 32 refl $ forget ! 34 refl $
-          move ! (34 ∷ 35 ∷ 32 ∷ 33 ∷ 30 ∷ 31 ∷ 28 ∷ 29 ∷ 26 ∷ 27 ∷ 24 ∷ 25 ∷ 22 ∷ 23 ∷ 20 ∷ 21 ∷ 18 ∷ 19 ∷ 16 ∷ 17 ∷ 14 ∷ 15 ∷ 12 ∷ 13 ∷ 10 ∷ 11 ∷ 8 ∷ 9 ∷ 6 ∷ 7 ∷ []) $ freed ! $ keep ! (3 ∷ 5 ∷ 4 ∷ 0 ∷ []) $
-          by ! (exits s u (e″ ∙ seen-so y f k (d ∙ e) (e-f ∙ ap (λ (l : List ℕ). leftOf l (h .used)) (same-list (h .touches))) e′)))))))))))))))))))))))))
+          let s : Seen = record { sound = y; agent = a } in let is-s : Is Seen′.the-row s (val s ∷ []) = LL.owes Seen′.the-type seen-laws.the-laws s (refl, (is-a, tt)) in
+          assigns ! (bin ! (load ! (from ! (stop !)) (look ! 14 refl)) (lit ! tt) (record { fits = times k k-small })) (from ! (stop !)) (init ! 10 refl (tt, record { fits = times k k-small })) $
+          assigns ! (addr ! (from ! (hop ! (look ! 20 refl) (fld ! refl (stop !))))) (from ! (stop !)) (init ! 8 refl (tt, tt)) $
+          assigns ! (bin ! (load ! (from ! (stop !)) (look ! 8 refl)) (load ! (from ! (stop !)) (look ! 10 refl)) tt) (from ! (stop !)) (init ! 6 refl (tt, tt)) $
+          assigns ! (of-opd ! (load ! (from ! (hop ! (look ! 6 refl) (stop !))) (read-agent ! h k was k-small))) (from ! (stop !)) (init ! 4 refl a-typed) $
+          assigns ! (of-opd ! (load ! (from ! (stop !)) (look ! 4 refl))) (from ! (stop !)) (init ! 12 refl a-typed) $
+          assigns ! (agg ! (and-then ! (load ! (from ! (stop !)) (look ! 16 refl)) (and-then ! (load ! (from ! (stop !)) (look ! 12 refl)) (no-more !)))) (from ! (stop !)) (init ! 22 refl (LL.lawful Seen′.the-type seen-laws.the-laws 𝓤 H A W .typed s _ is-s .0)) $
+          shut ! tt q′ h was b o $
+          -- [the token; the fractured borrow; res; _9 at 3; …; _0 at 21]
+          returns ! (look ! 21 refl) $ forget ! 3 refl $ forget ! 5 refl $ forget ! 7 refl $ forget ! 9 refl $ forget ! 11 refl $ forget ! 13 refl $ forget ! 15 refl $ forget ! 17 refl $ forget ! 19 refl $ forget ! 21 refl $
+          move ! (21 ∷ 22 ∷ 19 ∷ 20 ∷ 17 ∷ 18 ∷ 15 ∷ 16 ∷ 13 ∷ 14 ∷ 11 ∷ 12 ∷ 9 ∷ 10 ∷ 7 ∷ 8 ∷ 5 ∷ 6 ∷ 3 ∷ 4 ∷ []) $ freed ! $ keep ! (0 ∷ 2 ∷ 1 ∷ []) $
+          by ! (exits s is-s (seen-so y k e e′)))))))))))))))
 
 pub see-lent-spec : {M : Type 1} → statement M
 unfolding code.routine
@@ -209,8 +117,5 @@ see-lent-spec 𝓤 H 𝓜 𝓖 𝓡 =
     (goes-none-ref 𝓤 H (𝓖 .A) (givenOf 𝓤 H 𝓜 𝓖) 1 (0 ∷ []) tt (plain (λ _. R)) yes, (goes-none 𝓤 H (𝓖 .A) (givenOf 𝓤 H 𝓜 𝓖) 1 (λ _. u8) yes (λ κs x f. refl), tt))
     (λ κs. (ptr-vals, (uint-vals w8, tt))) (λ κs. (shr-tells (named 0) (κs .0) R, (uint-tells w8, tt)))
     (λ fm κs qs bounds a _ are. walk 𝓤 H (𝓖 .A) (givenOf 𝓤 H 𝓜 𝓖) (𝓜 .mem) (𝓡 .run) (κs .0) (qs .0) (a .0 .ptr .0) (a .0 .ptr .1) (a .0 .name) (a .0 .now) (a .1 .0) (are .1 .0 .1) (tables 𝓤 H 𝓜 𝓡 code.env .C) (tables 𝓤 H 𝓜 𝓡 code.env .Λ) fm
-    (cited 𝓤 H (Walks 𝓤 H (𝓖 .A) (givenOf 𝓤 H 𝓜 𝓖) (𝓜 .mem) (𝓡 .run)) 𝓜 𝓡 code.env walks-def.name walks-def.routine code.calls-soundness·walks·agents-seen (walks-thm.met 𝓤 H 𝓜 𝓖 𝓡))
-    (cited 𝓤 H (Climbing 𝓤 H (𝓖 .A) (givenOf 𝓤 H 𝓜 𝓖) (𝓜 .mem) (𝓡 .run)) 𝓜 𝓡 code.env climbing-def.name climbing-def.routine code.calls-soundness·walks·places-seen (climbing-thm.met 𝓤 H 𝓜 𝓖 𝓡))
-    (cited 𝓤 H (Leaves 𝓤 H (𝓖 .A) (givenOf 𝓤 H 𝓜 𝓖) (𝓜 .mem) (𝓡 .run)) 𝓜 𝓡 code.env leaves-def.name leaves-def.routine code.calls-soundness·touches·touches-left (leaves-thm.met 𝓤 H 𝓜 𝓖 𝓡))
-    (cited 𝓤 H (Tell 𝓤 H (𝓖 .A) (givenOf 𝓤 H 𝓜 𝓖) (𝓜 .mem) (𝓡 .run)) 𝓜 𝓡 code.env tell-def.name tell-def.routine code.calls-soundness·walks·tell (tell-thm.met 𝓤 H 𝓜 𝓖 𝓡))
+    (cited 𝓤 H (Sounds 𝓤 H (𝓖 .A) (givenOf 𝓤 H 𝓜 𝓖) (𝓜 .mem) (𝓡 .run)) 𝓜 𝓡 code.env sound-def.name sound-def.routine code.calls-soundness·walks·sound-lent (sound-thm.met 𝓤 H 𝓜 𝓖 𝓡))
     (cited 𝓤 H (Equates 𝓤 H (𝓖 .A) u8 usize (λ z. z % 64)) 𝓜 𝓡 code.env at-def.name at-def.routine code.calls-table·at (at-thm.met 𝓤 H 𝓜 𝓖 𝓡)))
