@@ -10,5 +10,6 @@ pub mod Left
 pub mod LeftLaws
 pub mod Turn
 pub mod TurnLaws
+pub mod StageLaws
 pub mod Climb
 pub mod ClimbLaws

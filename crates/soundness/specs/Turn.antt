@@ -12,11 +12,11 @@ use Rattle.sets.specs.WalkLaws.{lowestIn}
 use Rattle.sets.specs.declared.Set.{Set}
 use Rattle.order.specs.Row.{rowFits}
 use Rattle.table.specs.Cell.{hasAction, kindOf, cellOf}
-use Rattle.table.specs.Sound.{actionsFit, remembers, firstHeld, secondHeld, goingFrom, coreSound}
+use Rattle.table.specs.Sound.{actionsFit, remembers, ready, holdsBoth, firstHeld, secondHeld, goingFrom, coreSound}
 use Rattle.table.specs.declared.Agent.{Agent}
 use Rattle.table.specs.declared.Place.{Place}
 use Rattle.table.specs.declared.Cell.{Cell}
-use Rattle.soundness.specs.Pass.{quiet, quietFits, busyFits, landsFit}
+use Rattle.soundness.specs.Pass.{quiet, quietFits, lockIsAt, linkedAt, busyFits, landsFit}
 use Rattle.soundness.specs.declared.touches.Left.{Left}
 use Rattle.soundness.specs.declared.turns.Walk.{Walk}
 use Rattle.soundness.specs.declared.turns.Sight.{Sight}
@@ -60,13 +60,31 @@ secondOf a kind home = secondHeld a kind (home .parent) % 64
 unfoldable pub passedOf : Walk → Bool → Walk
 passedOf w fit = cond fit (standingAt (w .used) (removed (w .rest) (lowestIn (w .rest))) (w .claimed) (w .going)) (stoppedOf w)
 
--- it does, or is
+-- it holds the locks of two places and moves a third one, each 64 where there is none; fit: what its stage asks holds
+abbrev pub turnedOf : Bool → Walk → ℕ → ℕ → ℕ → Walk
+turnedOf fit w first second from =
+    cond (member (w .going) from) (stoppedOf w)
+    (cond fit
+    (standingAt (w .used) (removed (w .rest) (lowestIn (w .rest))) (inserted (inserted (w .claimed) first) second) (inserted (w .going) from))
+    (stoppedOf w))
+
 unfoldable pub busyOf : Walk → Agent → ℕ → Place → Place → ℕ → ℕ → Walk
 busyOf w a kind home chosen firstLock secondLock =
-    cond (member (w .going) (goingFrom a)) (stoppedOf w)
-    (cond (busyFits (member (w .used) (a .remembered)) (has (w .used .bits)) (w .at) a kind home chosen (firstHeld a) firstLock (secondHeld a kind (home .parent)) secondLock)
-    (standingAt (w .used) (removed (w .rest) (lowestIn (w .rest))) (inserted (inserted (w .claimed) (firstHeld a)) (secondHeld a kind (home .parent))) (inserted (w .going) (goingFrom a)))
-    (stoppedOf w))
+    turnedOf
+    (busyFits (member (w .used) (a .remembered)) (has (w .used .bits)) (w .at) a kind home chosen (firstHeld a) firstLock (secondHeld a kind (home .parent)) secondLock)
+    w (firstHeld a) (secondHeld a kind (home .parent)) (goingFrom a)
+
+-- what stages 2 and 3 ask: the agent is ready, and the lock of the place that it remembers is its own
+unfoldable pub holdsFirst : Walk → Agent → ℕ → ℕ → Bool
+holdsFirst w a kind lock =
+    ready (hasAction a) (member (w .used) (a .remembered)) (eqb (a .remembered) (a .home)) kind
+    && lockIsAt (member (w .used) (a .remembered)) (a .remembered) lock (w .at)
+
+-- what stage 3 asks beside: the places are linked as the action asks, and the second lock is the agent's
+unfoldable pub holdsSecond : Walk → Agent → ℕ → Place → Place → ℕ → ℕ → Bool
+holdsSecond w a kind home chosen second lock =
+    holdsBoth kind (linkedAt true home (a .remembered)) (linkedAt (member (w .used) (a .chosen)) chosen (a .remembered))
+    && lockIsAt (member (w .used) second) second lock (w .at)
 
 -- ---- the whole
 

@@ -197,7 +197,7 @@ pub(super) fn going_from(a: Agent) -> u8
 }
 
 // Whether q is none, or is in use and its lock is x's.
-fn lock_is(known: bool, q: u8, lock: u8, x: u8) -> bool
+pub(super) fn lock_is(known: bool, q: u8, lock: u8, x: u8) -> bool
     ensures { λ r. ⌜ r ≡ lockIsAt known q lock x ⌝ }
 {
     if q == 64 {
@@ -209,7 +209,7 @@ fn lock_is(known: bool, q: u8, lock: u8, x: u8) -> bool
 // ---- the other stages
 
 // Whether an agent that remembers a place is ready to lock it; for open and release that is its home.
-fn is_ready(some: bool, known: bool, same: bool, kind: u8) -> bool
+pub(super) fn is_ready(some: bool, known: bool, same: bool, kind: u8) -> bool
     ensures { λ r. ⌜ r ≡ ready some known same kind ⌝ }
 {
     if some {
@@ -224,7 +224,7 @@ fn is_ready(some: bool, known: bool, same: bool, kind: u8) -> bool
 }
 
 // Whether the places of an agent that holds both are linked as its action asks; a release agent never holds both.
-fn holds_both(kind: u8, here: bool, there: bool) -> bool
+pub(super) fn holds_both(kind: u8, here: bool, there: bool) -> bool
     ensures { λ r. ⌜ r ≡ holdsBoth kind here there ⌝ }
 {
     if kind == 1 {

@@ -5,8 +5,12 @@ use sets::Set;
 use table::Agent;
 use table::Place;
 use table::at;
+use table::linked_to;
 ghost use mathlib.Core.Path.{_≡_};
-ghost use Rattle.soundness.specs.Turn.{standingAt, stoppedOf, startOf, glanceOf, stillWith, secondOf, busyOf, passedOf};
+ghost use mathlib.Core.Bool.{_&&_};
+ghost use Rattle.sets.specs.Set.{member};
+ghost use Rattle.soundness.specs.Pass.{lockIsAt};
+ghost use Rattle.soundness.specs.Turn.{standingAt, stoppedOf, startOf, glanceOf, stillWith, secondOf, turnedOf, busyOf, holdsFirst, holdsSecond, passedOf};
 
 // What the agents before said: which one is next, or 64; the places in use; the agents left, the next one among them; the places whose locks
 // those before hold, and the places that they move; and whether all of them fit.
@@ -146,6 +150,113 @@ pub(super) fn passed(w: Walk, fit: bool) -> Walk
     }
 }
 
+// The next agent is passed, which holds the locks of two places and moves a third one, each 64 where there is none. ok: what its stage asks holds.
+fn turned(ok: bool, w: Walk, first: u8, second: u8, from: u8) -> Walk
+    ensures { λ r. ⌜ r ≡ turnedOf ok w first second from ⌝ }
+{
+    let used = w.used;
+    let rest = w.rest;
+    let claimed = w.claimed;
+    let going = w.going;
+    if going.has(from) {
+        return stopped(w);
+    }
+    if ok {
+        let one = claimed.insert(first);
+        let both = one.insert(second);
+        let moved = going.insert(from);
+        let left = rest.rest();
+        standing(used, left, both, moved)
+    } else {
+        stopped(w)
+    }
+}
+
+// The next agent is passed, whatever its stage.
+fn at_any_stage(
+    w: Walk,
+    a: Agent,
+    kind: u8,
+    home: Place,
+    chosen: Place,
+    firstlock: u8,
+    secondlock: u8,
+) -> Walk
+    ensures { λ r. ⌜ r ≡ busyOf w a kind home chosen firstlock secondlock ⌝ }
+{
+    let used = w.used;
+    let known = used.has(a.remembered);
+    let from = agents::going_from(a);
+    let first = agents::first_held(a);
+    let second = agents::second_held(a, kind, home.parent);
+    let ok = agents::busy_fits(
+        known,
+        used,
+        w.at,
+        a,
+        kind,
+        home,
+        chosen,
+        first,
+        firstlock,
+        second,
+        secondlock,
+    );
+    turned(ok, w, first, second, from)
+}
+
+// What stages 2 and 3 ask: the agent is ready, and the lock of the place that it remembers is its own.
+fn holds_first(w: Walk, a: Agent, kind: u8, firstlock: u8) -> bool
+    ensures { λ r. ⌜ r ≡ holdsFirst w a kind firstlock ⌝ }
+{
+    let used = w.used;
+    let known = used.has(a.remembered);
+    if agents::is_ready(a.next < a.count, known, a.remembered == a.home, kind) {
+        firstlock == w.at
+    } else {
+        false
+    }
+}
+
+// What stage 3 asks beside: the places are linked as the action asks, and the second lock is the agent's.
+fn holds_second(
+    w: Walk,
+    a: Agent,
+    kind: u8,
+    home: Place,
+    chosen: Place,
+    second: u8,
+    secondlock: u8,
+) -> bool
+    ensures { λ r. ⌜ r ≡ holdsSecond w a kind home chosen second secondlock ⌝ }
+{
+    let used = w.used;
+    let chosen_used = used.has(a.chosen);
+    let here = linked_to(true, home, a.remembered);
+    let there = linked_to(chosen_used, chosen, a.remembered);
+    if agents::holds_both(kind, here, there) {
+        locked(w, second, secondlock)
+    } else {
+        false
+    }
+}
+
+// Whether q is none, or is in use and its lock is the next agent's.
+fn locked(w: Walk, q: u8, lock: u8) -> bool
+    ensures { λ r. ⌜ r ≡ lockIsAt (member (w .used) q) q lock (w .at) ⌝ }
+{
+    let used = w.used;
+    let known = used.has(q);
+    agents::lock_is(known, q, lock, w.at)
+}
+
+// Whether both hold.
+fn both(a: bool, b: bool) -> bool
+    ensures { λ r. ⌜ r ≡ (a && b) ⌝ }
+{
+    if a { b } else { false }
+}
+
 // The next agent is passed, and is busy: with its next action's kind, its home, its chosen place, and the locks that it holds.
 pub(super) fn busy(
     w: Walk,
@@ -158,35 +269,30 @@ pub(super) fn busy(
 ) -> Walk
     ensures { λ r. ⌜ r ≡ busyOf w a kind home chosen firstlock secondlock ⌝ }
 {
-    let used = w.used;
-    let rest = w.rest;
-    let claimed = w.claimed;
-    let going = w.going;
-    let from = agents::going_from(a);
-    if going.has(from) {
-        return stopped(w);
+    let s = a.stage;
+    match s {
+        2..=2 => {
+            let ok = holds_first(w, a, kind, firstlock);
+            turned(ok, w, a.remembered, 64, 64)
+        }
+        3..=3 => {
+            let second = agents::second_held(a, kind, home.parent);
+            let one = holds_first(w, a, kind, firstlock);
+            let two = holds_second(w, a, kind, home, chosen, second, secondlock);
+            let ok = both(one, two);
+            turned(ok, w, a.remembered, second, 64)
+        }
+        4..=4 => turned(true, w, 64, 64, a.home),
+        5..=5 => {
+            let ok = locked(w, a.home, firstlock);
+            turned(ok, w, a.home, 64, a.home)
+        }
+        6..=6 => {
+            let one = locked(w, a.home, firstlock);
+            let two = locked(w, home.parent, secondlock);
+            let ok = both(one, two);
+            turned(ok, w, a.home, home.parent, a.home)
+        }
+        _ => at_any_stage(w, a, kind, home, chosen, firstlock, secondlock),
     }
-    let known = used.has(a.remembered);
-    let first = agents::first_held(a);
-    let second = agents::second_held(a, kind, home.parent);
-    if !agents::busy_fits(
-        known,
-        used,
-        w.at,
-        a,
-        kind,
-        home,
-        chosen,
-        first,
-        firstlock,
-        second,
-        secondlock,
-    ) {
-        return stopped(w);
-    }
-    let one = claimed.insert(first);
-    let both = one.insert(second);
-    let moved = going.insert(from);
-    let left = rest.rest();
-    standing(used, left, both, moved)
 }

@@ -1,69 +1,62 @@
--- By the place that the agent moves, and then by what busy_fits answers.
-use mathlib.Core.Path.{_≡_, refl, sym, ap, _∙_}
-use mathlib.Core.Bool.{Bool, true, false, not}
-use borrow.Author.Tests.{not-true}
-use Rattle.sets.specs.Set.{inserted}
-use Rattle.sets.specs.declared.Set.{Set}
-use Rattle.soundness.specs.Turn.{standingAt, busyOf}
+-- Each arm is what the definition comes to at its stage.
+use mathlib.Core.Path.{ap, ap₂, _∙_}
+use mathlib.Core.Bool.{Bool, _&&_}
+use Prim.Native.Nat.{ℕ}
+use Rattle.table.specs.Cell.{none}
+use Rattle.soundness.specs.Turn.{turnedOf, holdsFirst, holdsSecond}
+use Rattle.soundness.specs.StageLaws.{at-two, at-three, at-four, at-five, at-six}
 use Rattle.soundness.proofs.turns.busy.Statement.{statement}
 use Rattle.soundness.proofs.turns.busy.Tie as tie
 
--- a test that was turned round
-kept : (b : Bool) → not b ≡ false → b ≡ true
-kept true e = refl
-kept false e = sym e
-
 returns : tie.Need-returns
-unfolding busyOf
-returns c = let h = c .before .before in rw (← h .before .going-from .ensures, ← h .has .ensures, c .before .if1 .taken) (c .stopped .ensures)
+returns c =
+    let h = c .before in
+    let g = h .before .before .args in
+    c .turned .ensures
+    ∙ ap (λ (b : Bool). turnedOf b (g .w) (g .a .remembered) none none) (h .holds-first .ensures)
+    ∙ at-two (g .w) (g .a) (g .kind) (g .home) (g .chosen) (g .firstlock) (g .secondlock) (h .before .match .keys1)
 
 returns-2 : tie.Need-returns-2
-unfolding busyOf
 returns-2 c =
-    let b = c .before .before in
-    let f = b .before .before in
-    let k = f .before in
-    let h = k .before .before in
-    rw (
-      ← h .before .going-from .ensures,
-      ← h .has .ensures,
-      k .before .if1 .left,
-      ← k .has2 .ensures,
-      ← f .first-held .ensures,
-      ← b .before .second-held .ensures,
-      ← b .busy-fits .ensures,
-      not-true (b .busy-fits .result) (c .before .if2 .taken),
-    ) (c .stopped2 .ensures)
+    let b = c .before in
+    let t = b .before in
+    let f = t .before in
+    let s = f .before in
+    let g = s .before .before .args in
+    c .turned2 .ensures
+    ∙ ap (λ (z : Bool). turnedOf z (g .w) (g .a .remembered) (s .second-held .result) none) (b .both .ensures)
+    ∙ ap₂ (λ (y z : Bool). turnedOf (y && z) (g .w) (g .a .remembered) (s .second-held .result) none) (f .holds-first2 .ensures) (t .holds-second .ensures)
+    ∙ ap (λ (n : ℕ). turnedOf (holdsFirst (g .w) (g .a) (g .kind) (g .firstlock) && holdsSecond (g .w) (g .a) (g .kind) (g .home) (g .chosen) n (g .secondlock)) (g .w) (g .a .remembered) n none) (s .second-held .ensures)
+    ∙ at-three (g .w) (g .a) (g .kind) (g .home) (g .chosen) (g .firstlock) (g .secondlock) (s .before .match .keys2)
 
 returns-3 : tie.Need-returns-3
-unfolding busyOf
 returns-3 c =
-    let r = c .before in
-    let n = r .before .before .before in
-    let b = n .before .before in
-    let s = b .before in
-    let f = s .before in
-    let k = f .before in
-    let h = k .before .before in
-    let w = h .before .before .before .before .before .before .args .w in
-    rw (
-      ← h .before .going-from .ensures,
-      ← h .has .ensures,
-      k .before .if1 .left,
-      ← k .has2 .ensures,
-      ← f .first-held .ensures,
-      ← s .second-held .ensures,
-      ← b .busy-fits .ensures,
-      kept (b .busy-fits .result) (n .before .if2 .left),
-    )
-    (c .standing .ensures
-    ∙ (λ j.
-    standingAt (w .used) (r .rest2 .ensures j)
-    ((r .before .before .insert2 .ensures ∙ ap (λ (z : Set). inserted z (s .second-held .result)) (n .insert .ensures)) j) (r .before .insert3 .ensures j)))
+    let g = c .before .before .args in
+    c .turned3 .ensures ∙ at-four (g .w) (g .a) (g .kind) (g .home) (g .chosen) (g .firstlock) (g .secondlock) (c .before .match .keys3)
+
+returns-4 : tie.Need-returns-4
+returns-4 c =
+    let l = c .before in
+    let g = l .before .before .args in
+    c .turned4 .ensures
+    ∙ ap (λ (b : Bool). turnedOf b (g .w) (g .a .home) none (g .a .home)) (l .locked .ensures)
+    ∙ at-five (g .w) (g .a) (g .kind) (g .home) (g .chosen) (g .firstlock) (g .secondlock) (l .before .match .keys4)
+
+returns-5 : tie.Need-returns-5
+returns-5 c =
+    let b = c .before in
+    let t = b .before in
+    let f = t .before in
+    let g = f .before .before .args in
+    c .turned5 .ensures
+    ∙ ap (λ (z : Bool). turnedOf z (g .w) (g .a .home) (g .home .parent) (g .a .home)) (b .both2 .ensures)
+    ∙ ap₂ (λ (y z : Bool). turnedOf (y && z) (g .w) (g .a .home) (g .home .parent) (g .a .home)) (f .locked2 .ensures) (t .locked3 .ensures)
+    ∙ at-six (g .w) (g .a) (g .kind) (g .home) (g .chosen) (g .firstlock) (g .secondlock) (f .before .match .keys5)
 
 pub busy-spec : {M : Type 1} → statement M
 busy-spec =
     tie.close
     (tie.spec
-    (λ c κs. tt) (λ c κs. tt) (λ c κs. tt) returns (λ c κs. tt) (λ c κs. tt) (λ c κs. tt) (λ c κs. tt) (λ c κs. tt) returns-2
-    (λ c κs. tt) (λ c κs. tt) (λ c κs. tt) (λ c κs. tt) (λ c κs. tt) returns-3)
+    (λ c κs. tt) (λ c κs. tt) (λ c κs. tt) (λ c κs. tt) (λ c κs. tt) (λ c κs. tt) (λ c κs. tt) (λ c κs. tt)
+    (λ c κs. tt) (λ c κs. tt) (λ c κs. tt) (λ c κs. tt) (λ c κs. tt) (λ c κs. tt) (λ c κs. tt)
+    returns returns-2 returns-3 returns-4 returns-5 (λ c. c .at-any-stage .ensures))
