@@ -2,9 +2,10 @@
 use sets::Set;
 ghost use mathlib.Core.Path.{_≡_};
 ghost use Prim.Native.Nat.{_≤_};
+ghost use lib.Dec.{ltb};
 ghost use Rattle.sets.specs.Word.{bit};
 ghost use Rattle.sets.specs.Set.{member};
-ghost use Rattle.order.specs.Row.{firstIn, rowFits, countingRow, filledRow};
+ghost use Rattle.order.specs.Row.{firstIn, allSmall, rowFits, countingRow, filledRow};
 
 // All numbers as they are counted: the row of a bare floor.
 pub fn counting_row() -> [u8; 64]
@@ -34,24 +35,36 @@ pub fn first_in(order: [u8; 64], s: Set) -> u8
     64
 }
 
-// Whether every number below 64 stands in the row, and no other: all numbers as bits of one word, and the bits that they have.
+// The bits that the numbers of a row have between them, which are below 64 where every number is. No early exit: the compiler takes several
+// numbers at once.
+fn bits_of(order: [u8; 64]) -> u8
+    ensures { λ r. ⌜ ltb r 64 ≡ allSmall order ⌝ }
+{
+    let mut bits: u8 = 0;
+    let mut j: usize = 0;
+    while j < 64 {
+        bits = bits | order[j];
+        j += 1;
+    }
+    bits
+}
+
+// Whether every number below 64 stands in the row, and no other: the bits that they have, and then all numbers as bits of one word.
 pub fn is_row(order: [u8; 64]) -> bool
     ensures { λ r. ⌜ r ≡ rowFits order ⌝ }
 {
+    let bits = bits_of(order);
+    if bits >= 64 {
+        return false;
+    }
     let mut seen: u64 = 0;
-    let mut bits: u64 = 0;
     let mut j: usize = 0;
     while j < 64 {
-        let q = order[j] as u64;
+        let q = order[j];
         seen = seen | (1 << (q % 64));
-        bits = bits | q;
         j += 1;
     }
-    if bits < 64 {
-        seen == 18446744073709551615
-    } else {
-        false
-    }
+    seen == 18446744073709551615
 }
 
 // A test as a number: 1 where it holds.
