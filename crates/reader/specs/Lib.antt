@@ -1,3 +1,4 @@
 pub mod KnownSets
+pub mod ActionRow
 pub mod LoadRest
 pub mod LoadLaws

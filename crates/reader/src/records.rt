@@ -18,7 +18,7 @@ fn wide(x: u8) -> u16
 }
 
 // A number of two bytes, the low one first.
-fn two_bytes(low: u8, high: u8) -> u16
+pub(super) fn two_bytes(low: u8, high: u8) -> u16
     ensures { λ r. ⌜ r ≡ twoBytes low high ⌝ }
 {
     wide(low) + 256 * wide(high)
@@ -136,7 +136,7 @@ fn agent_record(taken: bool, known: bool, number: u8, home: u8) -> Record
 }
 
 // An action record's body. known: its agent was given before; full: that agent has sixteen actions.
-fn action_record(known: bool, full: bool, agent: u8, kind: u8, name: u16) -> Record
+pub(super) fn action_record(known: bool, full: bool, agent: u8, kind: u8, name: u16) -> Record
     ensures { λ r. ⌜ r ≡ actionRecord known full agent kind name ⌝ }
 {
     if 64 <= agent {

@@ -6,8 +6,9 @@ use Prim.Native.Nat.{ℕ, _-_, _<_}
 use lib.ListN.{length}
 use Rattle.meaning.specs.File.{byteAt}
 use Rattle.reader.specs.LoadRest.{Rest, five-bytes, eleven-bytes, rest-all, answer-refused, answer-accepted, answer-empty}
-use Rattle.reader.specs.LoadLaws.{stopped, past-end, ended, finished, has-place, rest-place, rest-touches, rest-agent, rest-action, short}
+use Rattle.reader.specs.LoadLaws.{stopped, past-end, ended, finished, has-place, rest-place, rest-touches, rest-agent, short}
 use Rattle.reader.proofs.Tags.{is-end}
+use Rattle.reader.proofs.RowLaws.{row-later, rest-row}
 use Rattle.reader.proofs.load.Statement.{statement}
 use Rattle.reader.proofs.load.Tie as tie
 
@@ -60,13 +61,14 @@ loop-again c =
 
 loop-again-2 : tie.Need-loop-again-2 Inv-loop μ-loop
 loop-again-2 c =
-    let g = c .before .before .before .before in
+    let w = c .before .before .before in
+    let g = w .before .before .before in
     let r = g .before .before in
     let m = r .before .before .before .before in
     let l = m .before .before .before .before .loop in
     let t = m .before .before .before .loop-test .taken in
-    rest-action _ (l .at) (l .d) (l .full) (l .counted) (l .came) (l .many) (l .inv) t _ _ _ _ (sym (r .r3 .given .1) ∙ m .record-at .ensures) (g .at2 .ensures) _ _
-    (c .before .before .with-action .ensures) (c .insert-if .ensures)
+    rest-row _ (l .at) (l .d) (l .full) (l .counted) (l .came) (l .many) (l .inv) t _ _ _ _ (sym (r .r3 .given .1) ∙ m .record-at .ensures) (g .at2 .ensures) _ _ _
+    (w .before .with-action .ensures) (w .with-row .ensures) (c .insert-if .ensures)
 
 loop-again-3 : tie.Need-loop-again-3 Inv-loop μ-loop
 loop-again-3 c =
@@ -114,10 +116,14 @@ load-spec =
     omega (arith, t .loop-test .taken, t .before .before .before .before .before .good))
     (λ c. search needs) loop-again
     -- an action
-    (λ c κs. search needs) (λ c. search needs) (λ c. search needs) (λ c κs. search needs) (λ c. search needs) (λ c. search needs) (λ c κs. search needs)
-    (λ c. let t = c .before .before .before .before .before .before .before .before .before .before .before .before .before in
+    (λ c κs. search needs) (λ c. search needs) (λ c. search needs) (λ c κs. search needs)
+    (λ c. let t = c .before .before .before .before .before .before .before .before .before .before .before in
     omega (arith, t .loop-test .taken, t .before .before .before .before .before .good))
-    (λ c. search needs) loop-again-2
+    (λ c κs. search needs) (λ c. search needs) (λ c. search needs) (λ c κs. search needs)
+    (λ c. let w = c .before .before .before in
+    let l = row-later _ _ _ _ _ _ (w .with-row .ensures) in
+    omega (arith, w .before .before .before .before .before .before .before .before .before .before .before .before .loop-test .taken))
+    loop-again-2
     -- an agent
     (λ c κs. search needs) (λ c. search needs) (λ c. search needs) (λ c κs. search needs) (λ c. search needs) (λ c. search needs)
     (λ c κs. search needs) (λ c. search needs) (λ c. search needs) loop-again-3
