@@ -1,6 +1,6 @@
-//! Whether a table is sound: one pass over the agents, one over the places, the way to the floor, and one pass over the row.
+//! Whether a table is sound: one pass over the row, one over the agents, and one over the places, which follows their ways to the floor too.
 
-use crate::cell::{has, members, Agent, Cell, Name, MOST_TOUCHES, NONE};
+use crate::cell::{has, members, Action, Agent, Cell, Name, MOST_TOUCHES, NONE};
 
 /// Whether the table is sound.
 pub fn sound(cell: &Cell) -> bool {
@@ -9,54 +9,86 @@ pub fn sound(cell: &Cell) -> bool {
 
 /// The touches of all places in use, if the table is sound.
 pub fn sound_touches(cell: &Cell) -> Option<u64> {
-    let mut seen = Seen { held: 0, going: 0, touches: 0 };
-    let sound = has(cell.used, 0)
-        && members(cell.given).all(|x| seen.agent_fits(cell, x, &cell.agents[x as usize]))
-        && members(cell.used).all(|q| seen.place_fits(cell, q))
-        && all_lead_to_the_floor(cell)
-        && whole(&cell.order);
-    sound.then_some(seen.touches)
+    let mut seen = Seen { held: 0, going: 0 };
+    let sound = floor_fits(cell) && whole(&cell.order) && members(cell.given).all(|x| seen.agent_fits(cell, x, &cell.agents[x as usize]));
+    if sound {
+        seen.touches(cell)
+    } else {
+        None
+    }
 }
 
-/// What the agents say: the places whose locks they hold, and the places on their way; and the touches of the places so far.
+/// Whether the floor is in use, has no name, and stands in itself without being linked.
+fn floor_fits(cell: &Cell) -> bool {
+    let floor = &cell.places[0];
+    has(cell.used, 0) && floor.name == Name::NONE && floor.parent == 0 && floor.way != 0
+}
+
+/// Whether every number stands in the row, and so none twice and none above 63.
+fn whole(order: &[u8; 64]) -> bool {
+    let seen = order.iter().fold(0u64, |seen, q| seen | 1 << (q & 63));
+    let bits = order.as_chunks::<8>().0.iter().fold(0, |bits, &eight| bits | u64::from_le_bytes(eight));
+    seen == u64::MAX && bits & 0xC0C0_C0C0_C0C0_C0C0 == 0
+}
+
+/// Whether all actions of a row have a kind and a name, without a branch: a kind less 1 is below 4, and a name less 1 borrows nothing. By itself it is compiled
+/// to vectors.
+#[inline(never)]
+fn row_fits(row: &[Action; 16]) -> bool {
+    let bits = |action: &Action| (action.kind as u32).wrapping_sub(1) | (action.name as u32).wrapping_sub(1) >> 16;
+    row.iter().fold(0, |all, action| all | bits(action)) < 4
+}
+
+/// The same of the unused actions, of which there may be fewer.
+fn actions_fit(agent: &Agent, unused: &[Action]) -> bool {
+    agent.count == 16 && row_fits(&agent.actions) || unused.iter().all(|action| matches!(action.kind, 1..=4) && action.name != 0)
+}
+
+/// What the agents say: the places whose locks they hold, and the places on their way.
 struct Seen {
     held: u64,
     going: u64,
-    touches: u64,
 }
 
 impl Seen {
     /// Whether agent x is as it should be; what it holds and moves is noted.
     fn agent_fits(&mut self, cell: &Cell, x: u8, agent: &Agent) -> bool {
         let Some(unused) = agent.actions.get(agent.next as usize..agent.count as usize) else { return false };
-        if !has(cell.used, agent.home) || !unused.iter().fold(true, |fit, action| fit & matches!(action.kind, 1..=4) & (action.name != 0)) {
+        if !has(cell.used, agent.home) {
             return false;
         }
-        let kind = unused.first().map_or(0, |action| action.kind);
-        let remembers = has(cell.used, agent.remembered) && (kind < 3 || agent.remembered == agent.home);
+        let Some(first) = unused.first() else { return agent.stage == 8 || self.moves(cell, x, agent) };
+        if !actions_fit(agent, unused) {
+            return false;
+        }
+        let remembers = has(cell.used, agent.remembered) && (first.kind < 3 || agent.remembered == agent.home);
         match agent.stage {
-            0 => kind != 0,
-            1 => kind != 0 && remembers,
-            2 => kind != 0 && remembers && self.holds(cell, x, agent.remembered),
+            0 => true,
+            1 => remembers,
+            2 => remembers && self.holds(cell, x, agent.remembered),
             3 => {
-                let second = if kind == 3 { agent.chosen } else { agent.home };
-                matches!(kind, 1..=3)
+                let second = if first.kind == 3 { agent.chosen } else { agent.home };
+                first.kind != 4
                     && remembers
-                    && (kind == 3 || linked_to(cell, agent.home, agent.remembered))
-                    && (kind == 2 || linked_to(cell, agent.chosen, agent.remembered))
+                    && (first.kind == 3 || linked_to(cell, agent.home, agent.remembered))
+                    && (first.kind == 2 || linked_to(cell, agent.chosen, agent.remembered))
                     && self.holds(cell, x, agent.remembered)
                     && self.holds(cell, x, second)
             }
-            4 => self.goes(agent.home),
-            5 => self.goes(agent.home) && self.holds(cell, x, agent.home),
-            6 => {
-                let destination = cell.places[agent.home as usize].parent;
-                self.goes(agent.home) && self.holds(cell, x, agent.home) && self.holds(cell, x, destination)
-            }
-            7 => kind != 0 && (has(cell.used, agent.remembered) || kind == 4 && agent.remembered == NONE),
-            8 => kind == 0,
-            _ => false,
+            7 => has(cell.used, agent.remembered) || first.kind == 4 && agent.remembered == NONE,
+            _ => self.moves(cell, x, agent),
         }
+    }
+
+    /// Whether agent x moves its home, as no other does, and holds the locks that its stage says.
+    fn moves(&mut self, cell: &Cell, x: u8, agent: &Agent) -> bool {
+        let home = agent.home;
+        let first = !has(self.going, home);
+        self.going |= 1 << home;
+        first
+            && matches!(agent.stage, 4..=6)
+            && (agent.stage == 4 || self.holds(cell, x, home))
+            && (agent.stage != 6 || self.holds(cell, x, cell.places[home as usize].parent))
     }
 
     /// Whether the lock of q is agent x's.
@@ -67,44 +99,41 @@ impl Seen {
         }
     }
 
-    /// Whether an agent may be the one that moves q: no other does.
-    fn goes(&mut self, q: u8) -> bool {
-        let first = !has(self.going, q);
-        self.going |= 1 << q;
-        first
-    }
-
-    /// Whether place q is as it should be: its lock is free or held by an agent whose stage says so, it stands in a place in use, it is on
-    /// its way just if an agent moves it, and its touches, which are noted, are not too many.
-    fn place_fits(&mut self, cell: &Cell, q: u8) -> bool {
-        let place = &cell.places[q as usize];
-        let going = has(self.going, q);
-        let touches = cell.touches[q as usize];
-        if touches > MOST_TOUCHES - self.touches {
-            return false;
-        }
-        self.touches += touches;
-        (cell.locks[q as usize] == NONE || has(self.held, q))
-            && if q == 0 {
-                place.name == Name::NONE && place.parent == 0 && place.way != 0 && !going
-            } else {
-                place.name.name != 0 && has(cell.used, place.parent) && going == (place.way != 0)
+    /// The touches of all places, if these are as they should be: a lock is free or held by an agent whose stage says so; a place but the floor
+    /// has a name and leads to the floor; those on their way are those that agents move; and the touches, of which none has bits that all
+    /// together have not, are not too many.
+    fn touches(&self, cell: &Cell) -> Option<u64> {
+        let free = |q: u8| cell.locks[q as usize] == NONE || has(self.held, q);
+        let (mut known, mut on_way) = (1, 0);
+        let (mut sum, mut bits) = (cell.touches[0], cell.touches[0]);
+        for q in members(cell.used & !1) {
+            let place = &cell.places[q as usize];
+            sum = sum.wrapping_add(cell.touches[q as usize]);
+            bits |= cell.touches[q as usize];
+            if place.way != 0 {
+                on_way |= 1 << q;
             }
+            if !free(q) || place.name.name == 0 || !(has(known, place.parent) || leads_to_the_floor(cell, &mut known, q)) {
+                return None;
+            }
+            known |= 1 << q;
+        }
+        (free(0) && on_way == self.going && bits <= MOST_TOUCHES && sum <= MOST_TOUCHES).then_some(sum)
     }
 }
 
-/// Whether every number stands in the row, and so none twice and none above 63: eight numbers at a time.
-fn whole(order: &[u8; 64]) -> bool {
-    let (mut seen, mut all) = (0u64, 0);
-    for eight in order.chunks_exact(8) {
-        let mut word = u64::from_le_bytes([eight[0], eight[1], eight[2], eight[3], eight[4], eight[5], eight[6], eight[7]]);
-        all |= word;
-        for _ in 0..8 {
-            seen |= 1 << (word & 63);
-            word >>= 8;
+/// Whether following parents from q leads to a place that is known to lead to the floor, and never twice to the same; those on the way are then known too.
+fn leads_to_the_floor(cell: &Cell, known: &mut u64, mut q: u8) -> bool {
+    let mut path = 0u64;
+    while !has(*known, q) {
+        if !has(cell.used & !path, q) {
+            return false;
         }
+        path |= 1 << q;
+        q = cell.places[q as usize].parent;
     }
-    seen == u64::MAX && all & 0xC0C0_C0C0_C0C0_C0C0 == 0
+    *known |= path;
+    true
 }
 
 /// Whether q is in use and linked to p.
@@ -115,21 +144,4 @@ pub fn linked_to(cell: &Cell, q: u8, p: u8) -> bool {
 /// Whether q is in use and linked.
 pub fn linked(cell: &Cell, q: u8) -> bool {
     has(cell.used, q) && cell.places[q as usize].way == 0
-}
-
-/// Whether following parents leads every place to the floor: from each up to one that is known to lead there, and never twice to the same.
-fn all_lead_to_the_floor(cell: &Cell) -> bool {
-    let mut known = 1u64;
-    members(cell.used).all(|start| {
-        let (mut path, mut q) = (0u64, start);
-        while !has(known, q) {
-            if has(path, q) {
-                return false;
-            }
-            path |= 1 << q;
-            q = cell.places[q as usize].parent;
-        }
-        known |= path;
-        true
-    })
 }
