@@ -1,7 +1,10 @@
 //! The listing of a sound table. The parts of a place are written where they go, in the order of their numbers; then those that stand in another
 //! order than that of their texts are copied aside and back.
 
-use crate::cell::{members, Action, Agent, Cell, Name, LISTING_LONGEST};
+use crate::cell::{members, Agent, Cell, Name, LISTING_LONGEST};
+
+/// A text in which every listing has room.
+type Text = [u8; LISTING_LONGEST];
 
 /// Writes the listing and answers its length; nothing is written where it does not fit.
 pub fn list(cell: &Cell, text: &mut [u8]) -> Option<usize> {
@@ -21,24 +24,19 @@ fn list_short(cell: &Cell, text: &mut [u8]) -> Option<usize> {
 }
 
 /// Writes the listing to a text in which every listing has room, and answers its length.
-fn write(cell: &Cell, text: &mut [u8; LISTING_LONGEST]) -> usize {
+pub fn write(cell: &Cell, text: &mut Text) -> usize {
     let contents = Contents::of(cell);
-    let mut writer = Writer { text, at: 0, parts: [Part { start: 0, end: 0 }; PARTS], count: 0, aside: Vec::new() };
-    contents.write(cell, 0, &mut writer);
-    if writer.at == 0 {
-        writer.bytes(b"0");
+    let mut groups = Groups { parts: [Part { start: 0, end: 0 }; PARTS], count: 0, aside: Vec::new() };
+    match contents.write(cell, 0, text, 0, &mut groups) {
+        0 => put(text, 0, b"0"),
+        length => length,
     }
-    writer.at
 }
 
 /// For each place, the agents with unused actions that live in it and the places that stand in it.
 struct Contents {
     agents: [u64; 64],
     places: [u64; 64],
-}
-
-fn unused(agent: &Agent) -> &[Action] {
-    &agent.actions[agent.next as usize..agent.count as usize]
 }
 
 impl Contents {
@@ -56,52 +54,29 @@ impl Contents {
         contents
     }
 
-    /// Writes what is in place p: agents, then places, joined by bars, each of the two groups in the order of its texts.
-    fn write(&self, cell: &Cell, p: u8, writer: &mut Writer) {
-        let start = writer.at;
-        let group = writer.count;
+    /// Writes what is in place p: agents, then places, joined by bars, each of the two groups in the order of its texts. It starts there, and the
+    /// answer is where it ends.
+    fn write(&self, cell: &Cell, p: u8, text: &mut Text, start: usize, groups: &mut Groups) -> usize {
+        let (mut at, group) = (start, groups.count);
         for x in members(self.agents[p as usize]) {
-            let part = writer.begin(start);
-            writer.row(&cell.agents[x as usize]);
-            writer.end(part);
+            let part = begin(text, start, at);
+            at = row(text, part, &cell.agents[x as usize]);
+            groups.push(part, at);
         }
-        writer.sort(group);
+        groups.sort(group, text);
         for q in members(self.places[p as usize]) {
-            let part = writer.begin(start);
-            writer.name(&cell.places[q as usize].name);
-            writer.bytes(b"[");
-            self.write(cell, q, writer);
-            writer.bytes(b"]");
-            writer.end(part);
+            let part = begin(text, start, at);
+            at = name(text, part, &cell.places[q as usize].name);
+            at = put(text, at, b"[");
+            if self.agents[q as usize] | self.places[q as usize] != 0 {
+                at = self.write(cell, q, text, at, groups);
+            }
+            at = put(text, at, b"]");
+            groups.push(part, at);
         }
-        writer.sort(group);
+        groups.sort(group, text);
+        at
     }
-}
-
-/// How many parts there are at most: 63 places and 64 agents.
-const PARTS: usize = 127;
-
-/// Where a part's text starts, and where it ends.
-#[derive(Clone, Copy)]
-struct Part {
-    start: u16,
-    end: u16,
-}
-
-impl Part {
-    fn of<'a>(&self, text: &'a [u8]) -> &'a [u8] {
-        &text[self.start as usize..self.end as usize]
-    }
-}
-
-/// A text that is filled from its start on; the parts of the groups that are being written, those of the innermost last; and room for the
-/// text of parts that are put in order.
-struct Writer<'a> {
-    text: &'a mut [u8; LISTING_LONGEST],
-    at: usize,
-    parts: [Part; PARTS],
-    count: usize,
-    aside: Vec<u8>,
 }
 
 /// The two digits of each number below 100.
@@ -115,85 +90,139 @@ const PAIRS: [[u8; 2]; 100] = {
     pairs
 };
 
-impl Writer<'_> {
-    fn bytes<const N: usize>(&mut self, bytes: &[u8; N]) {
-        self.text[self.at..self.at + N].copy_from_slice(bytes);
-        self.at += N;
-    }
+/// Writes these bytes there, and answers where they end.
+fn put<const N: usize>(text: &mut Text, at: usize, bytes: &[u8; N]) -> usize {
+    text[at..at + N].copy_from_slice(bytes);
+    at + N
+}
 
-    fn number(&mut self, number: u16) {
-        let (high, [c, d]) = (number / 100, PAIRS[number as usize % 100]);
-        let [a, b] = PAIRS[high as usize % 100];
-        match number {
-            0..=9 => self.bytes(&[d]),
-            10..=99 => self.bytes(&[c, d]),
-            100..=999 => self.bytes(&[b, c, d]),
-            1000..=9999 => self.bytes(&[a, b, c, d]),
-            _ => self.bytes(&[b'0' + (high / 100) as u8, a, b, c, d]),
+/// A part begins, after a bar unless it is the first of a place whose contents start there.
+fn begin(text: &mut Text, start: usize, at: usize) -> usize {
+    if at > start {
+        put(text, at, b" | ")
+    } else {
+        at
+    }
+}
+
+#[inline(always)]
+fn number(text: &mut Text, at: usize, number: u16) -> usize {
+    match number {
+        0..=9 => put(text, at, &[b'0' + number as u8]),
+        10..=99 => put(text, at, &PAIRS[number as usize]),
+        _ => long_number(text, at, number as u32),
+    }
+}
+
+/// A number from 100 on.
+fn long_number(text: &mut Text, at: usize, number: u32) -> usize {
+    let high = number / 100;
+    let [a, b] = PAIRS[high as usize % 100];
+    let [c, d] = PAIRS[number as usize % 100];
+    match high {
+        0..=9 => put(text, at, &[b, c, d]),
+        10..=99 => put(text, at, &[a, b, c, d]),
+        _ => put(text, at, &[b'0' + (high / 100) as u8, a, b, c, d]),
+    }
+}
+
+/// A name and, where they do not all equal it, its keys.
+fn name(text: &mut Text, at: usize, name: &Name) -> usize {
+    let mut at = number(text, at, name.name);
+    if *name != Name::plain(name.name) {
+        for key in [name.entering, name.exiting, name.opening] {
+            at = put(text, at, b"/");
+            at = number(text, at, key);
         }
     }
+    at
+}
 
-    /// A name and, where they do not all equal it, its keys.
-    fn name(&mut self, name: &Name) {
-        self.number(name.name);
-        if *name != Name::plain(name.name) {
-            for key in [name.entering, name.exiting, name.opening] {
-                self.bytes(b"/");
-                self.number(key);
-            }
-        }
+/// An agent's unused actions, joined by full stops; it has some.
+fn row(text: &mut Text, at: usize, agent: &Agent) -> usize {
+    let [first, others @ ..] = &agent.actions[agent.next as usize..agent.count as usize] else { return at };
+    let at = match first.kind {
+        1 => put(text, at, b"enter "),
+        2 => put(text, at, b"exit "),
+        3 => put(text, at, b"open "),
+        _ => put(text, at, b"release "),
+    };
+    others.iter().fold(number(text, at, first.name), |at, action| {
+        let at = match action.kind {
+            1 => put(text, at, b".enter "),
+            2 => put(text, at, b".exit "),
+            3 => put(text, at, b".open "),
+            _ => put(text, at, b".release "),
+        };
+        number(text, at, action.name)
+    })
+}
+
+/// How many parts there are at most: 63 places and 64 agents.
+const PARTS: usize = 127;
+
+/// Where a part's text starts, and where it ends.
+#[derive(Clone, Copy)]
+struct Part {
+    start: u16,
+    end: u16,
+}
+
+impl Part {
+    fn of<'a>(&self, text: &'a Text) -> &'a [u8] {
+        &text[self.start as usize..self.end as usize]
     }
+}
 
-    /// An agent's unused actions, joined by full stops.
-    fn row(&mut self, agent: &Agent) {
-        for (i, action) in unused(agent).iter().enumerate() {
-            if i > 0 {
-                self.bytes(b".");
-            }
-            match action.kind {
-                1 => self.bytes(b"enter "),
-                2 => self.bytes(b"exit "),
-                3 => self.bytes(b"open "),
-                _ => self.bytes(b"release "),
-            }
-            self.number(action.name);
-        }
-    }
+/// The parts of the groups that are being written, those of the innermost last, and room for the text of parts that are put in order.
+struct Groups {
+    parts: [Part; PARTS],
+    count: usize,
+    aside: Vec<u8>,
+}
 
-    /// A part begins, after a bar unless it is the first of a place whose contents start there; answers where.
-    fn begin(&mut self, start: usize) -> usize {
-        if self.at > start {
-            self.bytes(b" | ");
-        }
-        self.at
-    }
-
-    /// The part that began there is written.
-    fn end(&mut self, start: usize) {
-        self.parts[self.count] = Part { start: start as u16, end: self.at as u16 };
+impl Groups {
+    /// A part is written.
+    fn push(&mut self, start: usize, end: usize) {
+        self.parts[self.count] = Part { start: start as u16, end: end as u16 };
         self.count += 1;
     }
 
     /// Puts the parts from this one on, which stand at the end of the text, in the order of their texts, and is done with them.
-    fn sort(&mut self, group: usize) {
+    fn sort(&mut self, group: usize, text: &mut Text) {
         let parts = &mut self.parts[group..self.count];
         self.count = group;
-        if parts.is_sorted_by(|one, other| one.of(self.text) <= other.of(self.text)) {
+        if parts.is_sorted_by(|one, other| one.of(text) <= other.of(text)) {
             return;
         }
-        let from = parts[0].start as usize;
-        parts.sort_unstable_by(|one, other| one.of(self.text).cmp(other.of(self.text)));
-        self.aside.clear();
-        self.aside.extend_from_slice(&self.text[from..self.at]);
-        self.at = from;
-        for part in parts {
-            if self.at > from {
-                self.text[self.at..self.at + 3].copy_from_slice(b" | ");
-                self.at += 3;
-            }
-            let text = &self.aside[part.start as usize - from..part.end as usize - from];
-            self.text[self.at..self.at + text.len()].copy_from_slice(text);
-            self.at += text.len();
+        if let [one, other] = *parts {
+            return self.swap(text, one, other);
         }
+        let (from, to) = (parts[0].start as usize, parts[parts.len() - 1].end as usize);
+        parts.sort_unstable_by(|one, other| one.of(text).cmp(other.of(text)));
+        self.aside.clear();
+        self.aside.extend_from_slice(&text[from..to]);
+        let mut at = from;
+        for part in parts {
+            at = begin(text, from, at);
+            let moved = &self.aside[part.start as usize - from..part.end as usize - from];
+            text[at..at + moved.len()].copy_from_slice(moved);
+            at += moved.len();
+        }
+    }
+    /// Two parts that stand one after the other change places; the shorter one is copied aside.
+    fn swap(&mut self, text: &mut Text, one: Part, other: Part) {
+        let (start, middle) = (one.start as usize, one.start as usize + other.of(text).len());
+        self.aside.clear();
+        if one.of(text).len() < other.of(text).len() {
+            self.aside.extend_from_slice(one.of(text));
+            text.copy_within(other.start as usize..other.end as usize, start);
+            text[middle + 3..other.end as usize].copy_from_slice(&self.aside);
+        } else {
+            self.aside.extend_from_slice(other.of(text));
+            text.copy_within(start..one.end as usize, middle + 3);
+            text[start..middle].copy_from_slice(&self.aside);
+        }
+        put(text, middle, b" | ");
     }
 }
