@@ -12,7 +12,7 @@ mod whereabouts;
 
 use crate::cell::{has, Cell};
 use crate::keeper::Keeper;
-use crate::tuned::{take, Tuned, ANSWER_DIFFERS, NOT_GIVEN, NOWHERE, NO_SUCH_AGENT, TOO_LARGE, TOO_LONG, TOO_MANY_TOUCHES, UNSOUND};
+use crate::tuned::{Tuned, ANSWER_DIFFERS, NOT_GIVEN, NOWHERE, NO_SUCH_AGENT, TOO_LARGE, TOO_LONG, TOO_MANY_TOUCHES, UNSOUND};
 use sound::{few_touches, sound};
 
 /// The plain Rust keeper.
@@ -29,7 +29,13 @@ impl Keeper for Plain {
 
     #[inline(never)]
     fn read(cell: &mut Cell, text: &[u8]) -> u64 {
-        take(cell, read::read(text))
+        match read::read(text) {
+            Ok(given) => {
+                *cell = given;
+                0
+            }
+            Err(refused) => refused.answer(),
+        }
     }
 
     #[inline(never)]

@@ -4,7 +4,6 @@ use super::list::list;
 use super::load::load;
 use super::sound::{linked, linked_to};
 use super::step::{next_action, ENTER, EXIT, OPEN};
-use super::take;
 use crate::cell::{has, members, Cell, Name, Place, LISTING_LONGEST, NONE};
 
 /// A reason: a move that is not permitted.
@@ -26,10 +25,10 @@ pub fn denied(moves: usize, reason: u8) -> u64 {
 
 /// The answer of an audit.
 pub fn audit(file: &[u8], trail: &[u8], text: &[u8]) -> u64 {
-    let mut cell = match load(file) {
-        Ok(cell) => cell,
-        refused => return take(&mut Cell::BARE.clone(), refused),
-    };
+    let mut cell = Cell::BARE;
+    if let Err(refused) = load(&mut cell, file) {
+        return refused.answer();
+    }
     let (moves, odd) = trail.as_chunks::<2>();
     if !odd.is_empty() {
         return denied(moves.len(), ODD_BYTE);

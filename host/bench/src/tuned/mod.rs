@@ -43,14 +43,15 @@ pub const NOWHERE: u8 = 255;
 /// The tuned Rust keeper.
 pub struct Tuned;
 
-/// Takes the cell of a file or a text, and answers 0; or its refusal.
-pub fn take(cell: &mut Cell, given: Result<Cell, Refused>) -> u64 {
-    match given {
-        Ok(given) => {
+/// Makes a bare floor the cell of some bytes, and sets the cell to it and answers 0; or answers why they are refused.
+fn given(cell: &mut Cell, bytes: &[u8], fill: fn(&mut Cell, &[u8]) -> Result<(), Refused>) -> u64 {
+    let mut given = Cell::BARE;
+    match fill(&mut given, bytes) {
+        Ok(()) => {
             *cell = given;
             0
         }
-        Err(refused) => (refused.offset as u64) << 8 | refused.number as u64,
+        Err(refused) => refused.answer(),
     }
 }
 
@@ -63,12 +64,12 @@ impl Keeper for Tuned {
 
     #[inline(never)]
     fn load(cell: &mut Cell, file: &[u8]) -> u64 {
-        take(cell, load::load(file))
+        given(cell, file, load::load)
     }
 
     #[inline(never)]
     fn read(cell: &mut Cell, text: &[u8]) -> u64 {
-        take(cell, read::read(text))
+        given(cell, text, read::read)
     }
 
     #[inline(never)]

@@ -5,24 +5,25 @@ use super::load::Refused;
 use super::{OUTSIDE_LANGUAGE, TOO_MANY};
 use crate::cell::{Action, Cell, Name, Place};
 
-/// The cell of a whole text, or its refusal.
-pub fn read(text: &[u8]) -> Result<Cell, Refused> {
-    let mut site = Site { cell: Cell::BARE, places: 0, agents: 0, here: 0, lost: 0, over: false };
-    let fault = |offset| Refused { number: OUTSIDE_LANGUAGE, offset };
-    if text.first() == Some(&b'0') {
-        return if text.len() == 1 { Ok(site.cell) } else { Err(fault(1)) };
+/// Makes a bare floor the cell of a whole text, or answers its refusal.
+pub fn read(cell: &mut Cell, text: &[u8]) -> Result<(), Refused> {
+    let fault = |rest: usize| Refused { number: OUTSIDE_LANGUAGE, offset: text.len() - rest };
+    if let [b'0', rest @ ..] = text {
+        return if rest.is_empty() { Ok(()) } else { Err(fault(rest.len())) };
     }
+    let mut site = Site { cell, places: 0, agents: 0, here: 0, lost: 0, over: false };
     parts(text, &mut site).map_err(fault)?;
     if site.over {
         return Err(Refused { number: TOO_MANY, offset: text.len() });
     }
-    Ok(site.finished())
+    site.finish();
+    Ok(())
 }
 
 /// The cell so far: how many places and agents, the place whose contents are read, how many places within it that did not fit are open, and
 /// whether there were too many of anything.
-struct Site {
-    cell: Cell,
+struct Site<'a> {
+    cell: &'a mut Cell,
     places: usize,
     agents: usize,
     here: u8,
@@ -30,7 +31,7 @@ struct Site {
     over: bool,
 }
 
-impl Site {
+impl Site<'_> {
     fn place(&mut self, name: Name) {
         if self.places == 63 {
             self.over = true;
@@ -55,113 +56,119 @@ impl Site {
     }
 
     /// The sets and the row, which follow from the counts.
-    fn finished(self) -> Cell {
-        let Site { mut cell, places, agents, .. } = self;
+    fn finish(self) {
+        let Site { cell, places, agents, .. } = self;
         cell.used = u64::MAX >> (63 - places);
         cell.given = if agents == 0 { 0 } else { u64::MAX >> (64 - agents) };
         let row = (0..1).chain(places as u8 + 1..64).chain(1..places as u8 + 1);
         cell.order.iter_mut().zip(row).for_each(|(place, number)| *place = number);
-        cell
     }
 }
 
-/// Reads all parts to the end of the text; a fault is its offset.
+/// What is left of a text after something was read, or a fault: how many bytes are left where it is.
+type Left<'a, T> = Result<(T, &'a [u8]), usize>;
+
+/// Reads all parts to the end of the text.
 fn parts(text: &[u8], site: &mut Site) -> Result<(), usize> {
-    let mut at = 0;
+    let mut rest = text;
     loop {
-        match text.get(at) {
-            Some(b'1'..=b'9') => {
+        match rest {
+            [b'1'..=b'9', ..] => {
                 let name;
-                (name, at) = head(text, at)?;
+                (name, rest) = head(rest)?;
                 site.place(name);
-                if text.get(at) != Some(&b']') {
+                if rest.first() != Some(&b']') {
                     continue;
                 }
             }
-            _ => at = agent(text, at, site)?,
+            _ => rest = agent(rest, site)?,
         }
-        while text.get(at) == Some(&b']') {
+        while let [b']', after @ ..] = rest {
             if !site.close() {
-                return Err(at);
+                return Err(rest.len());
             }
-            at += 1;
+            rest = after;
         }
-        if at == text.len() && site.here == 0 && site.lost == 0 {
+        if rest.is_empty() && site.here == 0 && site.lost == 0 {
             return Ok(());
         }
-        at = expect(text, at, b" | ")?;
+        rest = expect(rest, b" | ")?;
     }
 }
 
-/// The offset after these bytes, or that of the first that differs.
-fn expect(text: &[u8], at: usize, bytes: &[u8]) -> Result<usize, usize> {
-    if text[at..].starts_with(bytes) {
-        return Ok(at + bytes.len());
-    }
-    Err(at + text[at..].iter().zip(bytes).take_while(|(one, other)| one == other).count())
+/// What is left after these bytes; a fault is at the first that differs.
+fn expect<'a, const N: usize>(text: &'a [u8], bytes: &[u8; N]) -> Result<&'a [u8], usize> {
+    text.strip_prefix(bytes).ok_or_else(|| text.len() - text.iter().zip(bytes).take_while(|(one, other)| one == other).count())
 }
 
-/// A place's name and keys, and the offset after the bracket.
-fn head(text: &[u8], at: usize) -> Result<(Name, usize), usize> {
-    let (name, mut at) = number(text, at)?;
+/// A place's name and keys, up to its bracket.
+fn head(text: &[u8]) -> Left<'_, Name> {
+    let (name, mut rest) = number(text)?;
     let mut keys = [name; 3];
-    if text.get(at) == Some(&b'/') {
+    if rest.first() == Some(&b'/') {
         for key in &mut keys {
-            at = expect(text, at, b"/")?;
-            (*key, at) = if text.get(at) == Some(&b'0') { (0, at + 1) } else { number(text, at)? };
+            rest = expect(rest, b"/")?;
+            (*key, rest) = if let [b'0', after @ ..] = rest { (0, after) } else { number(rest)? };
         }
     }
     let [entering, exiting, opening] = keys;
-    Ok((Name { name, entering, exiting, opening }, expect(text, at, b"[")?))
+    Ok((Name { name, entering, exiting, opening }, expect(rest, b"[")?))
 }
 
-/// An agent's actions, and the offset after them.
-fn agent(text: &[u8], mut at: usize, site: &mut Site) -> Result<usize, usize> {
-    let fits = site.agents < 64;
+/// An agent's actions, up to what is left after them.
+fn agent<'a>(text: &'a [u8], site: &mut Site) -> Result<&'a [u8], usize> {
     let (mut count, mut actions) = (0, [Action { kind: 0, name: 0 }; 16]);
+    let mut rest = text;
     loop {
-        let (word, kind): (&[u8], u8) = match text.get(at..at + 2) {
-            Some(b"en") => (b"enter ", 1),
-            Some(b"ex") => (b"exit ", 2),
-            Some(b"op") => (b"open ", 3),
-            Some(b"re") => (b"release ", 4),
-            _ => return Err(if matches!(text.get(at), Some(b'e' | b'o' | b'r')) { at + 1 } else { at }),
-        };
-        let name;
-        (name, at) = number(text, expect(text, at, word)?)?;
+        let (kind, name);
+        (kind, rest) = word(rest)?;
+        (name, rest) = number(rest)?;
         match actions.get_mut(count) {
             Some(action) => *action = Action { kind, name },
             None => site.over = true,
         }
         count += 1;
-        if text.get(at) != Some(&b'.') {
-            break;
+        match rest {
+            [b'.', after @ ..] => rest = after,
+            _ => break,
         }
-        at += 1;
     }
-    if fits {
-        let agent = &mut site.cell.agents[site.agents];
-        (agent.home, agent.stage, agent.count, agent.actions) = (site.here, 0, count as u8, actions);
-        site.agents += 1;
-    } else {
-        site.over = true;
+    match site.cell.agents.get_mut(site.agents) {
+        Some(agent) => {
+            (agent.home, agent.stage, agent.count, agent.actions) = (site.here, 0, count as u8, actions);
+            site.agents += 1;
+        }
+        None => site.over = true,
     }
-    Ok(at)
+    Ok(rest)
 }
 
-/// A number from 1 on, and the offset after it.
-fn number(text: &[u8], mut at: usize) -> Result<(u16, usize), usize> {
-    let mut number = match text.get(at) {
-        Some(digit @ b'1'..=b'9') => (digit - b'0') as u32,
-        _ => return Err(at),
-    };
-    at += 1;
-    while let Some(digit @ b'0'..=b'9') = text.get(at) {
-        number = 10 * number + (digit - b'0') as u32;
-        if number > 65_535 {
-            return Err(at);
-        }
-        at += 1;
+/// The kind of an action by its word, up to the number.
+fn word(text: &[u8]) -> Left<'_, u8> {
+    match text {
+        [b'e', b'n', ..] => Ok((1, expect(text, b"enter ")?)),
+        [b'e', b'x', ..] => Ok((2, expect(text, b"exit ")?)),
+        [b'o', ..] => Ok((3, expect(text, b"open ")?)),
+        [b'r', ..] => Ok((4, expect(text, b"release ")?)),
+        [b'e', after @ ..] => Err(after.len()),
+        _ => Err(text.len()),
     }
-    Ok((number as u16, at))
+}
+
+/// A number from 1 to 65,535, in as many digits as it has.
+fn number(text: &[u8]) -> Left<'_, u16> {
+    let digit = |byte: u8| byte.wrapping_sub(b'0') as u32;
+    let mut number = match text {
+        [byte @ b'1'..=b'9', ..] => digit(*byte),
+        _ => return Err(text.len()),
+    };
+    let mut rest = &text[1..];
+    while let [byte @ b'0'..=b'9', after @ ..] = rest {
+        number = 10 * number + digit(*byte);
+        if number > 65_535 {
+            return Err(rest.len());
+        }
+        rest = after;
+    }
+    Ok((number as u16, rest))
 }
