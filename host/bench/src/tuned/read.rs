@@ -7,9 +7,9 @@ use crate::cell::{Action, Cell, Name, Place};
 
 /// Makes a bare floor the cell of a whole text, or answers its refusal.
 pub fn read(cell: &mut Cell, text: &[u8]) -> Result<(), Refused> {
-    let fault = |rest: usize| Refused { number: OUTSIDE_LANGUAGE, offset: text.len() - rest };
-    if let [b'0', rest @ ..] = text {
-        return if rest.is_empty() { Ok(()) } else { Err(fault(rest.len())) };
+    let fault = |offset| Refused { number: OUTSIDE_LANGUAGE, offset };
+    if text.first() == Some(&b'0') {
+        return if text.len() == 1 { Ok(()) } else { Err(fault(1)) };
     }
     let mut site = Site { cell, places: 0, agents: 0, here: 0, lost: 0, over: false };
     parts(text, &mut site).map_err(fault)?;
@@ -65,73 +65,83 @@ impl Site<'_> {
     }
 }
 
-/// What is left of a text after something was read, or a fault: how many bytes are left where it is.
-type Left<'a, T> = Result<(T, &'a [u8]), usize>;
+/// Something that was read, with the offset after it; or the offset of a fault.
+type Read<T> = Result<(T, usize), usize>;
 
 /// Reads all parts to the end of the text.
 fn parts(text: &[u8], site: &mut Site) -> Result<(), usize> {
-    let mut rest = text;
+    let mut at = 0;
     loop {
-        match rest {
-            [b'1'..=b'9', ..] => {
+        match text.get(at) {
+            Some(b'1'..=b'9') => {
                 let name;
-                (name, rest) = head(rest)?;
+                (name, at) = head(text, at)?;
                 site.place(name);
-                if rest.first() != Some(&b']') {
+                if text.get(at) != Some(&b']') {
                     continue;
                 }
             }
-            _ => rest = agent(rest, site)?,
+            _ => at = agent(text, at, site)?,
         }
-        while let [b']', after @ ..] = rest {
+        while text.get(at) == Some(&b']') {
             if !site.close() {
-                return Err(rest.len());
+                return Err(at);
             }
-            rest = after;
+            at += 1;
         }
-        if rest.is_empty() && site.here == 0 && site.lost == 0 {
+        if at == text.len() && site.here == 0 && site.lost == 0 {
             return Ok(());
         }
-        rest = expect(rest, b" | ")?;
+        at = expect(text, at, b" | ")?;
     }
 }
 
-/// What is left after these bytes; a fault is at the first that differs.
-fn expect<'a, const N: usize>(text: &'a [u8], bytes: &[u8; N]) -> Result<&'a [u8], usize> {
-    text.strip_prefix(bytes).ok_or_else(|| text.len() - text.iter().zip(bytes).take_while(|(one, other)| one == other).count())
+/// The offset after these bytes, or that of the first that differs.
+fn expect<const N: usize>(text: &[u8], at: usize, bytes: &[u8; N]) -> Result<usize, usize> {
+    if text[at..].starts_with(bytes) {
+        return Ok(at + N);
+    }
+    Err(at + text[at..].iter().zip(bytes).take_while(|(one, other)| one == other).count())
+}
+
+/// The eight bytes from there on, the first one lowest; 0 for those after the end.
+fn eight(text: &[u8], at: usize) -> u64 {
+    match text[at..].first_chunk() {
+        Some(&bytes) => u64::from_le_bytes(bytes),
+        None => text[at..].iter().rev().fold(0, |word, &byte| word << 8 | byte as u64),
+    }
 }
 
 /// A place's name and keys, up to its bracket.
-fn head(text: &[u8]) -> Left<'_, Name> {
-    let (name, mut rest) = number(text)?;
+fn head(text: &[u8], at: usize) -> Read<Name> {
+    let (name, mut at) = number(text, at)?;
     let mut keys = [name; 3];
-    if rest.first() == Some(&b'/') {
+    if text.get(at) == Some(&b'/') {
         for key in &mut keys {
-            rest = expect(rest, b"/")?;
-            (*key, rest) = if let [b'0', after @ ..] = rest { (0, after) } else { number(rest)? };
+            at = expect(text, at, b"/")?;
+            (*key, at) = if text.get(at) == Some(&b'0') { (0, at + 1) } else { number(text, at)? };
         }
     }
     let [entering, exiting, opening] = keys;
-    Ok((Name { name, entering, exiting, opening }, expect(rest, b"[")?))
+    Ok((Name { name, entering, exiting, opening }, expect(text, at, b"[")?))
 }
 
-/// An agent's actions, up to what is left after them.
-fn agent<'a>(text: &'a [u8], site: &mut Site) -> Result<&'a [u8], usize> {
+/// An agent's actions, and the offset after them.
+fn agent(text: &[u8], mut at: usize, site: &mut Site) -> Result<usize, usize> {
     let (mut count, mut actions) = (0, [Action { kind: 0, name: 0 }; 16]);
-    let mut rest = text;
     loop {
         let (kind, name);
-        (kind, rest) = word(rest)?;
-        (name, rest) = number(rest)?;
+        (kind, at) = word(text, at)?;
+        (name, at) = number(text, at)?;
         match actions.get_mut(count) {
             Some(action) => *action = Action { kind, name },
             None => site.over = true,
         }
         count += 1;
-        match rest {
-            [b'.', after @ ..] => rest = after,
-            _ => break,
+        if text.get(at) != Some(&b'.') {
+            break;
         }
+        at += 1;
     }
     match site.cell.agents.get_mut(site.agents) {
         Some(agent) => {
@@ -140,35 +150,43 @@ fn agent<'a>(text: &'a [u8], site: &mut Site) -> Result<&'a [u8], usize> {
         }
         None => site.over = true,
     }
-    Ok(rest)
+    Ok(at)
 }
 
-/// The kind of an action by its word, up to the number.
-fn word(text: &[u8]) -> Left<'_, u8> {
-    match text {
-        [b'e', b'n', ..] => Ok((1, expect(text, b"enter ")?)),
-        [b'e', b'x', ..] => Ok((2, expect(text, b"exit ")?)),
-        [b'o', ..] => Ok((3, expect(text, b"open ")?)),
-        [b'r', ..] => Ok((4, expect(text, b"release ")?)),
-        [b'e', after @ ..] => Err(after.len()),
-        _ => Err(text.len()),
+/// The kind of an action by its word, and the offset of the number.
+fn word(text: &[u8], at: usize) -> Read<u8> {
+    let word = eight(text, at);
+    match () {
+        _ if word << 16 == u64::from_le_bytes(*b"\0\0enter ") => Ok((1, at + 6)),
+        _ if word << 24 == u64::from_le_bytes(*b"\0\0\0exit ") => Ok((2, at + 5)),
+        _ if word << 24 == u64::from_le_bytes(*b"\0\0\0open ") => Ok((3, at + 5)),
+        _ if word == u64::from_le_bytes(*b"release ") => Ok((4, at + 8)),
+        _ => Err(word_fault(text, at)),
     }
 }
 
-/// A number from 1 to 65,535, in as many digits as it has.
-fn number(text: &[u8]) -> Left<'_, u16> {
-    let digit = |byte: u8| byte.wrapping_sub(b'0') as u32;
-    let mut number = match text {
-        [byte @ b'1'..=b'9', ..] => digit(*byte),
-        _ => return Err(text.len()),
+/// The offset at which no word goes on so.
+#[cold]
+fn word_fault(text: &[u8], at: usize) -> usize {
+    let words: [&[u8]; 4] = [b"enter ", b"exit ", b"open ", b"release "];
+    let same = |word: &[u8]| text[at..].iter().zip(word).take_while(|(one, other)| one == other).count();
+    at + words.map(same).into_iter().max().unwrap_or(0)
+}
+
+/// A number from 1 to 65,535, and the offset after it.
+#[inline(always)]
+fn number(text: &[u8], mut at: usize) -> Read<u16> {
+    let mut number = match text.get(at) {
+        Some(digit @ b'1'..=b'9') => (digit - b'0') as u32,
+        _ => return Err(at),
     };
-    let mut rest = &text[1..];
-    while let [byte @ b'0'..=b'9', after @ ..] = rest {
-        number = 10 * number + digit(*byte);
+    at += 1;
+    while let Some(digit @ b'0'..=b'9') = text.get(at) {
+        number = 10 * number + (digit - b'0') as u32;
         if number > 65_535 {
-            return Err(rest.len());
+            return Err(at);
         }
-        rest = after;
+        at += 1;
     }
-    Ok((number as u16, rest))
+    Ok((number as u16, at))
 }
