@@ -82,7 +82,7 @@ fn job(job: &Job) -> Result<usize, String> {
             same("cells", rooms.each_ref().map(|room| room.cell))?;
             same("texts", rooms.map(|room| room.text)).map(|_| 1)
         }
-        Job::Audit { claim, .. } => trails::audit(claim).map(|_| 1),
+        Job::Audit { claim } => trails::audit(claim).map(|_| 1),
         Job::Trail { asks } => asks.iter().try_for_each(|&(agent, asked)| trails::trail(agent, asked)).map(|_| asks.len()),
         Job::Copy { .. } => Ok(0),
     }

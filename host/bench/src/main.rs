@@ -1,7 +1,7 @@
 //! What a call of the proved keeper costs beside two Rust keepers with the same tests, a plain and a tuned one, in one process.
 //!
-//! `bench [--quick] [NAME]` prints the table, of the workloads whose names contain NAME. `--sweep` prints the cost of a step against the
-//! size of the cell, as CSV. `--words` prints what the step calls answer. `--count` makes one lap of each for the script `instructions`.
+//! `bench [--quick] [NAME]` prints the table, of the workloads whose names contain NAME. `--sweep` prints the cost of four
+//! calls against the size of the cell, as CSV. `--words` prints what the step calls answer. `--count` makes one lap of each for the script `instructions`.
 
 mod card;
 mod cell;
@@ -12,15 +12,19 @@ mod jobs;
 mod keeper;
 mod measure;
 mod plain;
+mod rows;
+mod sweep;
 mod texts;
 mod trails;
 mod tuned;
 mod walk;
 
-use jobs::{sweep, workloads, Beside, Job, Limits, Room, Workload};
+use jobs::{Goal, Job, Room, Workload};
 use keeper::{Keeper, Proved};
 use measure::{measure, Pace};
 use plain::Plain;
+use rows::workloads;
+use sweep::sweep;
 use tuned::Tuned;
 
 fn main() {
@@ -48,46 +52,35 @@ fn main() {
     }
 }
 
-/// The table: each workload with the time of a call.
+/// The table: each workload with the time of a call, and its goal.
 fn table(workloads: &[Workload], pace: &Pace) {
-    println!("{:<28}{:>12}{:>12}{:>12}{:>9}{:>9}{:>6}{:>5}", "", "plain ns", "tuned ns", "keeper ns", "k/plain", "k/tuned", "goal", "bar");
+    println!("{:<28}{:>12}{:>12}{:>12}{:>9}{:>9}  goal", "", "plain ns", "tuned ns", "keeper ns", "k/plain", "k/tuned");
     for workload in workloads {
         let cost = measure(&workload.job, pace);
         let own = workload.job.is_own_of_plain();
         let if_own = |value: f64, digits: usize| if own { format!("{value:.digits$}") } else { String::new() };
         let (plain, ratio) = (if_own(cost.plain, 1), if_own(cost.keeper_to_plain, 2));
         print!("{:<28}{plain:>12}{:>12.1}{:>12.1}{ratio:>9}{:>9.2}", workload.name, cost.tuned, cost.keeper, cost.keeper_to_tuned);
-        match workload.limits {
+        match workload.goal {
             None => println!(),
-            Some(limits) => {
-                let bar = limits.bar.map_or(String::new(), |bar| format!("{bar:.1}"));
-                let ratio = match limits.beside {
-                    Beside::Plain => cost.keeper_to_plain,
-                    Beside::Tuned => cost.keeper_to_tuned,
-                    Beside::Bytes => cost.keeper / workload.job.bytes() as f64,
-                };
-                let unit = if matches!(limits.beside, Beside::Bytes) { format!(", {ratio:.2} ns a byte") } else { String::new() };
-                println!("{:>6.1}{bar:>5}  {}{unit}", limits.goal, verdict(ratio, limits));
-            }
+            Some(Goal::Tuned(goal)) => println!("  {goal:.2}, {}", verdict(cost.keeper_to_tuned, goal)),
+            Some(Goal::Step(goal)) => println!("  {goal:.2} of step"),
         }
     }
 }
 
-/// What a ratio says of its limits; it is judged as it is printed, with two digits.
-fn verdict(ratio: f64, limits: Limits) -> &'static str {
-    let ratio = (ratio * 100.0).round() / 100.0;
-    if ratio <= limits.goal {
+/// Whether a ratio is within a goal; it is judged as it is printed, with two digits.
+fn verdict(ratio: f64, goal: f64) -> &'static str {
+    if (ratio * 100.0).round() / 100.0 <= goal {
         "met"
-    } else if limits.bar.is_some_and(|bar| ratio > bar) {
-        "above the bar"
     } else {
-        "above the goal"
+        "missed"
     }
 }
 
 /// The sweep as CSV.
 fn csv(workloads: &[Workload], pace: &Pace) {
-    println!("series,places,agents,plain,tuned,keeper");
+    println!("call,series,places,agents,plain,tuned,keeper");
     for workload in workloads {
         let cost = measure(&workload.job, pace);
         println!("{},{:.1},{:.1},{:.1}", workload.name, cost.plain, cost.tuned, cost.keeper);

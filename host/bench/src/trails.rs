@@ -3,7 +3,7 @@
 use crate::cell::{members, Cell, LISTING_LONGEST};
 use crate::cells::{enter, exit, open, release, typical, Random, Sketch};
 use crate::compare::same;
-use crate::jobs::{Job, Workload};
+use crate::jobs::{Goal, Job, Workload};
 use crate::keeper::{Keeper, Proved};
 use crate::plain::Plain;
 use crate::tuned::Tuned;
@@ -59,21 +59,17 @@ fn of_full() -> Claim {
     Claim { file: moving().file(), trail, listing: parts.collect::<Vec<_>>().join(" | ").into_bytes() }
 }
 
-/// The rows of checks: a whole check, and the same by its moves; a trail of a megabyte, which is denied after 1,024 moves; and what is written of asks.
-pub fn workloads() -> Vec<Workload> {
-    let row =
-        |name: &str, claim: Claim, by_moves: bool| Workload { name: name.to_string(), limits: None, job: Job::Audit { claim, by_moves } };
-    let of_typical = || of_run(&mut Random(41), typical().file(), 4_000);
+/// The rows of checks, with this goal: a whole check; of a trail of a megabyte, which is denied after 1,024 moves; and what is written of asks.
+pub fn workloads(goal: Option<Goal>) -> Vec<Workload> {
+    let row = |name: &str, claim: Claim| Workload { name: name.to_string(), goal, job: Job::Audit { claim } };
     let mut long = of_full();
     long.trail.resize(MEGABYTE, 0);
     let asks = (0..400).map(|i| (i as u8 % 64, (i % 11) << 8 | (i % 64) << 24)).collect();
     vec![
-        row("audit, typical", of_typical(), false),
-        row("audit, typical, a move", of_typical(), true),
-        row("audit, full", of_full(), false),
-        row("audit, full, a move", of_full(), true),
-        row("audit, a megabyte", long, false),
-        Workload { name: "trail, of asks".to_string(), limits: None, job: Job::Trail { asks } },
+        row("audit, typical", of_run(&mut Random(41), typical().file(), 4_000)),
+        row("audit, full", of_full()),
+        row("audit, a megabyte", long),
+        Workload { name: "trail, of asks".to_string(), goal: None, job: Job::Trail { asks } },
     ]
 }
 

@@ -41,7 +41,15 @@ fn row_fits(row: &[Action; 16]) -> bool {
 
 /// The same of the unused actions, of which there may be fewer.
 fn actions_fit(agent: &Agent, unused: &[Action]) -> bool {
-    agent.count == 16 && row_fits(&agent.actions) || unused.iter().all(|action| matches!(action.kind, 1..=4) && action.name != 0)
+    if agent.count == 16 && row_fits(&agent.actions) {
+        return true;
+    }
+    for action in unused {
+        if !matches!(action.kind, 1..=4) || action.name == 0 {
+            return false;
+        }
+    }
+    true
 }
 
 /// What the agents say: the places whose locks they hold, and the places on their way.
