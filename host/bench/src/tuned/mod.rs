@@ -1,6 +1,7 @@
 //! The tuned peer: a Rust keeper with the same calls, the same tests at every call, and the same answers, written to be fast.
 //!
-//! The cell is changed in place. Every pass walks over the numbers in use only, and leaves at the first fault. Nothing is remembered between calls, so every call tests soundness in full, as the proved keeper does.
+//! The cell is changed in place. Every pass over places and agents walks over the numbers in use only. Nothing is remembered between calls, so every
+//! call tests soundness in full, as the proved keeper does.
 //! The calls are not inlined into the loops that measure them, as those of the library are not.
 
 mod ask;
