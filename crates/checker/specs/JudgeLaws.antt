@@ -24,9 +24,10 @@ use Rattle.demands.specs.Layouts.{tree-listing}
 use Rattle.demands.specs.LoadingFile.{accepted-fresh}
 use Rattle.demands.specs.LoadingLaws.{fresh-inv, fresh-forth}
 use Rattle.demands.specs.ReadingLaws.{agent-given}
+use Rattle.text.specs.Same.{sameText}
 use Rattle.trail.specs.declared.Finding.{Finding}
 use Rattle.trail.specs.declared.Finding.the-variants.{Upheld, Denied, BadFile}
-use Rattle.trail.specs.Trail.{allows, moved, whyNot, oddByte, otherLayout, sameText, judged, findingOf, finding}
+use Rattle.trail.specs.Trail.{allows, moved, whyNot, oddByte, otherLayout, judged, findingOf, finding}
 use Rattle.checker.specs.declared.Played.{Played}
 use Rattle.checker.specs.declared.Turned.{Turned}
 use Rattle.checker.specs.OnTable.{Ready, Turns, findingOn, byListing, Stops, Plays}

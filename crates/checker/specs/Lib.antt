@@ -2,6 +2,5 @@ pub mod OnTable
 pub mod BackLaws
 pub mod MadeLaws
 pub mod TestLaws
-pub mod TextLaws
 pub mod TurnLaws
 pub mod JudgeLaws

@@ -25,9 +25,10 @@ use Rattle.demands.specs.Invariant.{Fit}
 use Rattle.moves.specs.Motions.{shifted}
 use Rattle.moves.specs.declared.Motion.{Motion}
 use Rattle.moves.specs.declared.Motion.the-variants.{Leave, Dissolve, Put}
+use Rattle.text.specs.Same.{sameText}
 use Rattle.trail.specs.declared.Finding.{Finding}
 use Rattle.trail.specs.declared.Finding.the-variants.{Upheld, Denied, BadFile}
-use Rattle.trail.specs.Trail.{allows, moved, whyNot, notPermitted, noActionLeft, oddByte, otherLayout, sameText, judged, finding}
+use Rattle.trail.specs.Trail.{allows, moved, whyNot, notPermitted, noActionLeft, oddByte, otherLayout, judged, finding}
 use Rattle.checker.specs.declared.Played.{Played}
 use Rattle.checker.specs.declared.Turned.{Turned}
 

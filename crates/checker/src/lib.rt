@@ -3,12 +3,10 @@
 // No lock is taken and no stage is read: a move is one call of `moves::shift`, whose time is bounded by the 64 places and agents.
 mod making;
 mod rules;
-mod texts;
 
 use making::turn;
 use meaning::Verdict;
 use table::Cell;
-use texts::lists_as;
 use trail::Finding;
 ghost use mathlib.Core.Path.{_≡_};
 ghost use mathlib.Core.Logic.{_≢_};
@@ -111,7 +109,7 @@ fn judge_even(file: &[u8], trail: &[u8], text: &[u8]) -> Finding
                 return Finding::Denied(p.made, p.reason);
             }
             let d = p.cell;
-            if lists_as(d, text) {
+            if lister::is_listing(d, text) {
                 return Finding::Upheld;
             }
             Finding::Denied(p.made, 4)

@@ -3,10 +3,10 @@
 use mathlib.Core.Path.{_≡_, refl, ap, _∙_}
 use mathlib.Core.Bool.{Bool, true, false, not, _&&_, cond}
 use mathlib.Core.List.{List}
-use Prim.Native.Nat.{ℕ, _<_}
+use Prim.Native.Nat.{ℕ, _<_, _≤_}
 use native.Mathlib.Omega.{arith}
 use lib.Dec.{eqb}
-use lib.ListN.{getD}
+use lib.ListN.{length, getD}
 use borrow.Author.Tests.{ne-eqb}
 use Rattle.sets.specs.Word.{has}
 use Rattle.sets.specs.WordLaws.{has-word}
@@ -17,10 +17,12 @@ use Rattle.table.specs.Cell.{cellOf, noPlace, noAgent, hasUnused}
 use Rattle.table.specs.Bounds.{Names16}
 use Rattle.table.specs.declared.Cell.{Cell}
 use Rattle.meaning.specs.Listing.{listsIn, standsUnder}
-use Rattle.lister.specs.Sheet.{packedOf, unpackedOf, namesOf, parentsOf, isListed, homesOf, groupedOf, Rows, sheetOf}
+use Rattle.lengths.specs.Longest.{longestListing}
+use Rattle.lengths.specs.ListingLength.{listing-longest}
+use Rattle.lister.specs.Sheet.{packedOf, unpackedOf, namesOf, parentsOf, isListed, homesOf, groupedOf, Rows, Sheet, sheetOf, Drawn, floorOn}
 use Rattle.lister.specs.PackLaws.{unpacked}
-use Rattle.lister.specs.SheetLaws.{Drawn}
 use Rattle.lister.specs.RowLaws.{rows-text}
+use Rattle.lister.specs.SheetLaws.{floor-is}
 
 -- x is in the word of p
 in-word : (s : Set) (keys : List ℕ) (p x : ℕ) → p < 64 → x < 64 → has (getD (groupedOf s keys) p 0) x ≡ (member s x && eqb (getD keys x 0) p)
@@ -47,9 +49,9 @@ listed-so true true b e = refl
 listed-so true false b e = clash e refl
 listed-so false a b e = clash e refl
 
-module _ (t : Cell) (b : Names16 t) {names places agents firsts ends kinds numbers : List ℕ} (n : names ≡ namesOf (t .used) (t .places)) (s : places ≡ groupedOf (t .used) (parentsOf (t .places)))
-    (v : agents ≡ groupedOf (t .given) (homesOf (t .given) (t .agents))) (r : Rows (t .given) (t .agents) firsts ends kinds numbers 64) where
-  pub drawn : Drawn (cellOf t) (sheetOf places agents names kinds numbers firsts ends)
+module _ (t : Cell) (b : Names16 t) {names places agents bounds kinds numbers : List ℕ} (n : names ≡ namesOf (t .used) (t .places)) (s : places ≡ groupedOf (t .used) (parentsOf (t .places)))
+    (v : agents ≡ groupedOf (t .given) (homesOf (t .given) (t .agents))) (r : Rows (t .given) (t .agents) bounds kinds numbers 64) where
+  pub drawn : Drawn (cellOf t) (sheetOf places agents names kinds numbers bounds)
   drawn = record {
     stands = λ p q l m. ap (λ (w : List ℕ). has (getD w p 0) q) s ∙ in-word (t .used) (parentsOf (t .places)) p q l m
         ∙ ap (λ (k : ℕ). member (t .used) q && eqb k p) (parent q m) ∙ unfold cellOf standsUnder in stands-so (member (t .used) q) (eqb q 0) (getD (t .places) q noPlace .parent) p l;
@@ -78,3 +80,7 @@ module _ (t : Cell) (b : Names16 t) {names places agents firsts ends kinds numbe
 
       listed : (p x : ℕ) → listsIn (cellOf t .given x) (cellOf t .agent x) p ≡ true → isListed (t .given) (t .agents) x ≡ true
       listed p x e = unfold cellOf listsIn in listed-so (member (t .given) x) (hasUnused (getD (t .agents) x noAgent)) (eqb (getD (t .agents) x noAgent .home) p) e
+
+-- no floor's text is longer than the longest listing
+pub drawn-short : (t : Cell) {h : Sheet} → Names16 t → Drawn (cellOf t) h → length (floorOn h) ≤ longestListing
+drawn-short t b d = let e = ap length (floor-is d) in omega (arith, listing-longest t b)

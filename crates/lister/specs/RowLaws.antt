@@ -10,6 +10,7 @@ use lib.Dec.{eqb, ltb, leb}
 use lib.ListN.{length, length-append, getD, set, length-set}
 use lib.Seq.{getD-set-same, getD-set-other}
 use borrow.Author.Tests.{le-leb, lt-leb, lt-ltb, le-ltb, leb-true, leb-false, ltb-true, ltb-false}
+use Rattle.sets.specs.Set.{member}
 use Rattle.sets.specs.declared.Set.{Set}
 use Rattle.table.specs.Base.{foldUp, tab}
 use Rattle.table.specs.BaseLaws.{Told, yea, nay, told, eq?, clash, cond-cong, and-left, and-right}
@@ -20,7 +21,7 @@ use Rattle.meaning.specs.Text.{ascii, decimal, gap, joined}
 use Rattle.meaning.specs.Listing.{kindText, actionText, isUnused, agentText}
 use Rattle.text.specs.Wrote.{least}
 use Rattle.text.specs.TextLaws.{join, join-more, least-le}
-use Rattle.lister.specs.Sheet.{dot, isListed, kindOf, numberOf, Copied, Rows, actionOn, rowFrom, rowText}
+use Rattle.lister.specs.Sheet.{boundsOf, firstOf, endOf, dot, isListed, kindOf, numberOf, Copied, Rows, actionOn, rowFrom, rowText}
 use Rattle.lister.specs.PartLaws.{fold-ext, skipped, grows}
 
 -- ---- copies
@@ -63,20 +64,18 @@ copied-all {f} {row} {first} {j} {end} {last} {b} {l} c h o e = subst (λ (z : �
 -- ---- the rows of agents, one after another
 
 module _ {given : Set} {crew : List Agent} where
-  pub rows-none : (firsts ends kinds numbers : List ℕ) → Rows given crew firsts ends kinds numbers 0
-  rows-none firsts ends kinds numbers = record {
-    first = λ x l e. absurd (omega arith);
-    end = λ x l e. absurd (omega arith);
+  pub rows-none : (bounds kinds numbers : List ℕ) → Rows given crew bounds kinds numbers 0
+  rows-none bounds kinds numbers = record {
+    bound = λ x l e. absurd (omega arith);
     kind = λ x j l e a b. absurd (omega arith);
     number = λ x j l e a b. absurd (omega arith);
   }
 
   -- numbers of no listed agent
-  pub rows-skip : {firsts ends kinds numbers : List ℕ} {i : ℕ} (m : ℕ) → ((j : ℕ) → i ≤ j → j < m → isListed given crew j ≡ false)
-      → Rows given crew firsts ends kinds numbers i → Rows given crew firsts ends kinds numbers m
-  rows-skip {firsts} {ends} {kinds} {numbers} {i} m h r = record {
-    first = λ x l e. r .first x (below x l e) e;
-    end = λ x l e. r .end x (below x l e) e;
+  pub rows-skip : {bounds kinds numbers : List ℕ} {i : ℕ} (m : ℕ) → ((j : ℕ) → i ≤ j → j < m → isListed given crew j ≡ false)
+      → Rows given crew bounds kinds numbers i → Rows given crew bounds kinds numbers m
+  rows-skip {bounds} {kinds} {numbers} {i} m h r = record {
+    bound = λ x l e. r .bound x (below x l e) e;
     kind = λ x j l e. r .kind x j (below x l e) e;
     number = λ x j l e. r .number x j (below x l e) e;
   }
@@ -89,17 +88,16 @@ module _ {given : Set} {crew : List Agent} where
           go (nay t) = clash e (h x (ltb-false x i t) l)
 
   -- the row of one agent more
-  module _ {firsts ends kinds numbers ks ns : List ℕ} {m : ℕ} (r : Rows given crew firsts ends kinds numbers m) (lf : m < length firsts) (le : m < length ends)
+  module _ {bounds kinds numbers ks ns : List ℕ} {m : ℕ} (r : Rows given crew bounds kinds numbers m) (room : m < length bounds)
       (ck : Copied (kindOf (getD crew m noAgent)) (16 * m) (getD crew m noAgent .next) (least (getD crew m noAgent .count) 16) kinds ks)
       (cn : Copied (numberOf (getD crew m noAgent)) (16 * m) (getD crew m noAgent .next) (least (getD crew m noAgent .count) 16) numbers ns) where
-    -- a value that one turn sets
-    set-to : (l : List ℕ) (f : Agent → ℕ) → m < length l → ((x : ℕ) → x < m → isListed given crew x ≡ true → getD l x 0 ≡ f (getD crew x noAgent))
-        → (x : ℕ) → x < m + 1 → isListed given crew x ≡ true → getD (set l m (f (getD crew m noAgent))) x 0 ≡ f (getD crew x noAgent)
-    set-to l f h o x k e = go (eq? x m)
+    -- the word that one turn sets
+    set-to : {word : ℕ} → word ≡ boundsOf (getD crew m noAgent) → (x : ℕ) → x < m + 1 → isListed given crew x ≡ true → getD (set bounds m word) x 0 ≡ boundsOf (getD crew x noAgent)
+    set-to {word} q x k e = go (eq? x m)
       where
-        go : (x ≡ m) ⊎ (x ≢ m) → getD (set l m (f (getD crew m noAgent))) x 0 ≡ f (getD crew x noAgent)
-        go (inl z) = ap (λ (i : ℕ). getD (set l m (f (getD crew m noAgent))) i 0) z ∙ getD-set-same l m (f (getD crew m noAgent)) 0 h ∙ ap (λ (i : ℕ). f (getD crew i noAgent)) (sym z)
-        go (inr z) = getD-set-other l m x (f (getD crew m noAgent)) 0 z ∙ o x (omega arith) e
+        go : (x ≡ m) ⊎ (x ≢ m) → getD (set bounds m word) x 0 ≡ boundsOf (getD crew x noAgent)
+        go (inl z) = ap (λ (i : ℕ). getD (set bounds m word) i 0) z ∙ getD-set-same bounds m word 0 room ∙ q ∙ ap (λ (i : ℕ). boundsOf (getD crew i noAgent)) (sym z)
+        go (inr z) = getD-set-other bounds m x word 0 z ∙ r .bound x (omega arith) e
 
     -- the values that one turn copies
     copied-to : (old new : List ℕ) (f : Agent → ℕ → ℕ) → Copied (f (getD crew m noAgent)) (16 * m) (getD crew m noAgent .next) (least (getD crew m noAgent .count) 16) old new
@@ -114,10 +112,9 @@ module _ {given : Set} {crew : List Agent} where
             ap (λ (i : ℕ). getD new (16 * i + j) 0) z ∙ c .inside j (omega arith) (omega arith) ∙ ap (λ (i : ℕ). f (getD crew i noAgent) j) (sym z)
         go (inr z) = c .outside (16 * x + j) (inl (omega (arith, least-le _ (getD crew x noAgent .count) 16 refl .1))) ∙ o x j (omega arith) e a b
 
-    pub rows-more : Rows given crew (set firsts m (getD crew m noAgent .next)) (set ends m (getD crew m noAgent .count)) ks ns (m + 1)
-    rows-more = record {
-      first = set-to firsts (λ a. a .next) lf (r .first);
-      end = set-to ends (λ a. a .count) le (r .end);
+    pub rows-more : {word : ℕ} → word ≡ boundsOf (getD crew m noAgent) → Rows given crew (set bounds m word) ks ns (m + 1)
+    rows-more q = record {
+      bound = set-to q;
       kind = copied-to kinds ks kindOf ck (r .kind);
       number = copied-to numbers ns numberOf cn (r .number);
     }
@@ -171,21 +168,35 @@ row-cut kinds numbers row first end e q = fold-ext _ _ 16 [] (λ j l s. ap (λ (
     go j l (yea t) = let z : e ≡ end = q ∙ rw t in ap (ltb j) z
     go j l (nay t) = let z : e ≡ 16 = q ∙ rw t in ap (ltb j) z ∙ lt-ltb j 16 l ∙ sym (lt-ltb j end (omega (arith, ltb-false end 16 t)))
 
--- so a row is laid out by the bytes of where it starts and ends
-pub row-laid : (kinds numbers : List ℕ) (row first end : ℕ) {f w e : ℕ} → f ≡ first → w ≡ end → e ≡ least w 16 → rowFrom kinds numbers row f e ≡ rowFrom kinds numbers row first end
-row-laid kinds numbers row first end {f} {w} {e} p q r = ap (λ (z : ℕ). rowFrom kinds numbers row z e) p ∙ row-cut kinds numbers row first end e (r ∙ ap (λ (z : ℕ). least z 16) q)
+-- so a row is laid out by the word of where it begins and ends
+pub row-laid : (kinds numbers : List ℕ) (row word : ℕ) {b e : ℕ} → b ≡ word → e ≡ least (endOf b) 16 → rowFrom kinds numbers row (firstOf b) e ≡ rowFrom kinds numbers row (firstOf word) (endOf word)
+row-laid kinds numbers row word {b} {e} p q =
+    ap (λ (z : ℕ). rowFrom kinds numbers row (firstOf z) e) p ∙ row-cut kinds numbers row (firstOf word) (endOf word) e (q ∙ ap (λ (z : ℕ). least (endOf z) 16) p)
+
+-- unused actions begin at one of the sixteen
+unused-early : (a : Agent) → hasUnused a ≡ true → a .next < 16
+unused-early a e = ltb-true (a .next) 16 (and-left (ltb (a .next) 16) (ltb (a .next) (a .count)) e)
 
 -- the row of a listed agent makes its text
-pub rows-text : {given : Set} {crew : List Agent} {firsts ends kinds numbers : List ℕ} → Rows given crew firsts ends kinds numbers 64
-    → (x : ℕ) → x < 64 → isListed given crew x ≡ true → rowText kinds numbers firsts ends x ≡ agentText (getD crew x noAgent)
+pub rows-text : {given : Set} {crew : List Agent} {bounds kinds numbers : List ℕ} → Rows given crew bounds kinds numbers 64
+    → (x : ℕ) → x < 64 → isListed given crew x ≡ true → rowText kinds numbers bounds x ≡ agentText (getD crew x noAgent)
 unfolding rowFrom agentText actionText
-rows-text {given} {crew} {firsts} {ends} {kinds} {numbers} r x l e =
-    ap₂ (λ (f t : ℕ). rowFrom kinds numbers (16 * x) f t) (r .first x l e) (r .end x l e)
+rows-text {given} {crew} {bounds} {kinds} {numbers} r x l e =
+    ap₂ (λ (f t : ℕ). rowFrom kinds numbers (16 * x) f t) first end
     ∙ fold-ext _ _ 16 [] (λ j m s. cond-cong (leb (a .next) j && ltb j (a .count)) _ _ s (λ q. ap (joined dot s)
     (ap₂ (λ (k n : ℕ). kindText k ++ decimal n) (r .kind x j l e (from j q) (to j m q)) (r .number x j l e (from j q) (to j m q)))))
   where
     a : Agent
     a = getD crew x noAgent
+
+    early : getD crew x noAgent .next < 16
+    early = unused-early (getD crew x noAgent) (and-right (member given x) (hasUnused (getD crew x noAgent)) e)
+
+    first : firstOf (getD bounds x 0) ≡ getD crew x noAgent .next
+    first = omega (arith, r .bound x l e, early)
+
+    end : endOf (getD bounds x 0) ≡ getD crew x noAgent .count
+    end = omega (arith, r .bound x l e, early)
 
     from : (j : ℕ) → (leb (getD crew x noAgent .next) j && ltb j (getD crew x noAgent .count)) ≡ true → getD crew x noAgent .next ≤ j
     from j q = leb-true _ _ (and-left (leb (getD crew x noAgent .next) j) (ltb j (getD crew x noAgent .count)) q)
@@ -218,7 +229,7 @@ action-some x = omega (arith, length-append (kindText (x .kind)) (decimal (x .na
 pub agent-some : (a : Agent) → hasUnused a ≡ true → 0 < length (agentText a)
 unfolding agentText tab
 agent-some a e =
-    let l : a .next < 16 = ltb-true (a .next) 16 (and-left (ltb (a .next) 16) (ltb (a .next) (a .count)) e) in
+    let l : a .next < 16 = unused-early a e in
     let m : a .next < a .count = ltb-true (a .next) (a .count) (and-right (ltb (a .next) 16) (ltb (a .next) (a .count)) e) in
     let n = ap length (join-more dot (isUnused a) text [] (a .next) (rw (le-leb (a .next) (a .next) (omega arith), lt-ltb (a .next) (a .count) m))) in
     omega (

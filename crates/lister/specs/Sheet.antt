@@ -10,12 +10,12 @@ use Rattle.sets.specs.Word.{has, wordOf}
 use Rattle.sets.specs.Set.{member, inserted}
 use Rattle.sets.specs.declared.Set.{Set}
 use Rattle.table.specs.Base.{tab, foldUp}
-use Rattle.table.specs.Cell.{noPlace, noAgent, noAction, hasUnused}
+use Rattle.table.specs.Cell.{State, noPlace, noAgent, noAction, hasUnused}
 use Rattle.table.specs.declared.Name.{Name}
 use Rattle.table.specs.declared.Agent.{Agent}
 use Rattle.table.specs.declared.Place.{Place}
 use Rattle.meaning.specs.Text.{ascii, decimal, gap, joined, overlay}
-use Rattle.meaning.specs.Listing.{kindText, textsOf, slashed, nameText, bracketed, inOrder}
+use Rattle.meaning.specs.Listing.{kindText, agentText, listsIn, standsUnder, textsOf, slashed, nameText, bracketed, inOrder}
 use Rattle.text.specs.Wrote.{capped, least, Fits}
 use Rattle.lengths.specs.Longest.{longestListing}
 
@@ -37,6 +37,20 @@ unpackedOf word = record {
 -- the word of a name and three keys that are all one number is so many times this number
 abbrev pub fourfold : ℕ
 fourfold = 281479271743489
+
+-- ---- where an agent's unused actions begin and end, in one word
+
+-- where they begin in its lower eight bits, and where they end above
+abbrev pub boundsOf : Agent → ℕ
+boundsOf a = a .next + 256 * a .count
+
+-- where they begin, of a word
+abbrev pub firstOf : ℕ → ℕ
+firstOf word = word % 256
+
+-- and where they end
+abbrev pub endOf : ℕ → ℕ
+endOf word = word / 256
 
 -- ---- the arrays that are lent
 
@@ -77,10 +91,9 @@ pub record Copied (f : ℕ → ℕ) (row first end : ℕ) (before after : List �
   pub outside : (i : ℕ) → (i < row + first) ⊎ (row + end ≤ i) → getD after i 0 ≡ getD before i 0
   pub long : length after ≡ length before
 
--- the rows of the agents below i that are listed: where their unused actions start and end, and the kind and number of each
-pub record Rows (given : Set) (crew : List Agent) (firsts ends kinds numbers : List ℕ) (i : ℕ) : Type 0 where
-  pub first : (x : ℕ) → x < i → isListed given crew x ≡ true → getD firsts x 0 ≡ getD crew x noAgent .next
-  pub end : (x : ℕ) → x < i → isListed given crew x ≡ true → getD ends x 0 ≡ getD crew x noAgent .count
+-- the rows of the agents below i that are listed: where their unused actions begin and end, and the kind and number of each
+pub record Rows (given : Set) (crew : List Agent) (bounds kinds numbers : List ℕ) (i : ℕ) : Type 0 where
+  pub bound : (x : ℕ) → x < i → isListed given crew x ≡ true → getD bounds x 0 ≡ boundsOf (getD crew x noAgent)
   pub kind : (x j : ℕ) → x < i → isListed given crew x ≡ true → getD crew x noAgent .next ≤ j → j < least (getD crew x noAgent .count) 16
       → getD kinds (16 * x + j) 0 ≡ kindOf (getD crew x noAgent) j
   pub number : (x j : ℕ) → x < i → isListed given crew x ≡ true → getD crew x noAgent .next ≤ j → j < least (getD crew x noAgent .count) 16
@@ -106,8 +119,8 @@ unfolding gap tab
 rowFrom kinds numbers row first end = foldUp (λ j s. cond (leb first j && ltb j end) (joined dot s (actionOn kinds numbers row j)) s) 16 []
 
 -- the text of agent x, by the rows
-abbrev pub rowText : List ℕ → List ℕ → List ℕ → List ℕ → ℕ → List ℕ
-rowText kinds numbers firsts ends x = rowFrom kinds numbers (16 * x) (getD firsts x 0) (getD ends x 0)
+abbrev pub rowText : List ℕ → List ℕ → List ℕ → ℕ → List ℕ
+rowText kinds numbers bounds x = rowFrom kinds numbers (16 * x) (firstOf (getD bounds x 0)) (endOf (getD bounds x 0))
 
 -- what the arrays say: which places stand in a place, which agents are listed in it, names, and agents' texts
 pub record Sheet : Type 0 where
@@ -117,13 +130,20 @@ pub record Sheet : Type 0 where
   pub text : ℕ → List ℕ
 
 -- the sheet of the arrays: words of places, words of agents, names, and the rows of agents
-abbrev pub sheetOf : List ℕ → List ℕ → List ℕ → List ℕ → List ℕ → List ℕ → List ℕ → Sheet
-sheetOf places agents names kinds numbers firsts ends = record {
+abbrev pub sheetOf : List ℕ → List ℕ → List ℕ → List ℕ → List ℕ → List ℕ → Sheet
+sheetOf places agents names kinds numbers bounds = record {
   stands = λ p. has (getD places p 0);
   lives = λ p. has (getD agents p 0);
   name = λ q. unpackedOf (getD names q 0);
-  text = rowText kinds numbers firsts ends;
+  text = rowText kinds numbers bounds;
 }
+
+-- a sheet says what a cell says: of places in use, and of agents where they are listed
+pub record Drawn (c : State) (h : Sheet) : Type 0 where
+  pub stands : (p q : ℕ) → p < 64 → q < 64 → h .stands p q ≡ standsUnder (c .land .used q) q (c .land .place q .parent) p
+  pub lives : (p x : ℕ) → p < 64 → x < 64 → h .lives p x ≡ listsIn (c .given x) (c .agent x) p
+  pub name : (q : ℕ) → q < 64 → c .land .used q ≡ true → h .name q ≡ c .land .place q .name
+  pub text : (p x : ℕ) → x < 64 → listsIn (c .given x) (c .agent x) p ≡ true → h .text x ≡ agentText (c .agent x)
 
 -- the three keys of a name, a slash before each
 unfoldable pub keysText : Name → List ℕ

@@ -15,12 +15,12 @@ use Rattle.table.specs.Base.{tab}
 use Rattle.table.specs.BaseLaws.{and-left, and-right}
 use Rattle.table.specs.Cell.{State, hasUnused}
 use Rattle.meaning.specs.Text.{gap, joined}
-use Rattle.meaning.specs.Listing.{bracketed, agentText, listsIn, standsUnder, textsOf, agentTexts, placeTexts, inOrder, contentsText, listing}
+use Rattle.meaning.specs.Listing.{bracketed, listsIn, standsUnder, textsOf, agentTexts, placeTexts, inOrder, contentsText, listing}
 use Rattle.text.specs.Wrote.{Wrote, Fits}
 use Rattle.text.specs.TextLaws.{part, back, wrote-as}
 use Rattle.text.specs.RoomLaws.{fits-less, fits-as, fits-first, fits-exactly, first-in, fits-next, then-next, store-in, stored}
 use Rattle.lengths.specs.Longest.{longestListing}
-use Rattle.lister.specs.Sheet.{bar, Sheet, HaveTexts, OnPage, headText, contentsOn, placeOn, floorOn}
+use Rattle.lister.specs.Sheet.{bar, Sheet, Drawn, HaveTexts, OnPage, headText, contentsOn, placeOn, floorOn}
 use Rattle.lister.specs.Marked.{grouped, Filled}
 use Rattle.lister.specs.RowLaws.{agent-some}
 use Rattle.lister.specs.MemberLaws.{texts-ext, texts-filled, texts-none, texts-some, one-group, both-groups, first-group}
@@ -147,13 +147,6 @@ module _ (depth : ℕ) (h : Sheet) (p : ℕ) (n : depth ≡ 0 → ⊥) {b : List
     both-written w = wrote-as (sym both-are) w
 
 -- ---- the sheet of a cell
-
--- what a sheet must say of a cell
-pub record Drawn (c : State) (h : Sheet) : Type 0 where
-  pub stands : (p q : ℕ) → p < 64 → q < 64 → h .stands p q ≡ standsUnder (c .land .used q) q (c .land .place q .parent) p
-  pub lives : (p x : ℕ) → p < 64 → x < 64 → h .lives p x ≡ listsIn (c .given x) (c .agent x) p
-  pub name : (q : ℕ) → q < 64 → c .land .used q ≡ true → h .name q ≡ c .land .place q .name
-  pub text : (p x : ℕ) → x < 64 → listsIn (c .given x) (c .agent x) p ≡ true → h .text x ≡ agentText (c .agent x)
 
 module _ {c : State} {h : Sheet} (d : Drawn c h) where
   agents-are : (p : ℕ) → p < 64 → agentsOn h p ≡ agentTexts c p

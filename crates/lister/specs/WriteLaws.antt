@@ -7,11 +7,12 @@ use Prim.Native.Nat.{ℕ, _+_, _<_, _≤_}
 use native.Mathlib.Omega.{arith}
 use lib.Dec.{ltb}
 use lib.ListN.{length, set, take, replicate, length-replicate}
+use lib.Seq.{length-take-le}
 use borrow.Author.Tests.{eq-eqb, ne-eqb, lt-ltb, le-ltb}
 use Rattle.table.specs.Base.{tab}
 use Rattle.meaning.specs.Text.{overlay}
 use Rattle.text.specs.Wrote.{capped, Wrote, Fits}
-use Rattle.text.specs.TextLaws.{over-start, over-length, wrote-as}
+use Rattle.text.specs.TextLaws.{over-start, over-length, wrote-as, wrote-length}
 use Rattle.text.specs.RoomLaws.{fits-as, fits-exactly, stores}
 use Rattle.lengths.specs.Longest.{longestListing}
 use Rattle.lister.specs.Sheet.{Sheet, OnPage, contentsOn, floorOn, WroteIf}
@@ -92,14 +93,20 @@ module _ {t page xs : List ℕ} {n : ℕ} (f : Fits t 0 page) (w : Wrote t 0 pag
   pub page-holds : take n xs ≡ t
   page-holds = ap (λ (k : ℕ). take k xs) page-long ∙ ap (take (length t)) (w .text) ∙ over-start t page (f .room)
 
+  pub page-within : n ≤ length xs
+  page-within = omega (arith, page-long, f .room, wrote-length w)
+
+  pub page-cut : n ≡ length (take n xs)
+  page-cut = sym (length-take-le n xs page-within)
+
 pub page-fits : (t : List ℕ) → length t ≤ longestListing → Fits t 0 (replicate longestListing 0)
 page-fits t l = let n = length-replicate {A = ℕ} longestListing 0 in record { room = omega arith; placed = omega arith }
 
 -- ---- the listing
 
 -- where there are as many bytes as the longest has
-pub long-fits : {s t b : List ℕ} → s ≡ t → length t ≤ longestListing → longestListing ≤ length b → length b ≤ 18446744073709551615 → Fits s 0 b
-long-fits {s} {t} e l m n = let k : length s ≡ length t = ap length e in record { room = omega arith; placed = omega arith }
+pub long-fits : {t b : List ℕ} → length t ≤ longestListing → longestListing ≤ length b → length b ≤ 18446744073709551615 → Fits t 0 b
+long-fits l m n = record { room = omega arith; placed = omega arith }
 
 -- the same text under another name
 pub wrote-if-as : {s t b e : List ℕ} {whole : Bool} {at r : ℕ} → s ≡ t → WroteIf whole s at b e r → WroteIf whole t at b e r

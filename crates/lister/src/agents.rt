@@ -102,15 +102,15 @@ fn write_row(
 pub(super) fn write_agent(
     kinds: &[u8; 1024],
     numbers: &[u16; 1024],
-    firsts: &[u8; 64],
-    ends: &[u8; 64],
+    bounds: &[u16; 64],
     x: usize,
     at: usize,
     buf: &mut [u8],
 ) -> usize
-    requires { ⌜ (x < 64) × Fits (rowText (now kinds) (now numbers) (now firsts) (now ends) x) at (now buf) ⌝ }
-    ensures { λ r. ⌜ Wrote (rowText (now (kinds .entry)) (now (numbers .entry)) (now (firsts .entry)) (now (ends .entry)) x) at (now (buf .entry)) (now (buf .exit)) r ⌝ }
+    requires { ⌜ (x < 64) × Fits (rowText (now kinds) (now numbers) (now bounds) x) at (now buf) ⌝ }
+    ensures { λ r. ⌜ Wrote (rowText (now (kinds .entry)) (now (numbers .entry)) (now (bounds .entry)) x) at (now (buf .entry)) (now (buf .exit)) r ⌝ }
 {
-    let end = text::least(sheet::wide(ends[x]), 16);
-    write_row(kinds, numbers, 16 * x, sheet::wide(firsts[x]), end, at, buf)
+    let b = sheet::index(bounds[x]);
+    let end = text::least(b / 256, 16);
+    write_row(kinds, numbers, 16 * x, b % 256, end, at, buf)
 }

@@ -27,14 +27,13 @@ fn write_agents(
     agents: u64,
     kinds: &[u8; 1024],
     numbers: &[u16; 1024],
-    firsts: &[u8; 64],
-    ends: &[u8; 64],
+    bounds: &[u16; 64],
     from: usize,
     buf: &mut [u8],
 ) -> usize
-    requires { ⌜ OnPage (grouped (textsOf (has agents) (rowText (now kinds) (now numbers) (now firsts) (now ends)) 64)) from (now buf)
-        × Filled (textsOf (has agents) (rowText (now kinds) (now numbers) (now firsts) (now ends)) 64) ⌝ }
-    ensures { λ r. ⌜ Wrote (grouped (textsOf (has agents) (rowText (now (kinds .entry)) (now (numbers .entry)) (now (firsts .entry)) (now (ends .entry))) 64)) from (now (buf .entry)) (now (buf .exit)) r ⌝ }
+    requires { ⌜ OnPage (grouped (textsOf (has agents) (rowText (now kinds) (now numbers) (now bounds)) 64)) from (now buf)
+        × Filled (textsOf (has agents) (rowText (now kinds) (now numbers) (now bounds)) 64) ⌝ }
+    ensures { λ r. ⌜ Wrote (grouped (textsOf (has agents) (rowText (now (kinds .entry)) (now (numbers .entry)) (now (bounds .entry))) 64)) from (now (buf .entry)) (now (buf .exit)) r ⌝ }
 {
     let mut marks: [u16; 64] = [0; 64];
     let mut listed: usize = 0;
@@ -45,7 +44,7 @@ fn write_agents(
         let i = at - from;
         let mid = crate::write_bar(from, at, &mut buf[i..]);
         let j = mid - from;
-        at = agents::write_agent(kinds, numbers, firsts, ends, x, mid, &mut buf[j..]);
+        at = agents::write_agent(kinds, numbers, bounds, x, mid, &mut buf[j..]);
         marks[listed] = (at - from) as u16;
         listed += 1;
         left = left.rest();
@@ -61,16 +60,15 @@ fn write_place(
     names: &[u64; 64],
     kinds: &[u8; 1024],
     numbers: &[u16; 1024],
-    firsts: &[u8; 64],
-    ends: &[u8; 64],
+    bounds: &[u16; 64],
     q: usize,
     depth: u8,
     at: usize,
     buf: &mut [u8],
 ) -> usize
-    requires { ⌜ (q < 64) × (HaveTexts (sheetOf (now places) (now agents) (now names) (now kinds) (now numbers) (now firsts) (now ends))
-        × OnPage (placeOn depth (sheetOf (now places) (now agents) (now names) (now kinds) (now numbers) (now firsts) (now ends)) q) at (now buf)) ⌝ }
-    ensures { λ r. ⌜ Wrote (placeOn depth (sheetOf (now (places .entry)) (now (agents .entry)) (now (names .entry)) (now (kinds .entry)) (now (numbers .entry)) (now (firsts .entry)) (now (ends .entry))) q) at (now (buf .entry)) (now (buf .exit)) r ⌝ }
+    requires { ⌜ (q < 64) × (HaveTexts (sheetOf (now places) (now agents) (now names) (now kinds) (now numbers) (now bounds))
+        × OnPage (placeOn depth (sheetOf (now places) (now agents) (now names) (now kinds) (now numbers) (now bounds)) q) at (now buf)) ⌝ }
+    ensures { λ r. ⌜ Wrote (placeOn depth (sheetOf (now (places .entry)) (now (agents .entry)) (now (names .entry)) (now (kinds .entry)) (now (numbers .entry)) (now (bounds .entry))) q) at (now (buf .entry)) (now (buf .exit)) r ⌝ }
 {
     let mid = names::write_head(names[q], at, buf);
     let i = mid - at;
@@ -80,8 +78,7 @@ fn write_place(
         names,
         kinds,
         numbers,
-        firsts,
-        ends,
+        bounds,
         q,
         depth,
         mid,
@@ -99,16 +96,15 @@ fn write_places(
     names: &[u64; 64],
     kinds: &[u8; 1024],
     numbers: &[u16; 1024],
-    firsts: &[u8; 64],
-    ends: &[u8; 64],
+    bounds: &[u16; 64],
     inside: Set,
     depth: u8,
     from: usize,
     buf: &mut [u8],
 ) -> usize
-    requires { ⌜ HaveTexts (sheetOf (now places) (now agents) (now names) (now kinds) (now numbers) (now firsts) (now ends))
-        × OnPage (grouped (textsOf (member inside) (placeOn depth (sheetOf (now places) (now agents) (now names) (now kinds) (now numbers) (now firsts) (now ends))) 64)) from (now buf) ⌝ }
-    ensures { λ r. ⌜ Wrote (grouped (textsOf (member inside) (placeOn depth (sheetOf (now (places .entry)) (now (agents .entry)) (now (names .entry)) (now (kinds .entry)) (now (numbers .entry)) (now (firsts .entry)) (now (ends .entry)))) 64)) from (now (buf .entry)) (now (buf .exit)) r ⌝ }
+    requires { ⌜ HaveTexts (sheetOf (now places) (now agents) (now names) (now kinds) (now numbers) (now bounds))
+        × OnPage (grouped (textsOf (member inside) (placeOn depth (sheetOf (now places) (now agents) (now names) (now kinds) (now numbers) (now bounds))) 64)) from (now buf) ⌝ }
+    ensures { λ r. ⌜ Wrote (grouped (textsOf (member inside) (placeOn depth (sheetOf (now (places .entry)) (now (agents .entry)) (now (names .entry)) (now (kinds .entry)) (now (numbers .entry)) (now (bounds .entry)))) 64)) from (now (buf .entry)) (now (buf .exit)) r ⌝ }
 {
     let mut marks: [u16; 64] = [0; 64];
     let mut many: usize = 0;
@@ -125,8 +121,7 @@ fn write_places(
             names,
             kinds,
             numbers,
-            firsts,
-            ends,
+            bounds,
             q,
             depth,
             mid,
@@ -147,21 +142,20 @@ pub(super) fn write_contents(
     names: &[u64; 64],
     kinds: &[u8; 1024],
     numbers: &[u16; 1024],
-    firsts: &[u8; 64],
-    ends: &[u8; 64],
+    bounds: &[u16; 64],
     p: usize,
     depth: u8,
     from: usize,
     buf: &mut [u8],
 ) -> usize
-    requires { ⌜ (p < 64) × (HaveTexts (sheetOf (now places) (now agents) (now names) (now kinds) (now numbers) (now firsts) (now ends))
-        × OnPage (contentsOn depth (sheetOf (now places) (now agents) (now names) (now kinds) (now numbers) (now firsts) (now ends)) p) from (now buf)) ⌝ }
-    ensures { λ r. ⌜ Wrote (contentsOn depth (sheetOf (now (places .entry)) (now (agents .entry)) (now (names .entry)) (now (kinds .entry)) (now (numbers .entry)) (now (firsts .entry)) (now (ends .entry))) p) from (now (buf .entry)) (now (buf .exit)) r ⌝ }
+    requires { ⌜ (p < 64) × (HaveTexts (sheetOf (now places) (now agents) (now names) (now kinds) (now numbers) (now bounds))
+        × OnPage (contentsOn depth (sheetOf (now places) (now agents) (now names) (now kinds) (now numbers) (now bounds)) p) from (now buf)) ⌝ }
+    ensures { λ r. ⌜ Wrote (contentsOn depth (sheetOf (now (places .entry)) (now (agents .entry)) (now (names .entry)) (now (kinds .entry)) (now (numbers .entry)) (now (bounds .entry))) p) from (now (buf .entry)) (now (buf .exit)) r ⌝ }
 {
     if depth == 0 {
         return from;
     }
-    let at = write_agents(agents[p], kinds, numbers, firsts, ends, from, buf);
+    let at = write_agents(agents[p], kinds, numbers, bounds, from, buf);
     let inside = members(places[p]);
     if inside.bits == 0 {
         return at;
@@ -175,8 +169,7 @@ pub(super) fn write_contents(
         names,
         kinds,
         numbers,
-        firsts,
-        ends,
+        bounds,
         inside,
         depth - 1,
         mid,

@@ -91,13 +91,6 @@ fn comes_first(buf: &[u8], s: usize, e: usize, t: usize, f: usize) -> bool
     e - s <= f - t
 }
 
-// A number of sixteen bits as an index.
-fn index(x: u16) -> usize
-    ensures { λ r. ⌜ (r ≡ x) × (r < 65536) ⌝ }
-{
-    x as usize
-}
-
 // Where part i starts.
 fn start(ends: &[u16; 64], i: usize) -> usize
     requires { ⌜ i < 64 ⌝ }
@@ -106,7 +99,7 @@ fn start(ends: &[u16; 64], i: usize) -> usize
     if i == 0 {
         return 0;
     }
-    index(ends[i - 1]) + 3
+    sheet::index(ends[i - 1]) + 3
 }
 
 // Whether part j is part i, which is a later one, or comes before it.
@@ -117,9 +110,9 @@ fn is_upto(ends: &[u16; 64], j: usize, i: usize, buf: &[u8]) -> bool
     comes_first(
         buf,
         start(ends, j),
-        index(ends[j]),
+        sheet::index(ends[j]),
         start(ends, i),
-        index(ends[i]),
+        sheet::index(ends[i]),
     )
 }
 
@@ -192,7 +185,7 @@ fn rewrite(row: &[u8; 64], ends: &[u16; 64], many: usize, spare: &[u8], buf: &mu
     while i < many {
         let k = sheet::wide(row[i]);
         let s = start(ends, k);
-        let e = index(ends[k]);
+        let e = sheet::index(ends[k]);
         let mid = crate::write_bar(0, at, &mut buf[at..]);
         at = text::write_bytes(&spare[s..e], mid, &mut buf[mid..]);
         i += 1;
@@ -205,7 +198,7 @@ fn arrange_few(row: &[u8; 64], ends: &[u16; 64], many: usize, buf: &mut [u8])
     ensures { λ r. ⌜ Arranged (now (ends .entry)) many (now (buf .entry)) (now (buf .exit)) ⌝ }
 {
     let mut spare: [u8; FEW_BYTES] = [0; FEW_BYTES];
-    let n = index(ends[many - 1]);
+    let n = sheet::index(ends[many - 1]);
     text::write_bytes(&buf[..n], 0, &mut spare);
     rewrite(row, ends, many, &spare, buf);
 }
@@ -216,7 +209,7 @@ fn arrange_page(row: &[u8; 64], ends: &[u16; 64], many: usize, buf: &mut [u8])
     ensures { λ r. ⌜ Arranged (now (ends .entry)) many (now (buf .entry)) (now (buf .exit)) ⌝ }
 {
     let mut spare: [u8; crate::PAGE_BYTES] = [0; crate::PAGE_BYTES];
-    let n = index(ends[many - 1]);
+    let n = sheet::index(ends[many - 1]);
     text::write_bytes(&buf[..n], 0, &mut spare);
     rewrite(row, ends, many, &spare, buf);
 }
@@ -234,7 +227,7 @@ pub(super) fn arrange(ends: &[u16; 64], many: usize, buf: &mut [u8])
     if moved == 0 {
         return;
     }
-    if index(ends[many - 1]) <= FEW_BYTES {
+    if sheet::index(ends[many - 1]) <= FEW_BYTES {
         arrange_few(&row, ends, many, buf);
     } else {
         arrange_page(&row, ends, many, buf);

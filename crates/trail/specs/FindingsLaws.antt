@@ -9,34 +9,18 @@ use native.Mathlib.Omega.{arith}
 use lib.Dec.{eqb}
 use lib.ListN.{length}
 use borrow.Author.Tests.{eqb-true, eqb-false, eq-eqb, ne-eqb}
-use Rattle.table.specs.BaseLaws.{Told, yea, nay, told, clash, and-left, and-right}
+use Rattle.table.specs.BaseLaws.{Told, yea, nay, told, clash}
 use Rattle.table.specs.Cell.{State}
 use Rattle.meaning.specs.Calculus.{Tree}
 use Rattle.meaning.specs.File.{Load, accepted, refused, load}
 use Rattle.meaning.specs.Plain.{treeOf}
 use Rattle.meaning.specs.TreeListing.{treeListing}
+use Rattle.text.specs.Same.{sameText}
+use Rattle.text.specs.SameLaws.{text-same, same-text}
 use Rattle.trail.specs.declared.Finding.{Finding}
 use Rattle.trail.specs.declared.Finding.the-variants.{Upheld, Denied, BadFile}
-use Rattle.trail.specs.Trail.{allows, moved, Follows, ends, goes, oddByte, otherLayout, sameText, judged, findingOf, finding}
+use Rattle.trail.specs.Trail.{allows, moved, Follows, ends, goes, oddByte, otherLayout, judged, findingOf, finding}
 use Rattle.trail.specs.Findings.{Leads, LeadsFrom, Reason, not-permitted, no-action, other-layout, Stops, StopsFrom, by-odd-byte, by-move, SaysExactly}
-
--- ---- two texts
-
--- a text is the same as itself
-pub text-itself : (s : List ℕ) → sameText s s ≡ true
-unfolding sameText
-text-itself [] = refl
-text-itself (x ∷ s) = rw (eq-eqb x x refl) (text-itself s)
-
-pub text-same : (s t : List ℕ) → s ≡ t → sameText s t ≡ true
-text-same s t e = subst (λ (r : List ℕ). sameText s r ≡ true) e (text-itself s)
-
-pub same-text : (s t : List ℕ) → sameText s t ≡ true → s ≡ t
-unfolding sameText
-same-text [] [] e = refl
-same-text [] (y ∷ t) e = clash e refl
-same-text (x ∷ s) [] e = clash e refl
-same-text (x ∷ s) (y ∷ t) e = ap₂ _∷_ (eqb-true x y (and-left (eqb x y) (sameText s t) e)) (same-text s t (and-right (eqb x y) (sameText s t) e))
 
 -- ---- moves at the front of a trail
 

@@ -2,7 +2,7 @@
 -- read on the loaded tree by what the calculus permits and makes.
 use Prim.Native.Nat.{ℕ, _+_, _*_, _/_, _%_}
 use mathlib.Core.Path.{_≡_}
-use mathlib.Core.Bool.{Bool, true, false, _&&_, cond}
+use mathlib.Core.Bool.{Bool, true, _&&_, cond}
 use mathlib.Core.List.{List, [], _∷_, _++_}
 use lib.Dec.{eqb}
 use lib.ListN.{length}
@@ -13,6 +13,7 @@ use Rattle.meaning.specs.File.{Load, accepted, refused, load}
 use Rattle.meaning.specs.Plain.{Plain, treeOf, plainStep, saysMove}
 use Rattle.meaning.specs.Run.{Call, agentOf, Reply}
 use Rattle.meaning.specs.TreeListing.{treeListing}
+use Rattle.text.specs.Same.{sameText}
 use Rattle.trail.specs.declared.Finding.{Finding}
 use Rattle.trail.specs.declared.Finding.the-variants.{Upheld, Denied, BadFile}
 
@@ -66,13 +67,6 @@ otherLayout = 4
 -- why the next move of agent a is denied
 abbrev pub whyNot : Tree → ℕ → ℕ
 whyNot t a = cond (eqb (length (t .unused a)) 0) noActionLeft notPermitted
-
--- two texts are the same
-unfoldable pub sameText : List ℕ → List ℕ → Bool
-sameText [] [] = true
-sameText [] (y ∷ ys) = false
-sameText (x ∷ xs) [] = false
-sameText (x ∷ xs) (y ∷ ys) = eqb x y && sameText xs ys
 
 -- from tree t, n moves on: "each move is one the calculus .. permits .., and the term at the end has the given listing"
 unfoldable pub judged : ℕ → Tree → List ℕ → List ℕ → Finding

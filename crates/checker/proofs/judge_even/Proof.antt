@@ -20,7 +20,7 @@ judge-even-spec = tie.close (tie.spec
     let a = f .args in
     let g = p .play .ensures .good (c .before .before .before .before .before .enum-told .given .1) in
     listing-same (p .play .result .cell) (p .play .result .made) (a .text .now)
-    (g .1 .1 .ended (c .before .before .before .if1 .left) (omega (arith, f .pre)) (a .text .now)) (c .before .lists-as .result) (c .before .lists-as .ensures) (c .if2 .taken)
+    (g .1 .1 .ended (c .before .before .before .if1 .left) (omega (arith, f .pre)) (a .text .now)) (c .before .is-listing .result) (c .before .is-listing .ensures) (c .if2 .taken)
     ∙ even-found (g .0) (a .trail .now) (a .text .now) (f .pre) ∙ g .1 .0 (a .trail .now) (a .text .now))
     (λ c. search needs)
     (λ c. let p = c .before .before .before .before .before .before .before in
@@ -28,6 +28,6 @@ judge-even-spec = tie.close (tie.spec
     let a = f .args in
     let g = p .play .ensures .good (c .before .before .before .before .before .enum-told .given .1) in
     listing-other (p .play .result .cell) (p .play .result .made) (a .text .now)
-    (g .1 .1 .ended (c .before .before .before .if1 .left) (omega (arith, f .pre)) (a .text .now)) (c .before .lists-as .result) (c .before .lists-as .ensures) (c .if2 .left)
+    (g .1 .1 .ended (c .before .before .before .if1 .left) (omega (arith, f .pre)) (a .text .now)) (c .before .is-listing .result) (c .before .is-listing .ensures) (c .if2 .left)
     ∙ even-found (g .0) (a .trail .now) (a .text .now) (f .pre) ∙ g .1 .0 (a .trail .now) (a .text .now))
     (λ c. c .before .before .before .play .ensures .bad _ _ (c .before .v .given .1) _ _))

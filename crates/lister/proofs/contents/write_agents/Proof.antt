@@ -12,11 +12,11 @@ use Rattle.lister.proofs.contents.write_agents.Statement.{statement}
 use Rattle.lister.proofs.contents.write_agents.Tie as tie
 
 abbrev Inv-loop : tie.InvT-loop
-Inv-loop agents kinds numbers firsts ends from buf₀ marks₀ listed₀ left₀ at₀ buf marks listed left at =
-    Walked (has agents) (rowText kinds numbers firsts ends) from buf₀ left marks listed buf at
+Inv-loop agents kinds numbers bounds from buf₀ marks₀ listed₀ left₀ at₀ buf marks listed left at =
+    Walked (has agents) (rowText kinds numbers bounds) from buf₀ left marks listed buf at
 
 abbrev μ-loop : tie.MeasureT-loop
-μ-loop agents kinds numbers firsts ends from buf₀ marks₀ listed₀ left₀ at₀ buf marks listed left at = left .bits
+μ-loop agents kinds numbers bounds from buf₀ marks₀ listed₀ left₀ at₀ buf marks listed left at = left .bits
 
 members-requires : tie.Need-members-requires Inv-loop μ-loop
 members-requires c κs = search needs
@@ -24,7 +24,7 @@ members-requires c κs = search needs
 loop-holds : tie.Need-loop-holds Inv-loop μ-loop
 loop-holds c =
     let a = c .before .before .args in
-    walked-none (has (a .agents)) (rowText (a .kinds .now) (a .numbers .now) (a .firsts .now) (a .ends .now)) (c .before .before .pre .0) (c .before .before .pre .1) (c .members .ensures)
+    walked-none (has (a .agents)) (rowText (a .kinds .now) (a .numbers .now) (a .bounds .now)) (c .before .before .pre .0) (c .before .before .pre .1) (c .members .ensures)
 
 first-requires : tie.Need-first-requires Inv-loop μ-loop
 first-requires c κs = search needs
@@ -32,7 +32,7 @@ first-requires c κs = search needs
 cast-x : tie.Need-cast-x Inv-loop μ-loop
 cast-x c =
     let a = c .before .before .before .before .before .before .args in
-    let F = rowText (a .kinds .now) (a .numbers .now) (a .firsts .now) (a .ends .now) in
+    let F = rowText (a .kinds .now) (a .numbers .now) (a .bounds .now) in
     let p = c .before .before .before .before .before .before .pre in
     let w = c .before .before .before .loop .inv in
     let k = c .before .if1 .taken in
@@ -42,7 +42,7 @@ cast-x c =
 sub-i : tie.Need-sub-i Inv-loop μ-loop
 sub-i c =
     let a = c .before .before .before .before .before .before .args in
-    let F = rowText (a .kinds .now) (a .numbers .now) (a .firsts .now) (a .ends .now) in
+    let F = rowText (a .kinds .now) (a .numbers .now) (a .bounds .now) in
     let p = c .before .before .before .before .before .before .pre in
     let w = c .before .before .before .loop .inv in
     let k = c .before .if1 .taken in
@@ -52,7 +52,7 @@ sub-i c =
 sub-write-bar : tie.Need-sub-write-bar Inv-loop μ-loop
 sub-write-bar c =
     let a = c .before .before .before .before .before .before .args in
-    let F = rowText (a .kinds .now) (a .numbers .now) (a .firsts .now) (a .ends .now) in
+    let F = rowText (a .kinds .now) (a .numbers .now) (a .bounds .now) in
     let p = c .before .before .before .before .before .before .pre in
     let w = c .before .before .before .loop .inv in
     let k = c .before .if1 .taken in
@@ -62,7 +62,7 @@ sub-write-bar c =
 part-write-bar-start : tie.Need-part-write-bar-start Inv-loop μ-loop
 part-write-bar-start c =
     let a = c .before .before .before .before .before .before .args in
-    let F = rowText (a .kinds .now) (a .numbers .now) (a .firsts .now) (a .ends .now) in
+    let F = rowText (a .kinds .now) (a .numbers .now) (a .bounds .now) in
     let p = c .before .before .before .before .before .before .pre in
     let w = c .before .before .before .loop .inv in
     let k = c .before .if1 .taken in
@@ -75,7 +75,7 @@ part-write-bar-end c = search needs
 write-bar-requires : tie.Need-write-bar-requires Inv-loop μ-loop
 write-bar-requires c κs =
     let a = c .before .before .before .before .before .before .before .args in
-    let F = rowText (a .kinds .now) (a .numbers .now) (a .firsts .now) (a .ends .now) in
+    let F = rowText (a .kinds .now) (a .numbers .now) (a .bounds .now) in
     let p = c .before .before .before .before .before .before .before .pre in
     let w = c .before .before .before .before .loop .inv in
     let k = c .before .before .if1 .taken in
@@ -85,7 +85,7 @@ write-bar-requires c κs =
 sub-j : tie.Need-sub-j Inv-loop μ-loop
 sub-j c =
     let a = c .before .before .before .before .before .before .before .before .before .before .args in
-    let F = rowText (a .kinds .now) (a .numbers .now) (a .firsts .now) (a .ends .now) in
+    let F = rowText (a .kinds .now) (a .numbers .now) (a .bounds .now) in
     let p = c .before .before .before .before .before .before .before .before .before .before .pre in
     let w = c .before .before .before .before .before .before .before .loop .inv in
     let k = c .before .before .before .before .before .if1 .taken in
@@ -95,7 +95,7 @@ sub-j c =
 sub-write-agent : tie.Need-sub-write-agent Inv-loop μ-loop
 sub-write-agent c =
     let a = c .before .before .before .before .before .before .before .before .before .before .args in
-    let F = rowText (a .kinds .now) (a .numbers .now) (a .firsts .now) (a .ends .now) in
+    let F = rowText (a .kinds .now) (a .numbers .now) (a .bounds .now) in
     let p = c .before .before .before .before .before .before .before .before .before .before .pre in
     let w = c .before .before .before .before .before .before .before .loop .inv in
     let k = c .before .before .before .before .before .if1 .taken in
@@ -105,7 +105,7 @@ sub-write-agent c =
 part-write-agent-start : tie.Need-part-write-agent-start Inv-loop μ-loop
 part-write-agent-start c =
     let a = c .before .before .before .before .before .before .before .before .before .before .args in
-    let F = rowText (a .kinds .now) (a .numbers .now) (a .firsts .now) (a .ends .now) in
+    let F = rowText (a .kinds .now) (a .numbers .now) (a .bounds .now) in
     let p = c .before .before .before .before .before .before .before .before .before .before .pre in
     let w = c .before .before .before .before .before .before .before .loop .inv in
     let k = c .before .before .before .before .before .if1 .taken in
@@ -118,7 +118,7 @@ part-write-agent-end c = search needs
 write-agent-requires : tie.Need-write-agent-requires Inv-loop μ-loop
 write-agent-requires c κs =
     let a = c .before .before .before .before .before .before .before .before .before .before .before .args in
-    let F = rowText (a .kinds .now) (a .numbers .now) (a .firsts .now) (a .ends .now) in
+    let F = rowText (a .kinds .now) (a .numbers .now) (a .bounds .now) in
     let p = c .before .before .before .before .before .before .before .before .before .before .before .pre in
     let w = c .before .before .before .before .before .before .before .before .loop .inv in
     let k = c .before .before .before .before .before .before .if1 .taken in
@@ -128,7 +128,7 @@ write-agent-requires c κs =
 sub-marks : tie.Need-sub-marks Inv-loop μ-loop
 sub-marks c =
     let a = c .before .before .before .before .before .before .before .before .before .before .before .before .before .before .args in
-    let F = rowText (a .kinds .now) (a .numbers .now) (a .firsts .now) (a .ends .now) in
+    let F = rowText (a .kinds .now) (a .numbers .now) (a .bounds .now) in
     let p = c .before .before .before .before .before .before .before .before .before .before .before .before .before .before .pre in
     let w = c .before .before .before .before .before .before .before .before .before .before .before .loop .inv in
     let k = c .before .before .before .before .before .before .before .before .before .if1 .taken in
@@ -138,7 +138,7 @@ sub-marks c =
 cast-marks : tie.Need-cast-marks Inv-loop μ-loop
 cast-marks c =
     let a = c .before .before .before .before .before .before .before .before .before .before .before .before .before .before .args in
-    let F = rowText (a .kinds .now) (a .numbers .now) (a .firsts .now) (a .ends .now) in
+    let F = rowText (a .kinds .now) (a .numbers .now) (a .bounds .now) in
     let p = c .before .before .before .before .before .before .before .before .before .before .before .before .before .before .pre in
     let w = c .before .before .before .before .before .before .before .before .before .before .before .loop .inv in
     let k = c .before .before .before .before .before .before .before .before .before .if1 .taken in
@@ -148,7 +148,7 @@ cast-marks c =
 mul-marks : tie.Need-mul-marks Inv-loop μ-loop
 mul-marks c =
     let a = c .before .before .before .before .before .before .before .before .before .before .before .before .before .before .args in
-    let F = rowText (a .kinds .now) (a .numbers .now) (a .firsts .now) (a .ends .now) in
+    let F = rowText (a .kinds .now) (a .numbers .now) (a .bounds .now) in
     let p = c .before .before .before .before .before .before .before .before .before .before .before .before .before .before .pre in
     let w = c .before .before .before .before .before .before .before .before .before .before .before .loop .inv in
     let k = c .before .before .before .before .before .before .before .before .before .if1 .taken in
@@ -158,7 +158,7 @@ mul-marks c =
 array-write-marks : tie.Need-array-write-marks Inv-loop μ-loop
 array-write-marks c =
     let a = c .before .before .before .before .before .before .before .before .before .before .before .before .before .before .args in
-    let F = rowText (a .kinds .now) (a .numbers .now) (a .firsts .now) (a .ends .now) in
+    let F = rowText (a .kinds .now) (a .numbers .now) (a .bounds .now) in
     let p = c .before .before .before .before .before .before .before .before .before .before .before .before .before .before .pre in
     let w = c .before .before .before .before .before .before .before .before .before .before .before .loop .inv in
     let k = c .before .before .before .before .before .before .before .before .before .if1 .taken in
@@ -168,7 +168,7 @@ array-write-marks c =
 add-listed : tie.Need-add-listed Inv-loop μ-loop
 add-listed c =
     let a = c .before .before .before .before .before .before .before .before .before .before .before .before .before .before .args in
-    let F = rowText (a .kinds .now) (a .numbers .now) (a .firsts .now) (a .ends .now) in
+    let F = rowText (a .kinds .now) (a .numbers .now) (a .bounds .now) in
     let p = c .before .before .before .before .before .before .before .before .before .before .before .before .before .before .pre in
     let w = c .before .before .before .before .before .before .before .before .before .before .before .loop .inv in
     let k = c .before .before .before .before .before .before .before .before .before .if1 .taken in
@@ -184,7 +184,7 @@ loop-less c = left-less (c .before .before .before .before .before .before .befo
 loop-again : tie.Need-loop-again Inv-loop μ-loop
 loop-again c =
     let a = c .before .before .before .before .before .before .before .before .before .before .before .before .before .before .before .args in
-    let F = rowText (a .kinds .now) (a .numbers .now) (a .firsts .now) (a .ends .now) in
+    let F = rowText (a .kinds .now) (a .numbers .now) (a .bounds .now) in
     let p = c .before .before .before .before .before .before .before .before .before .before .before .before .before .before .before .pre in
     let w = c .before .before .before .before .before .before .before .before .before .before .before .before .loop .inv in
     let k = c .before .before .before .before .before .before .before .before .before .before .if1 .taken in
@@ -194,7 +194,7 @@ loop-again c =
 arrange-requires : tie.Need-arrange-requires Inv-loop μ-loop
 arrange-requires c κs =
     let a = c .before .before .before .before .before .before .before .args in
-    let F = rowText (a .kinds .now) (a .numbers .now) (a .firsts .now) (a .ends .now) in
+    let F = rowText (a .kinds .now) (a .numbers .now) (a .bounds .now) in
     let p = c .before .before .before .before .before .before .before .pre in
     let w = c .before .before .before .before .loop .inv in
     (textsOf (has (a .agents)) F 64, walked-marked (has (a .agents)) F (p .0) (p .1) w (omega (arith, c .before .before .if1 .left)))
@@ -202,7 +202,7 @@ arrange-requires c κs =
 returns : tie.Need-returns Inv-loop μ-loop
 returns c =
     let a = c .before .before .before .before .before .before .before .before .before .before .args in
-    let F = rowText (a .kinds .now) (a .numbers .now) (a .firsts .now) (a .ends .now) in
+    let F = rowText (a .kinds .now) (a .numbers .now) (a .bounds .now) in
     let p = c .before .before .before .before .before .before .before .before .before .before .pre in
     let w = c .before .before .before .before .before .before .before .loop .inv in
     walked-all (has (a .agents)) F (p .0) (p .1) w (omega (arith, c .before .before .before .before .before .if1 .left)) (c .before .before .arrange .ensures)

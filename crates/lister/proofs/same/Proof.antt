@@ -4,10 +4,10 @@ use Prim.Native.Nat.{ℕ, _-_}
 use native.Mathlib.Omega.{arith}
 use native.Mathlib.Numerals.{add-one}
 use lib.ListN.{length, drop}
-use Rattle.trail.specs.Trail.{sameText}
-use Rattle.checker.specs.TextLaws.{same-step, same-differ, same-end, same-length}
-use Rattle.checker.proofs.texts.same.Statement.{statement}
-use Rattle.checker.proofs.texts.same.Tie as tie
+use Rattle.text.specs.Same.{sameText}
+use Rattle.text.specs.SameLaws.{same-step, same-differ, same-end, same-length}
+use Rattle.lister.proofs.same.Statement.{statement}
+use Rattle.lister.proofs.same.Tie as tie
 
 abbrev Inv-loop : tie.InvT-loop
 Inv-loop s t i₀ i = sameText (drop i s) (drop i t) ≡ sameText s t
