@@ -6,8 +6,10 @@ use mathlib.Core.List.{List, [], _∷_}
 use Prim.Native.Nat.{ℕ, zero, suc, _+_, _*_, _/_, _%_, _≤_, _<_}
 use native.Mathlib.Nat.{not-suc-le-zero, le-of-suc-le-suc}
 use native.Mathlib.Omega.{arith}
+use lib.Dec.{eqb}
 use lib.ListN.{length, getD, drop}
 use borrow.Author.Tests.{eq-eqb, ne-eqb}
+use Rattle.table.specs.BaseLaws.{Told, yea, nay, told}
 use Rattle.table.specs.Cell.{State, cellOf, tableOf}
 use Rattle.table.specs.CellLaws.{sized-table}
 use Rattle.table.specs.declared.Cell.{Cell}
@@ -29,8 +31,7 @@ use Rattle.trail.specs.declared.Finding.{Finding}
 use Rattle.trail.specs.declared.Finding.the-variants.{Upheld, Denied, BadFile}
 use Rattle.trail.specs.Trail.{allows, moved, whyNot, oddByte, otherLayout, judged, findingOf, finding}
 use Rattle.checker.specs.declared.Played.{Played}
-use Rattle.checker.specs.declared.Turned.{Turned}
-use Rattle.checker.specs.OnTable.{Ready, Turns, findingOn, byListing, Stops, Plays}
+use Rattle.checker.specs.OnTable.{Ready, Makes, Denies, findingOn, byListing, Stops, Plays}
 
 -- ---- a trail from move n on
 
@@ -52,6 +53,14 @@ none-left zero (x ∷ s) l = absurd (not-suc-le-zero l)
 none-left (suc k) [] l = refl
 none-left (suc k) (x ∷ s) l = none-left k s (le-of-suc-le-suc l)
 
+-- a move that is denied is denied for a reason
+pub denied-why : {t : Cell} {x b reason : ℕ} → Denies t x b reason → reason ≢ 0
+denied-why {t} {x} m z = go (told (eqb (length (treeOf (cellOf t) .unused x)) 0)) (sym (m .why) ∙ z)
+  where
+    go : Told (eqb (length (treeOf (cellOf t) .unused x)) 0) → whyNot (treeOf (cellOf t)) x ≡ 0 → ⊥
+    go (yea e) n = let k : _≡_ {A = ℕ} 2 0 = rw e at n in omega arith
+    go (nay e) n = let k : _≡_ {A = ℕ} 1 0 = rw e at n in omega arith
+
 -- before each turn: n moves are made, the table is ready, and what is left decides the whole
 pub record Left (whole : Finding) (trail text : List ℕ) (d : Cell) (n : ℕ) : Type 0 where
   pub ready : Ready d
@@ -59,7 +68,7 @@ pub record Left (whole : Finding) (trail text : List ℕ) (d : Cell) (n : ℕ) :
 
 module _ {whole : Finding} {trail text : List ℕ} {d : Cell} {n : ℕ} (l : Left whole trail text d n) where
   -- a move is left
-  module _ (room : 2 * n + 1 < length trail) {u : Turned} (turns : Turns d (getD trail (2 * n) 0) (getD trail (2 * n + 1) 0) u) where
+  module _ (room : 2 * n + 1 < length trail) where
     abbrev x : ℕ
     x = getD trail (2 * n) 0
 
@@ -73,14 +82,14 @@ module _ {whole : Finding} {trail text : List ℕ} {d : Cell} {n : ℕ} (l : Lef
     unfolding judged
     turn-is = sym (ap (λ (s : List ℕ). judged n tree s text) (next-move n trail room)) ∙ l .rest
 
-    pub left-more : u .reason ≡ 0 → Left whole trail text (u .cell) (n + 1)
-    left-more z = let m = turns .makes z in record {
+    pub left-more : {u : Cell} → Makes d x b u → Left whole trail text u (n + 1)
+    left-more m = record {
       ready = m .ready;
       rest = ap (λ (t : Tree). judged (n + 1) t (drop (2 * (n + 1)) trail) text) (m .tree) ∙ (rw (m .allowed) at turn-is);
     }
 
-    pub left-denied : u .reason ≢ 0 → Denied n (u .reason) ≡ whole
-    left-denied z = let m = turns .denies z in ap (Denied n) (m .why) ∙ (rw (m .refused) at turn-is)
+    pub left-denied : {reason : ℕ} → Denies d x b reason → Denied n reason ≡ whole
+    left-denied m = ap (Denied n) (m .why) ∙ (rw (m .refused) at turn-is)
 
   -- nothing is left: the listing decides
   pub left-none : length trail ≤ 2 * n → byListing d n text ≡ whole

@@ -1,5 +1,6 @@
 pub mod OnTable
 pub mod BackLaws
+pub mod IntoLaws
 pub mod MadeLaws
 pub mod TestLaws
 pub mod TurnLaws

@@ -1,15 +1,16 @@
 -- A move that a trail may tell, made on the table, makes the move of the calculus on its tree, and the table stays ready for the next.
--- Idea: leaving, opening and putting are what the steps make of a cell, locks and stages aside; the tree reads neither.
+-- Idea: an enter and an exit change one parent and use up one action; opening and putting are what the steps make of a cell, locks and stages aside, and
+-- the tree reads neither.
 use mathlib.Core.Path.{_≡_, refl, sym, ap, _∙_, subst, fun-ext}
 use mathlib.Core.Logic.{_≢_, _⊎_, inl, inr}
-use mathlib.Core.Bool.{true, false, _&&_, cond}
+use mathlib.Core.Bool.{true, _&&_, cond}
 use Prim.Native.Nat.{ℕ, _≤_, _<_}
 use native.Mathlib.Omega.{arith}
 use lib.Dec.{eqb}
 use Rattle.table.specs.Base.{upd}
 use Rattle.table.specs.BaseLaws.{Told, yea, nay, told, and-left, and-right, eq?, upd-same, upd-at, upd-other, upd-all}
-use Rattle.table.specs.Cell.{State, cellOf, tableOf, nextAction, kindOf, hasAction, unused, freshNumber, keyOf, enterKind, exitKind, openKind, releaseKind, looking, found, asleep, done, none}
-use Rattle.table.specs.CellLaws.{sized-table, is-given}
+use Rattle.table.specs.Cell.{State, cellOf, tableOf, nextAction, kindOf, hasAction, unused, freshNumber, keyOf, enterKind, exitKind, openKind, releaseKind, looking, found, done, none}
+use Rattle.table.specs.CellLaws.{sized-table}
 use Rattle.table.specs.Kinds.{Kind, is-enter, is-exit, is-open, is-release}
 use Rattle.table.specs.declared.Action.{Action}
 use Rattle.table.specs.declared.Agent.{Agent}
@@ -17,24 +18,26 @@ use Rattle.table.specs.declared.Cell.{Cell}
 use Rattle.meaning.specs.Calculus.{Tree, nextOf, standsAt, mayOpen, permits, putInto, openUp, putOut, move, Move}
 use Rattle.meaning.specs.Plain.{treeOf}
 use Rattle.meaning.specs.Run.{made}
-use Rattle.meaning.specs.Step.{wake, asleepOn, sleeper, leave, dissolve, dissolveAgent, put, putLand, restStage}
+use Rattle.meaning.specs.Step.{wake, asleepOn, sleeper, dissolve, dissolveAgent, put, putLand, restStage}
 use Rattle.meaning.specs.Update.{atStage, useUp, withHome, withLand, withLocks, withAgents, withTouches, released}
 use Rattle.calculus.specs.Above.{below-one, below-not}
 use Rattle.calculus.specs.Formed.{Formed}
 use Rattle.calculus.specs.MoveCases.{Stands, stands-in, move-case, case-kind}
-use Rattle.calculus.specs.MoveFormed.{move-formed, mover-below-64}
+use Rattle.calculus.specs.MoveFormed.{move-formed}
 use Rattle.demands.specs.Actions.{has-some, fit-stage, fit-used}
 use Rattle.demands.specs.Invariant.{Fit}
 use Rattle.demands.specs.Reading.{agentIn}
 use Rattle.demands.specs.ReadingLaws.{agent-given}
-use Rattle.demands.specs.SameTree.{given-home, given-next, move-enter, move-exit, move-open, move-release}
-use Rattle.demands.specs.TreeOf.{tree-quiet, tree-left, tree-put, tree-opened}
+use Rattle.demands.specs.SameTree.{given-next, move-enter, move-exit, move-open, move-release}
+use Rattle.demands.specs.TreeOf.{tree-quiet, tree-put, tree-opened}
 use Rattle.demands.specs.Ways.{goesOn}
-use Rattle.moves.specs.declared.Motion.the-variants.{Leave, Dissolve, Put}
+use Rattle.moves.specs.declared.Motion.the-variants.{Dissolve, Put}
 use Rattle.trail.specs.Trail.{byteFits, placeOf, allows, moved}
-use Rattle.claims.specs.FollowsLaws.{allowed-move, place-entered, place-left, place-opened, place-put, mover-kind}
-use Rattle.checker.specs.OnTable.{parentOf, shiftedOn, moverOf, motionOf, madeOn, Ready, Makes}
+use Rattle.claims.specs.FollowsLaws.{allowed-move, place-entered, place-opened, place-put, mover-kind}
+use Rattle.checker.specs.declared.Turn.the-variants.{Into, Shift}
+use Rattle.checker.specs.OnTable.{agentAt, turnBy, turnOf, wentInto, shiftedOn, motionOf, madeOn, Ready, Makes, Comes}
 use Rattle.checker.specs.BackLaws.{agent-back, tree-back, given-there}
+use Rattle.checker.specs.IntoLaws.{home-is, few, agent-read, sent, sent-tree, sent-table}
 
 -- a row of actions stays in order, wherever its agent lives and whatever its stage
 fit-moved : (a : Agent) (home stage remembered chosen : ℕ) → Fit a → Fit (withHome (atStage a stage remembered chosen) home)
@@ -59,17 +62,6 @@ module _ (t : Cell) (r : Ready t) (x : ℕ) (g : cellOf t .given x ≡ true) whe
 
   kind-is : nextOf tree x .kind ≡ kindOf own
   kind-is = ap (λ (y : Action). y .kind) next-is
-
-  pub home-is : tree .home x ≡ own .home
-  home-is = given-home c x g
-
-  home-used : c .land .used (own .home) ≡ true
-  unfolding treeOf
-  home-used = subst (λ (h : ℕ). c .land .used h ≡ true) home-is (r .formed .homes x)
-
-  few : (y : ℕ) → c .given y ≡ true → y < 64
-  unfolding cellOf
-  few = is-given t (r .sized)
 
   module _ (b : ℕ) (ok : allows tree x b ≡ true) where
     made-move : Move tree x (moved tree x b)
@@ -120,14 +112,13 @@ module _ (t : Cell) (r : Ready t) (x : ℕ) (g : cellOf t .given x ≡ true) whe
         small q u = formed .small q (unfold treeOf in u)
 
         given : (y : ℕ) → d .given y ≡ true → y < 64
-        given y k = few y (rw (ap (λ f. f y) same) at k)
+        given y k = few t r x g y (rw (ap (λ f. f y) same) at k)
 
-    -- ---- enter and exit: the agent's own place goes to d
+    -- ---- enter and exit: the agent's own place goes into d
 
-    left-makes : (d : ℕ) → putInto tree x d ≡ moved tree x b → Makes t x b (shiftedOn t x own (Leave d))
-    unfolding leave made
-    left-makes d e = makes-of (leave c x own d .cell) refl (tree-left c x g d home-used ∙ e)
-        (fits-after (wake c (own .remembered) (own .home) (own .home)) 4 (woken-fit (own .remembered) (own .home) (own .home)))
+    went-makes : (d : ℕ) → putInto tree x d ≡ moved tree x b → Makes t x b (wentInto t x own d)
+    went-makes d e = subst (Makes t x b) (sym (sent-table t r x g d)) (makes-of (sent t r x g d) refl (sent-tree t r x g d ∙ e)
+        (upd-all (c .agent) x (useUp own) (λ y a. c .given y ≡ true → Fit a) (λ _. fit-used own (r .fit x g) left-some) (λ y _. r .fit y)))
 
     -- ---- open: the place b is dissolved into the agent's own
 
@@ -141,7 +132,7 @@ module _ (t : Cell) (r : Ready t) (x : ℕ) (g : cellOf t .given x ≡ true) whe
           (rw (kind-is ∙ k) at (subst (λ (m : ℕ). permits tree x m ≡ true) opened-place permitted)))
 
       own-not : own .home ≢ b
-      own-not e = below-not tree (r .formed) (below-one (stands .placed) (stands .parent)) (sym (home-is ∙ e))
+      own-not e = below-not tree (r .formed) (below-one (stands .placed) (stands .parent)) (sym (home-is t r x g ∙ e))
 
       other-fit : (a : Agent) → Fit a → Fit (dissolveAgent (own .home) b a)
       unfolding dissolveAgent
@@ -217,20 +208,29 @@ module _ (t : Cell) (r : Ready t) (x : ℕ) (g : cellOf t .given x ≡ true) whe
     unfolding moved
     entered-is k = sym (ap (move tree x) (place-entered tree x b (kind-is ∙ k)) ∙ move-enter c x g fit-in b k)
 
-    exited-is : kindOf own ≡ exitKind → putInto tree x (parentOf (c .land) (parentOf (c .land) (own .home))) ≡ moved tree x b
+    exited-is : kindOf own ≡ exitKind → putInto tree x (tree .parent (tree .parent (tree .home x))) ≡ moved tree x b
     unfolding moved treeOf
-    exited-is k = sym (move-exit c x g fit-in (placeOf tree x b) k ∙ ap (λ (h : ℕ). putInto tree x (parentOf (c .land) (parentOf (c .land) h))) home-is)
+    exited-is k = sym (move-exit c x g fit-in (placeOf tree x b) k)
 
-    -- the table after it
-    pub made-makes : Makes t x b (madeOn t x own b)
-    unfolding madeOn moverOf motionOf
-    made-makes = go (mover-kind (move-case made-move))
+    -- what it comes to, and the table after it
+    pub allowed-comes : Comes t x b (turnOf tree x b)
+    unfolding turnOf turnBy madeOn motionOf
+    allowed-comes = go (mover-kind (move-case made-move))
       where
+        read : own ≡ agentAt t x
+        read = agent-read t r x g
+
         tests : {n : ℕ} → nextOf tree x .kind ≡ n → (m : ℕ) → eqb (kindOf own) m ≡ eqb n m
         tests k m = ap (λ (j : ℕ). eqb j m) (sym kind-is ∙ k)
 
-        go : Kind (nextOf tree x .kind) → Makes t x b (madeOn t x own b)
-        go (is-enter k) = rw (tests k enterKind) (left-makes b (entered-is (sym kind-is ∙ k)))
-        go (is-exit k) = rw (tests k enterKind, tests k exitKind) (left-makes (parentOf (c .land) (parentOf (c .land) (own .home))) (exited-is (sym kind-is ∙ k)))
-        go (is-open k) = rw (tests k enterKind, tests k exitKind, tests k openKind) (opened-makes (sym kind-is ∙ k))
-        go (is-release k) = rw (tests k enterKind, tests k exitKind, tests k openKind) (put-makes (sym kind-is ∙ k))
+        goes : (d : ℕ) → turnOf tree x b ≡ Into d → putInto tree x d ≡ moved tree x b → Comes t x b (turnOf tree x b)
+        goes d e w = subst (Comes t x b) (sym e) (subst (λ (a : Agent). Makes t x b (wentInto t x a d)) read (went-makes d w))
+
+        shifts : turnOf tree x b ≡ Shift → Makes t x b (madeOn t x own b) → Comes t x b (turnOf tree x b)
+        shifts e m = subst (Comes t x b) (sym e) (subst (λ (a : Agent). Makes t x b (madeOn t x a b)) read m)
+
+        go : Kind (nextOf tree x .kind) → Comes t x b (turnOf tree x b)
+        go (is-enter k) = goes b (rw (ok, k)) (entered-is (sym kind-is ∙ k))
+        go (is-exit k) = goes (tree .parent (tree .parent (tree .home x))) (rw (ok, k)) (exited-is (sym kind-is ∙ k))
+        go (is-open k) = shifts (rw (ok, k)) (rw (tests k openKind) (opened-makes (sym kind-is ∙ k)))
+        go (is-release k) = shifts (rw (ok, k)) (rw (tests k openKind) (put-makes (sym kind-is ∙ k)))

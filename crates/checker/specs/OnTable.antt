@@ -5,7 +5,8 @@ use mathlib.Core.Logic.{_≢_}
 use mathlib.Core.Bool.{Bool, true, false, cond}
 use mathlib.Core.List.{List, [], _∷_}
 use lib.Dec.{eqb}
-use lib.ListN.{length}
+use lib.ListN.{length, getD, set}
+use Rattle.sets.specs.Set.{member}
 use Rattle.sets.specs.declared.Set.{Set}
 use Rattle.table.specs.declared.Name.{Name}
 use Rattle.table.specs.declared.Place.{Place}
@@ -13,30 +14,27 @@ use Rattle.table.specs.declared.Action.{Action}
 use Rattle.table.specs.declared.Agent.{Agent}
 use Rattle.table.specs.declared.Cell.{Cell}
 use Rattle.table.specs.Bounds.{Sized}
-use Rattle.table.specs.Cell.{Land, landOf, cellOf, noName, freshNumber, kindOf, enterKind, exitKind, openKind}
-use Rattle.meaning.specs.Calculus.{Tree}
+use Rattle.table.specs.Cell.{Land, cellOf, putPlaces, putAgents, noName, noPlace, noAgent, freshNumber, kindOf, enterKind, exitKind, openKind}
+use Rattle.meaning.specs.Calculus.{Tree, nextOf}
 use Rattle.meaning.specs.Listing.{listing}
 use Rattle.meaning.specs.Plain.{treeFrom, treeOf}
 use Rattle.meaning.specs.Run.{made}
-use Rattle.meaning.specs.Update.{atStage}
+use Rattle.meaning.specs.Update.{withParent, atStage, useUp}
 use Rattle.meaning.specs.declared.Verdict.the-variants.{Accepted, Rejected}
 use Rattle.calculus.specs.Formed.{Formed}
 use Rattle.demands.specs.Invariant.{Fit}
 use Rattle.moves.specs.Motions.{shifted}
 use Rattle.moves.specs.declared.Motion.{Motion}
-use Rattle.moves.specs.declared.Motion.the-variants.{Leave, Dissolve, Put}
+use Rattle.moves.specs.declared.Motion.the-variants.{Dissolve, Put}
 use Rattle.text.specs.Same.{sameText}
 use Rattle.trail.specs.declared.Finding.{Finding}
 use Rattle.trail.specs.declared.Finding.the-variants.{Upheld, Denied, BadFile}
 use Rattle.trail.specs.Trail.{allows, moved, whyNot, notPermitted, noActionLeft, oddByte, otherLayout, judged, finding}
 use Rattle.checker.specs.declared.Played.{Played}
-use Rattle.checker.specs.declared.Turned.{Turned}
+use Rattle.checker.specs.declared.Turn.{Turn}
+use Rattle.checker.specs.declared.Turn.the-variants.{Deny, Into, Shift}
 
 -- ---- what is read
-
--- the places of a row and the set of those in use
-abbrev pub placesOf : List Place → Set → Land
-placesOf ps used = landOf ps used []
 
 -- where a place in use stands, and its name with its keys
 abbrev pub parentOf : Land → ℕ → ℕ
@@ -49,6 +47,33 @@ nameOf l q = cond (l .used q) (l .place q .name) noName
 abbrev pub oneAgent : Land → ℕ → Action → Tree
 oneAgent l home x = treeFrom l (λ _. home) (λ _. x ∷ [])
 
+-- of these places the set of those in use, and place b, if it is one of them
+pub record Numbered (l : Land) (used : Set) (b : ℕ) (q : Place) : Type 0 where
+  pub in-use : l .used ≡ member used
+  pub is-place : l .used b ≡ true → l .place b ≡ q
+
+-- of these places what a move of an agent that lives in home reads, told by the byte b: where its own place stands, the place there, and place b
+pub record Seen (l : Land) (used : Set) (home around : ℕ) (p : Place) (b : ℕ) (q : Place) : Type 0 where
+  pub stands : parentOf l home ≡ around
+  pub name : nameOf l around ≡ p .name
+  pub told : Numbered l used b q
+
+-- the elements of a table's arrays at these numbers modulo 64
+abbrev pub agentAt : Cell → ℕ → Agent
+agentAt t x = getD (t .agents) (x % 64) noAgent
+
+abbrev pub placeAt : Cell → ℕ → Place
+placeAt t q = getD (t .places) (q % 64) noPlace
+
+-- of a table what a move of agent x reads, told by the byte b
+pub record Reads (t : Cell) (x : ℕ) (given used : Set) (a : Agent) (around : ℕ) (p : Place) (b : ℕ) (q : Place) : Type 0 where
+  pub given-set : t .given ≡ given
+  pub used-set : t .used ≡ used
+  pub agent : agentAt t x ≡ a
+  pub stands : placeAt t (a .home) .parent ≡ around
+  pub place : placeAt t around ≡ p
+  pub told : placeAt t b ≡ q
+
 -- why a move is denied, by whether no action is left
 abbrev pub whyIf : Bool → ℕ
 whyIf over = cond over noActionLeft notPermitted
@@ -57,26 +82,34 @@ whyIf over = cond over noActionLeft notPermitted
 abbrev pub whyKind : ℕ → ℕ
 whyKind kind = whyIf (eqb kind 0)
 
+-- ---- what a move comes to
+
+-- one that is allowed, by the kind of the action: the agent's own place goes into b, or to where the place around it stands
+unfoldable pub turnBy : ℕ → ℕ → ℕ → Turn
+turnBy kind beyond b = cond (eqb kind enterKind) (Into b) (cond (eqb kind exitKind) (Into beyond) Shift)
+
+-- the move of agent x that the byte b tells
+unfoldable pub turnOf : Tree → ℕ → ℕ → Turn
+unfolding allows turnBy
+turnOf t x b = cond (allows t x b) (turnBy (nextOf t x .kind) (t .parent (t .parent (t .home x))) b) (Deny (whyNot t x))
+
 -- ---- what is made
+
+-- the table in which the own place of agent x, which is a, stands in d, and the agent's next action is used up
+abbrev pub wentInto : Cell → ℕ → Agent → ℕ → Cell
+wentInto t x a d = putAgents (putPlaces t (set (t .places) (a .home % 64) (withParent (placeAt t (a .home)) d))) (set (t .agents) (x % 64) (useUp a))
 
 -- a motion of agent x, which is a
 abbrev pub shiftedOn : Cell → ℕ → Agent → Motion → Cell
 shiftedOn t x a motion = made (shifted (cellOf t) x a motion) .cell
 
--- agent a as it makes the move that the byte b tells: to open or release it stands at its own place and has chosen b
-unfoldable pub moverOf : Agent → ℕ → Agent
-moverOf a b = cond (eqb (kindOf a) enterKind) a (cond (eqb (kindOf a) exitKind) a (atStage a 3 (a .home) b))
+-- how a place moves when agent a opens or releases: one in its own is dissolved, or a new one is put
+unfoldable pub motionOf : (ℕ → Bool) → Agent → Motion
+motionOf used a = cond (eqb (kindOf a) openKind) Dissolve (Put (freshNumber used))
 
--- how a place moves then: the agent's own goes on its way, one in it is dissolved, or a new one is put
-unfoldable pub motionOf : Land → Agent → ℕ → Motion
-motionOf l a b =
-    cond (eqb (kindOf a) enterKind) (Leave b)
-    (cond (eqb (kindOf a) exitKind) (Leave (parentOf l (parentOf l (a .home))))
-    (cond (eqb (kindOf a) openKind) Dissolve (Put (freshNumber (l .used)))))
-
--- the table after agent x, which is a, makes that move
+-- the table after agent x, which is a, opens the place b or releases: it stands at its own place and has chosen b
 unfoldable pub madeOn : Cell → ℕ → Agent → ℕ → Cell
-madeOn t x a b = shiftedOn t x (moverOf a b) (motionOf (cellOf t .land) a b)
+madeOn t x a b = shiftedOn t x (atStage a 3 (a .home) b) (motionOf (cellOf t .land .used) a)
 
 -- what holds of the table all along: it is of the struct, its tree is formed, the rows of actions are in order
 pub record Ready (t : Cell) : Type 0 where
@@ -95,10 +128,11 @@ pub record Denies (t : Cell) (x b reason : ℕ) : Type 0 where
   pub refused : allows (treeOf (cellOf t)) x b ≡ false
   pub why : reason ≡ whyNot (treeOf (cellOf t)) x
 
--- one move of a trail
-pub record Turns (t : Cell) (x b : ℕ) (r : Turned) : Type 0 where
-  pub makes : r .reason ≡ 0 → Makes t x b (r .cell)
-  pub denies : r .reason ≢ 0 → Denies t x b (r .reason)
+-- what becomes of the move of agent x that the byte b tells, by what it comes to
+abbrev pub Comes : Cell → ℕ → ℕ → Turn → Type 0
+Comes t x b (Deny reason) = Denies t x b reason
+Comes t x b (Into d) = Makes t x b (wentInto t x (agentAt t x) d)
+Comes t x b Shift = Makes t x b (madeOn t x (agentAt t x) b)
 
 -- ---- the finding, from a loaded table
 

@@ -1,19 +1,23 @@
 -- What the tests of the code come to, one after the other.
 use mathlib.Core.Path.{_≡_, refl, sym, ap, _∙_}
 use mathlib.Core.Logic.{_≢_}
-use mathlib.Core.Bool.{Bool, true, false, not, _&&_, cond, and-false}
+use mathlib.Core.Bool.{Bool, true, false, not, _&&_, and-false}
 use Prim.Native.Nat.{ℕ}
 use lib.Dec.{eqb}
 use borrow.Author.Tests.{eq-eqb, ne-eqb}
+use Rattle.sets.specs.Set.{member}
+use Rattle.sets.specs.declared.Set.{Set}
+use Rattle.table.specs.BaseLaws.{and-left}
 use Rattle.table.specs.Cell.{Land, kindOf, freshNumber, enterKind, exitKind, openKind, releaseKind}
 use Rattle.table.specs.declared.Action.{Action}
 use Rattle.table.specs.declared.Agent.{Agent}
-use Rattle.meaning.specs.Calculus.{mayEnter, mayExit, mayOpen, hasRoom, mayRelease, permits}
+use Rattle.table.specs.declared.Place.{Place}
+use Rattle.meaning.specs.Calculus.{standsAt, mayEnter, mayExit, mayOpen, hasRoom, mayRelease, permits}
 use Rattle.meaning.specs.Codes.{noneTold}
-use Rattle.meaning.specs.Update.{atStage}
-use Rattle.moves.specs.declared.Motion.the-variants.{Leave, Dissolve, Put}
+use Rattle.moves.specs.declared.Motion.the-variants.{Dissolve, Put}
 use Rattle.trail.specs.Trail.{allows}
-use Rattle.checker.specs.OnTable.{parentOf, oneAgent, moverOf, motionOf}
+use Rattle.checker.specs.declared.Turn.the-variants.{Into, Shift}
+use Rattle.checker.specs.OnTable.{parentOf, nameOf, oneAgent, Numbered, turnBy, motionOf}
 
 pub and-yes : (a b : Bool) → a ≡ true → b ≡ (a && b)
 and-yes a b e = sym (rw e)
@@ -26,6 +30,38 @@ differs q p e = rw (ne-eqb q p e)
 
 pub equals : (q p : ℕ) → q ≡ p → not (eqb q p) ≡ false
 equals q p e = rw (eq-eqb q p e)
+
+-- ---- a place that is read
+
+module _ {l : Land} {used : Set} {b : ℕ} {q : Place} (n : Numbered l used b q) where
+  -- it is in use, or it is not
+  used-is : {o : Bool} → member used b ≡ o → l .used b ≡ o
+  used-is u = ap (λ (f : ℕ → Bool). f b) (n .in-use) ∙ u
+
+  module _ (h : ℕ) (x : Action) where
+    -- whether it stands in p
+    pub stands-unused : (p : ℕ) → member used b ≡ false → false ≡ standsAt (oneAgent l h x) b p
+    unfolding standsAt
+    stands-unused p u = and-no _ _ (used-is u)
+
+    pub stands-floor : (p : ℕ) → member used b ≡ true → b ≡ 0 → false ≡ standsAt (oneAgent l h x) b p
+    unfolding standsAt
+    stands-floor p u z = and-no _ _ (equals b 0 z) ∙ and-yes _ _ (used-is u)
+
+    pub stands-placed : (p : ℕ) → member used b ≡ true → b ≢ 0 → eqb (q .parent) p ≡ standsAt (oneAgent l h x) b p
+    unfolding standsAt
+    stands-placed p u z = ap (λ (m : ℕ). eqb m p) (sym parent) ∙ and-yes _ _ (differs b 0 z) ∙ and-yes _ _ (used-is u)
+      where
+        parent : parentOf l b ≡ q .parent
+        parent = rw (used-is u) (ap (λ (y : Place). y .parent) (n .is-place (used-is u)))
+
+    -- its name, where it stands in some place
+    pub name-there : (p : ℕ) → standsAt (oneAgent l h x) b p ≡ true → q .name ≡ nameOf l b
+    unfolding standsAt
+    name-there p e = sym (rw u (ap (λ (y : Place). y .name) (n .is-place u)))
+      where
+        u : l .used b ≡ true
+        u = and-left (l .used b) (not (eqb b 0) && eqb (parentOf l b) p) e
 
 -- ---- what is allowed, by the kind of the action and the byte
 
@@ -60,34 +96,26 @@ module _ (l : Land) (h : ℕ) (x : Action) (b : ℕ) where
   unfolding allows permits
   allow-none i j k m = sym (rw (ne-eqb (x .kind) enterKind i, ne-eqb (x .kind) exitKind j, ne-eqb (x .kind) openKind k, ne-eqb (x .kind) releaseKind m) (and-false (eqb b noneTold)))
 
--- ---- what is made, by the kind of the action
+-- ---- what becomes of it, by the kind of the action
 
-module _ (a : Agent) (b : ℕ) where
-  pub mover-enter : kindOf a ≡ enterKind → a ≡ moverOf a b
-  unfolding moverOf
-  mover-enter k = sym (rw (eq-eqb (kindOf a) enterKind k))
+module _ (kind beyond b : ℕ) where
+  pub turn-enter : kind ≡ enterKind → Into b ≡ turnBy kind beyond b
+  unfolding turnBy
+  turn-enter k = sym (rw (eq-eqb kind enterKind k))
 
-  pub mover-exit : kindOf a ≢ enterKind → kindOf a ≡ exitKind → a ≡ moverOf a b
-  unfolding moverOf
-  mover-exit i k = sym (rw (ne-eqb (kindOf a) enterKind i, eq-eqb (kindOf a) exitKind k))
+  pub turn-exit : kind ≢ enterKind → kind ≡ exitKind → Into beyond ≡ turnBy kind beyond b
+  unfolding turnBy
+  turn-exit i k = sym (rw (ne-eqb kind enterKind i, eq-eqb kind exitKind k))
 
-  pub mover-other : kindOf a ≢ enterKind → kindOf a ≢ exitKind → atStage a 3 (a .home) b ≡ moverOf a b
-  unfolding moverOf
-  mover-other i j = sym (rw (ne-eqb (kindOf a) enterKind i, ne-eqb (kindOf a) exitKind j))
+  pub turn-other : kind ≢ enterKind → kind ≢ exitKind → Shift ≡ turnBy kind beyond b
+  unfolding turnBy
+  turn-other i j = sym (rw (ne-eqb kind enterKind i, ne-eqb kind exitKind j))
 
-module _ (l : Land) (a : Agent) (b : ℕ) where
-  pub motion-enter : kindOf a ≡ enterKind → Leave b ≡ motionOf l a b
+module _ (used : ℕ → Bool) (a : Agent) where
+  pub motion-open : kindOf a ≡ openKind → Dissolve ≡ motionOf used a
   unfolding motionOf
-  motion-enter k = sym (rw (eq-eqb (kindOf a) enterKind k))
+  motion-open k = sym (rw (eq-eqb (kindOf a) openKind k))
 
-  pub motion-exit : kindOf a ≢ enterKind → kindOf a ≡ exitKind → (d : ℕ) → d ≡ parentOf l (parentOf l (a .home)) → Leave d ≡ motionOf l a b
+  pub motion-release : kindOf a ≢ openKind → (q : ℕ) → q ≡ freshNumber used → Put q ≡ motionOf used a
   unfolding motionOf
-  motion-exit i k d e = ap Leave e ∙ sym (rw (ne-eqb (kindOf a) enterKind i, eq-eqb (kindOf a) exitKind k))
-
-  pub motion-open : kindOf a ≢ enterKind → kindOf a ≢ exitKind → kindOf a ≡ openKind → Dissolve ≡ motionOf l a b
-  unfolding motionOf
-  motion-open i j k = sym (rw (ne-eqb (kindOf a) enterKind i, ne-eqb (kindOf a) exitKind j, eq-eqb (kindOf a) openKind k))
-
-  pub motion-release : kindOf a ≢ enterKind → kindOf a ≢ exitKind → kindOf a ≢ openKind → (q : ℕ) → q ≡ freshNumber (l .used) → Put q ≡ motionOf l a b
-  unfolding motionOf
-  motion-release i j k q e = ap Put e ∙ sym (rw (ne-eqb (kindOf a) enterKind i, ne-eqb (kindOf a) exitKind j, ne-eqb (kindOf a) openKind k))
+  motion-release k q e = ap Put e ∙ sym (rw (ne-eqb (kindOf a) openKind k))

@@ -1,13 +1,17 @@
 // Checking a trail: the file is loaded, each move of the trail is made on the table, and the listing at the end is compared.
 //
-// No lock is taken and no stage is read: a move is one call of `moves::shift`, whose time is bounded by the 64 places and agents.
+// No lock is taken and no stage is read. An enter and an exit are two stores into the table; an opening and a release are one call of
+// `moves::shift`, whose time is bounded by the 64 places and agents.
 mod making;
 mod rules;
+mod turns;
 
-use making::turn;
+use making::make;
 use meaning::Verdict;
 use table::Cell;
 use trail::Finding;
+use turns::count_used;
+use turns::turn_of;
 ghost use mathlib.Core.Path.{_≡_};
 ghost use mathlib.Core.Logic.{_≢_};
 ghost use Prim.Native.Nat.{_*_, _%_, _≤_};
@@ -16,10 +20,14 @@ ghost use Rattle.meaning.specs.declared.Verdict.the-variants.{Accepted};
 ghost use Rattle.trail.specs.Trail.{finding};
 ghost use Rattle.checker.specs.OnTable.{Ready, Stops, Plays, FoundAnyway};
 
-// What becomes of one move of a trail: the reason why it is denied, 0 where it is made, and the table after it.
-pub struct Turned {
-    pub reason: u8,
-    pub cell: Cell,
+// What one move of a trail comes to.
+pub enum Turn {
+    // It is denied for this reason.
+    Deny(u8),
+    // The agent's own place goes into this place.
+    Into(u8),
+    // A place is dissolved, or a new one is put.
+    Shift,
 }
 
 // What becomes of a file and the moves of a trail: the verdict on the file; how many moves are made; the reason why the next is denied, 0
@@ -41,17 +49,36 @@ fn run(c: Cell, trail: &[u8], moves: usize) -> Played
     while n < moves {
         let x = trail[2 * n];
         let b = trail[2 * n + 1];
-        let t = turn(d, x, b);
-        if t.reason != 0 {
-            return Played {
-                verdict: Verdict::Accepted,
-                made: n,
-                reason: t.reason,
-                cell: d,
-            };
+        let k = table::at(x);
+        let a = d.agents[k];
+        let i = table::at(a.home);
+        let around = d.places[i].parent;
+        let o = table::at(around);
+        let p = d.places[o];
+        let j = table::at(b);
+        let q = d.places[j];
+        let given = d.given;
+        let used = d.used;
+        let t = turn_of(given, used, x, a, around, p, b, q);
+        match t {
+            Turn::Deny(reason) => {
+                return Played {
+                    verdict: Verdict::Accepted,
+                    made: n,
+                    reason: reason,
+                    cell: d,
+                };
+            }
+            Turn::Into(to) => {
+                let next = count_used(a.next, a.count);
+                d.places[i].parent = to;
+                d.agents[k].next = next;
+            }
+            Turn::Shift => {
+                let e = make(d, x, a, b);
+                d = e;
+            }
         }
-        let e = t.cell;
-        d = e;
         n += 1;
     }
     Played {

@@ -1,115 +1,88 @@
-// What the calculus permits, tested on the places of a table.
+// What the calculus permits, tested on the places that are read for a move.
 use sets::Set;
 use table::Action;
-use table::Name;
 use table::Place;
 ghost use mathlib.Core.Path.{_≡_};
-ghost use mathlib.Core.Bool.{cond};
-ghost use lib.Dec.{eqb};
+ghost use Prim.Native.Nat.{ℕ};
+ghost use Rattle.sets.specs.Set.{member};
+ghost use Rattle.table.specs.Cell.{Land};
 ghost use Rattle.meaning.specs.Calculus.{standsAt, mayEnter, mayExit, mayOpen, hasRoom};
 ghost use Rattle.trail.specs.Trail.{allows};
-ghost use Rattle.checker.specs.OnTable.{placesOf, parentOf, nameOf, oneAgent, whyKind};
+ghost use Rattle.checker.specs.OnTable.{parentOf, nameOf, oneAgent, Numbered, Seen, whyKind};
 
-// Where a place in use stands, else 0.
-pub(super) fn parent_of(ps: [Place; 64], used: Set, q: u8) -> u8
-    ensures { λ r. ⌜ r ≡ parentOf (placesOf ps used) q ⌝ }
+// Whether place b, which is q, stands in p; the floor stands in none.
+fn stands(used: Set, b: u8, q: Place, p: u8) -> bool
+    ensures { λ r. ⌜ ((l : Land) → Numbered l used b q → (h : ℕ) → (x : Action) → r ≡ standsAt (oneAgent l h x) b p) ⌝ }
 {
-    if used.has(q) {
-        let x = table::place_at(ps, q);
-        return x.parent;
-    }
-    0
-}
-
-// The name of a place in use with its keys, else none.
-fn name_of(ps: [Place; 64], used: Set, q: u8) -> Name
-    ensures { λ r. ⌜ r ≡ nameOf (placesOf ps used) q ⌝ }
-{
-    if used.has(q) {
-        let x = table::place_at(ps, q);
-        return x.name;
-    }
-    let x = table::no_place();
-    x.name
-}
-
-// Whether place q stands in p; the floor stands in none.
-fn stands(ps: [Place; 64], used: Set, h: u8, x: Action, q: u8, p: u8) -> bool
-    ensures { λ r. ⌜ r ≡ standsAt (oneAgent (placesOf ps used) h x) q p ⌝ }
-{
-    if used.has(q) {
-        if q == 0 {
+    if used.has(b) {
+        if b == 0 {
             return false;
         }
-        return parent_of(ps, used, q) == p;
+        return q.parent == p;
     }
     false
 }
 
-// Whether an agent that lives in h may enter q with this action.
-fn may_enter(ps: [Place; 64], used: Set, h: u8, x: Action, q: u8) -> bool
-    ensures { λ r. ⌜ r ≡ mayEnter (oneAgent (placesOf ps used) h x) 0 q ⌝ }
+// Whether an agent whose own place is h, in around, may enter place b, which is q, with this action.
+fn enters(used: Set, h: u8, x: Action, around: u8, b: u8, q: Place) -> bool
+    ensures { λ r. ⌜ ((l : Land) → parentOf l h ≡ around → Numbered l used b q → r ≡ mayEnter (oneAgent l h x) 0 b) ⌝ }
 {
     if h == 0 {
         return false;
     }
-    let p = parent_of(ps, used, h);
-    if stands(ps, used, h, x, q, p) {
-        if q == h {
+    if stands(used, b, q, around) {
+        if b == h {
             return false;
         }
-        let name = name_of(ps, used, q);
-        return name.entering == x.name;
+        return q.name.entering == x.name;
     }
     false
 }
 
-// Whether it may exit the place around its own.
-fn may_exit(ps: [Place; 64], used: Set, h: u8, x: Action) -> bool
-    ensures { λ r. ⌜ r ≡ mayExit (oneAgent (placesOf ps used) h x) 0 (parentOf (placesOf ps used) h) ⌝ }
+// Whether it may exit the place around its own, which is p.
+fn exits(h: u8, x: Action, p: Place) -> bool
+    ensures { λ r. ⌜ ((l : Land) → nameOf l (parentOf l h) ≡ p .name → r ≡ mayExit (oneAgent l h x) 0 (parentOf l h)) ⌝ }
 {
     if h == 0 {
         return false;
     }
-    let p = parent_of(ps, used, h);
-    let name = name_of(ps, used, p);
-    name.exiting == x.name
+    p.name.exiting == x.name
 }
 
-// Whether it may open q.
-fn may_open(ps: [Place; 64], used: Set, h: u8, x: Action, q: u8) -> bool
-    ensures { λ r. ⌜ r ≡ mayOpen (oneAgent (placesOf ps used) h x) 0 q ⌝ }
+// Whether it may open place b, which is q.
+fn opens(used: Set, h: u8, x: Action, b: u8, q: Place) -> bool
+    ensures { λ r. ⌜ ((l : Land) → Numbered l used b q → r ≡ mayOpen (oneAgent l h x) 0 b) ⌝ }
 {
-    if stands(ps, used, h, x, q, h) {
-        let name = name_of(ps, used, q);
-        return name.opening == x.name;
+    if stands(used, b, q, h) {
+        return q.name.opening == x.name;
     }
     false
 }
 
 // Whether a number is unused.
-fn has_room(ps: [Place; 64], used: Set, h: u8, x: Action) -> bool
-    ensures { λ r. ⌜ r ≡ hasRoom (oneAgent (placesOf ps used) h x) ⌝ }
+fn has_room(used: Set) -> bool
+    ensures { λ r. ⌜ ((l : Land) → l .used ≡ member used → (h : ℕ) → (x : Action) → r ≡ hasRoom (oneAgent l h x)) ⌝ }
 {
     table::fresh_number(used) < 64
 }
 
-// Whether an agent that lives in h may make the move of this action that the byte b tells: 255 for exit and release.
-pub(super) fn allowed(ps: [Place; 64], used: Set, h: u8, x: Action, b: u8) -> bool
-    ensures { λ r. ⌜ r ≡ allows (oneAgent (placesOf ps used) h x) 0 b ⌝ }
+// Whether an agent whose own place is h may make the move of this action that the byte b tells: 255 for exit and release. Its place stands in
+// around, which is p, and place b is q.
+pub(super) fn allowed(used: Set, h: u8, x: Action, around: u8, p: Place, b: u8, q: Place) -> bool
+    ensures { λ r. ⌜ ((l : Land) → Seen l used h around p b q → r ≡ allows (oneAgent l h x) 0 b) ⌝ }
 {
     if x.kind == 1 {
-        return may_enter(ps, used, h, x, b);
+        return enters(used, h, x, around, b, q);
     }
     if x.kind == 3 {
-        return may_open(ps, used, h, x, b);
+        return opens(used, h, x, b, q);
     }
     if b == 255 {
         if x.kind == 2 {
-            return may_exit(ps, used, h, x);
+            return exits(h, x, p);
         }
         if x.kind == 4 {
-            return has_room(ps, used, h, x);
+            return has_room(used);
         }
     }
     false
