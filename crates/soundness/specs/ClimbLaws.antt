@@ -2,36 +2,31 @@
 -- Idea: before each turn the floor and all places so far fit, which is `Climbed`, or the places are not as they should be and the walk is at its end.
 use mathlib.Core.Path.{_≡_, refl, sym, ap, _∙_, subst}
 use mathlib.Core.Logic.{_≢_, _⊎_, inl, inr}
-use mathlib.Core.Bool.{Bool, true, false, _&&_, cond}
+use mathlib.Core.Bool.{Bool, true, false, _&&_, _||_, cond}
 use mathlib.Core.List.{List}
-use Prim.Native.Nat.{ℕ, _+_, _≤_, _<_}
+use Prim.Native.Nat.{ℕ, _+_, _≤_, _<_, _^_}
 use native.Mathlib.Nat.{pos-of-ne-zero}
 use native.Mathlib.Omega.{arith}
 use lib.Dec.{eqb}
 use lib.ListN.{getD, set, replicate}
+use borrow.Author.Tests.{eqb-true}
 use Rattle.sets.specs.Word.{has}
 use Rattle.sets.specs.WordLaws.{has-none}
-use Rattle.sets.specs.Set.{member, removed}
+use Rattle.sets.specs.Set.{member, insertedIf, removed}
 use Rattle.sets.specs.WalkLaws.{rest-lt, removed-less, lowest-found, lowestIn}
 use Rattle.sets.specs.declared.Set.{Set}
-use Rattle.table.specs.BaseLaws.{clash, eq?}
-use Rattle.table.specs.Cell.{noPlace}
+use Rattle.table.specs.BaseLaws.{clash, eq?, and-left, and-right}
+use Rattle.table.specs.Cell.{none, noPlace}
+use Rattle.table.specs.Sound.{nameless}
 use Rattle.table.specs.declared.Cell.{Cell}
 use Rattle.table.specs.declared.Place.{Place}
-use Rattle.soundness.specs.Pass.{parentsOf, zerosOf, farUp, floorSound, childFits, childTest, childrenFit, landsFit}
-use Rattle.soundness.specs.LandLaws.{Climbed, climbed-start, climbed-fit, climbed-up, climbed-top, climbed-flat, climbed-stop, climbed-more}
+use Rattle.soundness.specs.Lead.{above}
+use Rattle.soundness.specs.Pass.{allLead, floorStands, floorFits, floorSound, childFits, childTest, childrenFit, landsFit}
+use Rattle.soundness.specs.LandLaws.{Climbed, climbed-start, climbed-fit, climbed-ways, climbed-leads, climbed-stop, climbed-more}
 use Rattle.soundness.specs.SoundLaws.{floor-decides}
-use Rattle.soundness.specs.Climb.{climbingAt, haltedHere, flooredOf, placedOf, Led}
+use Rattle.soundness.specs.Climb.{floorAlone, climbingAt, haltedHere, flooredOf, placedOf, Led}
 use Rattle.soundness.specs.declared.lands.Climb.{Climb}
 use Rattle.soundness.specs.declared.turns.Walk.{Walk}
-
--- a number that is 0 where all stand on the floor itself
-abbrev top : Bool → ℕ
-top b = cond b 0 1
-
-top-is : (b : Bool) → eqb (top b) 0 ≡ b
-top-is true = refl
-top-is false = refl
 
 -- what gets less with each turn
 abbrev pub left : Climb → ℕ
@@ -44,12 +39,11 @@ module _ (c : Cell) (w : Walk) where
 
   pub record Up (l : Climb) (up : List ℕ) : Type 0 where
     pub rest : Set
-    pub flat : Bool
-    pub high : ℕ
-    pub is : l ≡ climbingAt (c .used) rest (w .claimed) (w .going) flat high
+    pub known : Set
+    pub is : l ≡ climbingAt (c .used) rest (w .claimed) (w .going) known
     pub agents : w .fit ≡ true
     pub floor : floorSound (getD (c .places) 0 noPlace) (getD (c .locks) 0 0) (c .used) (w .claimed) (w .going) ≡ true
-    pub climbed : Climbed (c .places) (c .locks) (c .used) (w .claimed) (w .going) up (cond flat 0 1) high rest
+    pub climbed : Climbed (c .places) (c .locks) (c .used) (w .claimed) (w .going) up known rest
 
   pub record Down (l : Climb) : Type 0 where
     pub is : l ≡ haltedHere
@@ -63,20 +57,29 @@ module _ (c : Cell) (w : Walk) where
       → childrenFit (c .places) (c .locks) (c .used) (w .claimed) (w .going) ≡ whole
   decided f e = floor-decides (c .places) (c .locks) (c .used) (w .claimed) (w .going) true e ∙ sym (ap (λ (b : Bool). b && landsFit (c .places) (c .locks) (c .used) (w .claimed) (w .going)) f)
 
+  -- the floor is in use, and stands on itself
+  floor-used : floorSound (getD (c .places) 0 noPlace) (getD (c .locks) 0 0) (c .used) (w .claimed) (w .going) ≡ true → member (c .used) 0 ≡ true
+  unfolding floorSound
+  floor-used e = and-left (member (c .used) 0) _ e
+
+  floor-flat : floorSound (getD (c .places) 0 noPlace) (getD (c .locks) 0 0) (c .used) (w .claimed) (w .going) ≡ true → getD (c .places) 0 noPlace .parent ≡ 0
+  unfolding floorSound floorFits floorStands
+  floor-flat e = let x = getD (c .places) 0 noPlace in
+      eqb-true (x .parent) 0 (and-left (eqb (x .parent) 0) _ (and-right (nameless (x .name)) _ (and-right (eqb (getD (c .locks) 0 0) none || member (w .claimed) 0) _ (and-right (member (c .used) 0) _ e))))
+
   pub floored-climbs : Climbs (flooredOf w (c .used) (getD (c .places) 0 noPlace) (getD (c .locks) 0 0)) (replicate 64 0)
   unfolding flooredOf
   floored-climbs = go (w .fit) (floorSound (getD (c .places) 0 noPlace) (getD (c .locks) 0 0) (c .used) (w .claimed) (w .going)) refl refl
     where
       go : (f b : Bool) → w .fit ≡ f → floorSound (getD (c .places) 0 noPlace) (getD (c .locks) 0 0) (c .used) (w .claimed) (w .going) ≡ b
-          → Climbs (cond f (cond b (climbingAt (c .used) (removed (c .used) 0) (w .claimed) (w .going) true 0) haltedHere) haltedHere) (replicate 64 0)
+          → Climbs (cond f (cond b (climbingAt (c .used) (removed (c .used) 0) (w .claimed) (w .going) floorAlone) haltedHere) haltedHere) (replicate 64 0)
       go true true e s = inl (record {
         rest = removed (c .used) 0;
-        flat = true;
-        high = 0;
+        known = floorAlone;
         is = refl;
         agents = e;
         floor = s;
-        climbed = climbed-start (c .places) (c .locks) (c .used) (w .claimed) (w .going);
+        climbed = climbed-start (c .places) (c .locks) (c .used) (w .claimed) (w .going) (floor-used s) (floor-flat s);
       })
       go true false e s = inr (record {
         is = refl;
@@ -85,8 +88,8 @@ module _ (c : Cell) (w : Walk) where
       go false b e s = inr (record { is = refl; why = sym (ap (λ (b : Bool). b && landsFit (c .places) (c .locks) (c .used) (w .claimed) (w .going)) e) })
 
   -- ---- a turn
-  module _ (rest : Set) (flat : Bool) (high : ℕ) (up : List ℕ) (f : w .fit ≡ true) (s : floorSound (getD (c .places) 0 noPlace) (getD (c .locks) 0 0) (c .used) (w .claimed) (w .going) ≡ true)
-      (u : Climbed (c .places) (c .locks) (c .used) (w .claimed) (w .going) up (cond flat 0 1) high rest) (l : lowestIn rest < 64) where
+  module _ (rest known : Set) (up : List ℕ) (f : w .fit ≡ true) (s : floorSound (getD (c .places) 0 noPlace) (getD (c .locks) 0 0) (c .used) (w .claimed) (w .going) ≡ true)
+      (u : Climbed (c .places) (c .locks) (c .used) (w .claimed) (w .going) up known rest) (l : lowestIn rest < 64) where
     abbrev q : ℕ
     q = lowestIn rest
 
@@ -96,29 +99,27 @@ module _ (c : Cell) (w : Walk) where
     k : 0 < rest .bits
     k = pos-of-ne-zero (λ e. clash (lowest-found 64 (member rest) l) (ap (λ (n : ℕ). has n q) e ∙ has-none q))
 
-    placed-on : Climbs (placedOf (climbingAt (c .used) rest (w .claimed) (w .going) flat high) x (getD (c .locks) q 0)) (set up q (x .parent))
+    placed-on : Climbs (placedOf (climbingAt (c .used) rest (w .claimed) (w .going) known) x (getD (c .locks) q 0)) (set up q (x .parent))
     unfolding placedOf
     placed-on = go (childTest (c .places) (c .locks) (c .used) (w .claimed) (w .going) q) refl
       where
         go : (b : Bool) → childTest (c .places) (c .locks) (c .used) (w .claimed) (w .going) q ≡ b
-            → Climbs (cond b (climbingAt (c .used) (removed rest q) (w .claimed) (w .going) (eqb (x .parent) 0 && flat) q) haltedHere) (set up q (x .parent))
+            → Climbs (cond b (climbingAt (c .used) (removed rest q) (w .claimed) (w .going) (insertedIf known q (member known (x .parent)))) haltedHere) (set up q (x .parent))
         go true e = inl (record {
           rest = removed rest q;
-          flat = eqb (x .parent) 0 && flat;
-          high = q;
+          known = insertedIf known q (member known (x .parent));
           is = refl;
           agents = f;
           floor = s;
-          climbed = climbed-more (c .places) (c .locks) (c .used) (w .claimed) (w .going) u k (top (eqb (x .parent) 0 && flat)) e
-              (top-is (eqb (x .parent) 0 && flat) ∙ ap (_&&_ (eqb (x .parent) 0)) (sym (top-is flat)));
+          climbed = climbed-more (c .places) (c .locks) (c .used) (w .claimed) (w .going) (floor-used s) (floor-flat s) u k e;
         })
-        go false e = inr (record { is = refl; why = climbed-stop (c .places) (c .locks) (c .used) (w .claimed) (w .going) u k e ∙ decided f s })
+        go false e = inr (record { is = refl; why = climbed-stop (c .places) (c .locks) (c .used) (w .claimed) (w .going) (floor-used s) (floor-flat s) u k e ∙ decided f s })
 
-    placed-fewer : (y : Place) (n : ℕ) → left (placedOf (climbingAt (c .used) rest (w .claimed) (w .going) flat high) y n) < rest .bits + 1
+    placed-fewer : (y : Place) (n : ℕ) → left (placedOf (climbingAt (c .used) rest (w .claimed) (w .going) known) y n) < rest .bits + 1
     unfolding placedOf
     placed-fewer y n = go (childFits y n (member (c .used) (y .parent)) (member (w .claimed) q) (member (w .going) q))
       where
-        go : (b : Bool) → left (cond b (climbingAt (c .used) (removed rest q) (w .claimed) (w .going) (eqb (y .parent) 0 && flat) q) haltedHere) < rest .bits + 1
+        go : (b : Bool) → left (cond b (climbingAt (c .used) (removed rest q) (w .claimed) (w .going) (insertedIf known q (member known (y .parent)))) haltedHere) < rest .bits + 1
         go true = let h = removed-less rest (u .tested .left .small) k in omega (arith, h)
         go false = omega arith
 
@@ -130,12 +131,12 @@ module _ (c : Cell) (w : Walk) where
       pub placed-climbs : Climbs l up → Climbs (placedOf l (getD (c .places) (l .at) noPlace) (getD (c .locks) (l .at) 0)) (set up (l .at) (getD (c .places) (l .at) noPlace .parent))
       placed-climbs (inr d) = absurd (down-ends d h)
       placed-climbs (inl o) = subst (λ (z : Climb). Climbs (placedOf z (getD (c .places) (z .at) noPlace) (getD (c .locks) (z .at) 0)) (set up (z .at) (getD (c .places) (z .at) noPlace .parent))) (sym (o .is))
-          (placed-on (o .rest) (o .flat) (o .high) up (o .agents) (o .floor) (o .climbed) (subst (λ (z : Climb). z .at < 64) (o .is) h))
+          (placed-on (o .rest) (o .known) up (o .agents) (o .floor) (o .climbed) (subst (λ (z : Climb). z .at < 64) (o .is) h))
 
       pub placed-less : Climbs l up → (y : Place) (n : ℕ) → left (placedOf l y n) < left l
       placed-less (inr d) y n = absurd (down-ends d h)
       placed-less (inl o) y n = subst (λ (z : Climb). left (placedOf z y n) < left z) (sym (o .is))
-          (placed-fewer (o .rest) (o .flat) (o .high) up (o .agents) (o .floor) (o .climbed) (subst (λ (z : Climb). z .at < 64) (o .is) h) y n)
+          (placed-fewer (o .rest) (o .known) up (o .agents) (o .floor) (o .climbed) (subst (λ (z : Climb). z .at < 64) (o .is) h) y n)
 
     -- ---- none is left
     module _ (h : 64 ≤ l .at) where
@@ -146,22 +147,17 @@ module _ (c : Cell) (w : Walk) where
           none (inl e) = e
           none (inr n) = absurd (let k = rest-lt (o .climbed .tested .left) (pos-of-ne-zero n) in let e = ap (λ (z : Climb). z .at) (o .is) in omega arith)
 
-      pub climb-led : Climbs l up → Led l up
-      climb-led (inr d) t = clash t (ap (λ (z : Climb). z .fit) (d .is))
-      climb-led (inl o) t =
-          let p = climbed-flat (c .places) (c .locks) (c .used) (w .claimed) (w .going) (o .climbed) (empty o) in
-          let e = climbed-top (c .places) (c .locks) (c .used) (w .claimed) (w .going) (o .climbed) (empty o) in
-          subst (λ (z : Climb). Led z up) (sym (o .is)) (λ t′. (p, (o .climbed .small, sym (top-is (o .flat)) ∙ e))) t
+      module _ (b : c .used .bits < 2 ^ 64) where
+        pub climb-led : Climbs l up → Led l up
+        climb-led (inr d) t = clash t (ap (λ (z : Climb). z .fit) (d .is))
+        climb-led (inl o) t = subst (λ (z : Climb). Led z up) (sym (o .is))
+            (λ t′. climbed-ways (c .places) (c .locks) (c .used) (w .claimed) (w .going) (floor-used (o .floor)) (floor-flat (o .floor)) (o .climbed) (empty o) b) t
 
-      pub climb-ends : Climbs l up → (l .fit && zerosOf (farUp 6 up)) ≡ (w .fit && landsFit (c .places) (c .locks) (c .used) (w .claimed) (w .going))
-      unfolding childrenFit
-      climb-ends (inr d) = ap (λ (z : Climb). z .fit && zerosOf (farUp 6 up)) (d .is) ∙ d .why
-      climb-ends (inl o) = ap (λ (z : Climb). z .fit && zerosOf (farUp 6 up)) (o .is) ∙ ends o
-        where
-          children : (o : Up l up) → childrenFit (c .places) (c .locks) (c .used) (w .claimed) (w .going) ≡ whole
-          children o = decided (o .agents) (o .floor)
-
-          ends : (o : Up l up) → zerosOf (farUp 6 up) ≡ whole
-          ends o = ap (λ (z : List ℕ). zerosOf (farUp 6 z)) (climbed-up (c .places) (c .locks) (c .used) (w .claimed) (w .going) (o .climbed) (empty o))
-              ∙ sym (ap (λ (b : Bool). b && zerosOf (farUp 6 (parentsOf (c .places) (c .used)))) (climbed-fit (c .places) (c .locks) (c .used) (w .claimed) (w .going) (o .climbed) (empty o)))
-              ∙ children o
+        pub climb-ends : Climbs l up → (l .fit && allLead (above up) (l .used)) ≡ (w .fit && landsFit (c .places) (c .locks) (c .used) (w .claimed) (w .going))
+        unfolding childrenFit
+        climb-ends (inr d) = ap (λ (z : Climb). z .fit && allLead (above up) (z .used)) (d .is) ∙ d .why
+        climb-ends (inl o) = ap (λ (z : Climb). z .fit && allLead (above up) (z .used)) (o .is)
+            ∙ climbed-leads (c .places) (c .locks) (c .used) (w .claimed) (w .going) (floor-used (o .floor)) (floor-flat (o .floor)) (o .climbed) (empty o) b
+            ∙ sym (ap (λ (y : Bool). y && allLead (λ q. getD (c .places) q noPlace .parent) (c .used))
+            (climbed-fit (c .places) (c .locks) (c .used) (w .claimed) (w .going) (floor-used (o .floor)) (floor-flat (o .floor)) (o .climbed) (empty o)))
+            ∙ decided (o .agents) (o .floor)

@@ -2,7 +2,9 @@ pub mod Pass
 pub mod RowLaws
 pub mod AgentLaws
 pub mod PassLaws
+pub mod Lead
 pub mod LeadLaws
+pub mod AllLeadLaws
 pub mod LandLaws
 pub mod SoundLaws
 pub mod Seen

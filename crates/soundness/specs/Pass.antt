@@ -1,5 +1,5 @@
 -- The soundness test as the program goes about it: numbers are read masked by 64, whatever they are, and tested for use beside.
-use Prim.Native.Nat.{ℕ, zero, suc, _%_, _<_}
+use Prim.Native.Nat.{ℕ}
 use mathlib.Core.Path.{_≡_}
 use mathlib.Core.Bool.{Bool, true, false, not, _&&_, _||_, cond}
 use mathlib.Core.List.{List}
@@ -7,7 +7,7 @@ use lib.Dec.{leb, eqb}
 use lib.ListN.{getD}
 use Rattle.sets.specs.Set.{member}
 use Rattle.sets.specs.declared.Set.{Set}
-use Rattle.table.specs.Base.{allBelow, tab}
+use Rattle.table.specs.Base.{allBelow, tab, iter}
 use Rattle.table.specs.Cell.{none, noPlace, noAction, hasAction, releaseKind, looking, found, asleep, done}
 use Rattle.table.specs.Sound.{actionFits, ready, stageFits, nameless}
 use Rattle.table.specs.declared.Action.{Action}
@@ -88,23 +88,9 @@ child used q = not (eqb q 0) && member used q
 unfoldable pub parentsOf : List Place → Set → List ℕ
 parentsOf ps used = tab (λ q. cond (child used q) (getD ps q noPlace .parent) 0) 64 0
 
--- twice as many steps up
-unfoldable pub doubledOf : List ℕ → List ℕ
-doubledOf up = tab (λ q. getD up (getD up q 0 % 64) 0) 64 0
-
--- doubled n times
-unfoldable pub farUp : ℕ → List ℕ → List ℕ
-farUp zero up = up
-farUp (suc n) up = doubledOf (farUp n up)
-
--- all are at the floor
-unfoldable pub zerosOf : List ℕ → Bool
-zerosOf up = allBelow (λ q. eqb (getD up q 0) 0) 64
-
--- the floor leads to the floor, and so does every number past high
-pub record Flat (up : List ℕ) (high : ℕ) : Type 0 where
-  pub floor : getD up 0 0 ≡ 0
-  pub past : (j : ℕ) → high < j → getD up j 0 ≡ 0
+-- 64 steps up lead each place in use to the floor
+unfoldable pub allLead : (ℕ → ℕ) → Set → Bool
+allLead up used = allBelow (λ q. cond (member used q) (eqb (iter up 64 q) 0) true) 64
 
 -- ---- all places
 
@@ -119,7 +105,7 @@ childAt ps ls used claimed going q = cond (child used q) (childTest ps ls used c
 
 -- what is asked of all places but the floor: each by itself, and that they lead to the floor
 unfoldable pub childrenFit : List Place → List ℕ → Set → Set → Set → Bool
-childrenFit ps ls used claimed going = allBelow (childAt ps ls used claimed going) 64 && zerosOf (farUp 6 (parentsOf ps used))
+childrenFit ps ls used claimed going = allBelow (childAt ps ls used claimed going) 64 && allLead (λ q. getD ps q noPlace .parent) used
 
 -- what is asked of all places, the floor first
 unfoldable pub landsFit : List Place → List ℕ → Set → Set → Set → Bool

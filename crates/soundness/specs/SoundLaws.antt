@@ -1,6 +1,5 @@
 -- The program's test of the places, after its walk over the agents, is soundness. Assumes nothing.
--- Idea: place by place the two tests are equal; and once all places fit, the parents of places in use are in use, so that
--- doubling follows them.
+-- Idea: place by place the two tests are equal.
 use mathlib.Core.Path.{_≡_, refl, sym, ap, ap₂, _∙_}
 use mathlib.Core.Logic.{_≢_}
 use mathlib.Core.Bool.{Bool, true, false, not, _&&_, _||_, cond}
@@ -17,10 +16,8 @@ use Rattle.table.specs.Base.{allBelow, anyBelow, countBelow}
 use Rattle.table.specs.BaseLaws.{Told, yea, nay, told, and-left, and-right, and-cong, cond-cong, same-test, all-at, all-yes}
 use Rattle.table.specs.Cell.{none, noPlace, State, cellOf}
 use Rattle.table.specs.Bounds.{Sized}
-use Rattle.table.specs.CellLaws.{in-use}
-use Rattle.table.specs.Sound.{claims, goes, nameless, stands, travellersFit, placeFits, placeSound, leads, coreSound}
-use Rattle.soundness.specs.Pass.{parentsOf, farUp, zerosOf, floorStands, floorFits, floorSound, childStands, childFits, childTest, childAt, childrenFit, landsFit}
-use Rattle.soundness.specs.LeadLaws.{lead-same}
+use Rattle.table.specs.Sound.{claims, goes, nameless, placeFits, placeSound, leads, coreSound}
+use Rattle.soundness.specs.Pass.{allLead, floorStands, floorFits, floorSound, childStands, childFits, childTest, childAt, childrenFit, landsFit}
 use Rattle.soundness.specs.PassLaws.{Passed, passed-fit, passed-held, passed-moved}
 use Rattle.table.specs.declared.Cell.{Cell}
 use Rattle.table.specs.declared.Place.{Place}
@@ -74,26 +71,6 @@ module _ (c : Cell) (z : Sized c) where
   abbrev place : ℕ → Place
   place q = getD (c .places) q noPlace
 
-  -- where all places fit, the parent of a place in use is in use
-  module _ (floor : u 0 ≡ true) (fit : allBelow (placeSound w) 64 ≡ true) where
-    stands-at : (q : ℕ) → u q ≡ true → stands q (place q) (u (place q .parent)) ≡ true
-    unfolding placeFits cellOf
-    stands-at q e =
-        let fits : placeFits w q ≡ true = sym (rw e) ∙ all-at (placeSound w) 64 q (in-use c z q e) fit in
-        and-left (stands q (place q) (u (place q .parent))) (travellersFit q (place q .way) (countBelow (goes w q) 64))
-        (and-right (eqb (getD (c .locks) q 0) none || anyBelow (claims w q) 64) _ fits)
-
-    pub floor-parent : place 0 .parent ≡ 0
-    floor-parent = eqb-true (place 0 .parent) 0 (and-left (eqb (place 0 .parent) 0) (not (eqb (place 0 .way) 0))
-        (and-right (nameless (place 0 .name)) (eqb (place 0 .parent) 0 && not (eqb (place 0 .way) 0)) (stands-at 0 floor)))
-
-    pub closed-of : (q : ℕ) → has (c .used .bits) q ≡ true → has (c .used .bits) (getD (c .places) q noPlace .parent) ≡ true
-    closed-of q e = go (told (eqb q 0))
-      where
-        go : Told (eqb q 0) → u (place q .parent) ≡ true
-        go (yea t) = ap (λ (n : ℕ). u (place n .parent)) (eqb-true q 0 t) ∙ ap u floor-parent ∙ floor
-        go (nay t) = and-right (leb 1 (place q .name .name)) (u (place q .parent)) (sym (rw t) ∙ stands-at q e)
-
   module _ (claimed going : Set) (held : (q : ℕ) → q < 64 → member claimed q ≡ anyBelow (claims w q) 64)
       (moved : (q : ℕ) → q < 64 → bit (member going q) ≡ countBelow (goes w q) 64) where
     floor-same : floorFits (place 0) (getD (c .locks) 0 0) (member claimed 0) (member going 0) ≡ placeFits w 0
@@ -123,13 +100,12 @@ module _ (c : Cell) (z : Sized c) where
 
   -- the whole, once nobody is left
   pub lands-same : (claimed going rest : Set) → Passed c claimed going rest → rest .bits ≡ 0 → landsFit (c .places) (c .locks) (c .used) claimed going ≡ coreSound (cellOf c)
-  unfolding landsFit floorSound childrenFit coreSound cellOf
+  unfolding landsFit floorSound childrenFit allLead coreSound cellOf
   lands-same claimed going rest p e =
       let held = passed-held c z claimed going rest p e in
       let moved = passed-moved c z claimed going rest p e in
       sym (and-assoc (u 0) (floorFits (place 0) (getD (c .locks) 0 0) (member claimed 0) (member going 0)) (childrenFit (c .places) (c .locks) (c .used) claimed going))
       ∙ and-cong (u 0) _ _ (λ f.
-      and-assoc (floorFits (place 0) (getD (c .locks) 0 0) (member claimed 0) (member going 0)) (allBelow (childAt (c .places) (c .locks) (c .used) claimed going) 64) (zerosOf (farUp 6 (parentsOf (c .places) (c .used))))
-      ∙ ap (λ (b : Bool). b && zerosOf (farUp 6 (parentsOf (c .places) (c .used)))) (places-same claimed going held moved f)
-      ∙ and-cong (allBelow (placeSound w) 64) _ _ (λ h. lead-same (c .places) (c .used) (in-use c z) (floor-parent f h) (closed-of f h))
+      and-assoc (floorFits (place 0) (getD (c .locks) 0 0) (member claimed 0) (member going 0)) (allBelow (childAt (c .places) (c .locks) (c .used) claimed going) 64) (allLead (λ q. getD (c .places) q noPlace .parent) (c .used))
+      ∙ ap (λ (b : Bool). b && allLead (λ q. getD (c .places) q noPlace .parent) (c .used)) (places-same claimed going held moved f)
       ∙ sym (ap (λ (b : Bool). b && (allBelow (placeSound w) 64 && allBelow (leads w) 64)) (passed-fit c z claimed going rest p e)))

@@ -10,7 +10,8 @@ ghost use Prim.Native.Nat.{_<_};
 ghost use lib.Dec.{eqb};
 ghost use Rattle.table.specs.Sound.{nameless};
 ghost use Rattle.soundness.specs.Climb.{climbingAt, haltedHere, flooredOf, placedOf, Led};
-ghost use Rattle.soundness.specs.Pass.{Flat, floorStands, floorFits, floorSound, childStands, childFits, doubledOf, zerosOf, farUp};
+ghost use Rattle.soundness.specs.Lead.{above, Ways, Followed};
+ghost use Rattle.soundness.specs.Pass.{floorStands, floorFits, floorSound, childStands, childFits, allLead};
 
 // Whether the floor is as it should be, with its lock.
 fn floor_fits(x: Place, lock: u8, claimed: bool, going: bool) -> bool
@@ -118,75 +119,63 @@ pub(super) fn joined(a: u8, b: u8) -> u8
     a | b
 }
 
-// How far up each place leads after some number of steps, and a number that is 0 only where that is the floor for all.
-pub(super) struct Far {
-    pub up: [u8; 64],
-    pub top: u8,
-}
-
-// Twice as far up; past high all lead to the floor.
-fn doubled(up: [u8; 64], high: u8) -> Far
-    requires { ⌜ Flat up high ⌝ }
-    requires { ⌜ high < 64 ⌝ }
-    ensures { λ r. ⌜ r .up ≡ doubledOf up ⌝ }
-    ensures { λ r. ⌜ eqb (r .top) 0 ≡ zerosOf (doubledOf up) ⌝ }
+// The places known to lead to the floor, with those on the way from q to one of them; without these where the way comes back to itself.
+fn followed(up: [u8; 64], known: Set, q: u8) -> Set
+    requires { ⌜ Ways up known ⌝ }
+    requires { ⌜ q < 64 ⌝ }
+    ensures { λ r. ⌜ Followed up known q r ⌝ }
 {
-    let mut far = up;
-    let mut top: u8 = 0;
-    let mut q: u8 = 0;
-    while q <= high {
-        let k = q as usize;
-        let p = up[k];
+    let mut path = known;
+    let mut p = q;
+    while !path.has(p) {
+        path = path.insert(p);
         let j = at(p);
-        let v = up[j];
-        far[k] = v;
-        top = joined(top, v);
-        q += 1;
+        p = up[j];
     }
-    Far { up: far, top: top }
+    if known.has(p) { path } else { known }
 }
 
-// Whether 64 steps up lead each place to the floor: one step, doubled six times, unless all are there before.
-pub(super) fn all_lead(up: [u8; 64], high: u8, top: u8) -> bool
-    requires { ⌜ Flat up high ⌝ }
-    requires { ⌜ high < 64 ⌝ }
-    requires { ⌜ eqb top 0 ≡ zerosOf up ⌝ }
-    ensures { λ r. ⌜ r ≡ zerosOf (farUp 6 up) ⌝ }
+// Whether 64 steps up lead each place in use to the floor: from each that is not known to, the way up is followed to one that is.
+fn all_lead(up: [u8; 64], used: Set, known: Set) -> bool
+    requires { ⌜ Ways up known ⌝ }
+    ensures { λ r. ⌜ r ≡ allLead (above up) used ⌝ }
 {
-    let mut now = up;
-    let mut most = top;
-    let mut n: u8 = 0;
-    while n < 6 {
-        if most == 0 {
-            return true;
+    let mut all = known;
+    let mut rest = Set {
+        bits: used.bits ^ known.bits,
+    };
+    while rest.bits != 0 {
+        let q = rest.first();
+        rest = rest.rest();
+        let more = followed(up, all, q);
+        if !more.has(q) {
+            return false;
         }
-        let far = doubled(now, high);
-        let next = far.up;
-        now = next;
-        most = far.top;
-        n += 1;
+        all = more;
     }
-    most == 0
+    true
 }
 
 // ---- one turn of the walk over the places
 
 // What the places before said, the floor first: which one is next, or 64; the places in use; those left, the next one among them; the places
-// whose locks agents hold, and those that they move; whether all so far stand on the floor itself; the last of them; and whether all of them fit.
+// whose locks agents hold, and those that they move; those of the places so far that are known to lead to the floor; and whether all of them fit.
 pub(super) struct Climb {
     pub at: u8,
     pub used: Set,
     pub rest: Set,
     pub claimed: Set,
     pub going: Set,
-    pub flat: bool,
-    pub high: u8,
+    pub known: Set,
     pub fit: bool,
 }
 
+// The floor alone.
+const FLOOR: Set = Set { bits: 1 };
+
 // The next is the lowest of those left.
-fn climbing(used: Set, rest: Set, claimed: Set, going: Set, flat: bool, high: u8) -> Climb
-    ensures { λ r. ⌜ r ≡ climbingAt used rest claimed going flat high ⌝ }
+fn climbing(used: Set, rest: Set, claimed: Set, going: Set, known: Set) -> Climb
+    ensures { λ r. ⌜ r ≡ climbingAt used rest claimed going known ⌝ }
 {
     let i = rest.first();
     Climb {
@@ -195,8 +184,7 @@ fn climbing(used: Set, rest: Set, claimed: Set, going: Set, flat: bool, high: u8
         rest: rest,
         claimed: claimed,
         going: going,
-        flat: flat,
-        high: high,
+        known: known,
         fit: true,
     }
 }
@@ -211,8 +199,7 @@ fn halted() -> Climb
         rest: Set::EMPTY,
         claimed: Set::EMPTY,
         going: Set::EMPTY,
-        flat: true,
-        high: 0,
+        known: Set::EMPTY,
         fit: false,
     }
 }
@@ -226,7 +213,7 @@ pub(super) fn floored(w: Walk, used: Set, x: Place, lock: u8) -> Climb
     if w.fit {
         if floor_sound(x, lock, used, claimed, going) {
             let rest = used.remove(0);
-            climbing(used, rest, claimed, going, true, 0)
+            climbing(used, rest, claimed, going, FLOOR)
         } else {
             halted()
         }
@@ -235,14 +222,7 @@ pub(super) fn floored(w: Walk, used: Set, x: Place, lock: u8) -> Climb
     }
 }
 
-// Whether a place more stands on the floor itself.
-fn stays_flat(flat: bool, parent: u8) -> bool
-    ensures { λ r. ⌜ r ≡ (eqb parent 0 && flat) ⌝ }
-{
-    if parent == 0 { flat } else { false }
-}
-
-// The next place is passed, with its lock.
+// The next place is passed, with its lock; it is known to lead to the floor where its parent is.
 pub(super) fn placed(l: Climb, x: Place, lock: u8) -> Climb
     ensures { λ r. ⌜ r ≡ placedOf l x lock ⌝ }
 {
@@ -250,13 +230,15 @@ pub(super) fn placed(l: Climb, x: Place, lock: u8) -> Climb
     let rest = l.rest;
     let claimed = l.claimed;
     let going = l.going;
-    let known = used.has(x.parent);
+    let known = l.known;
+    let stands = used.has(x.parent);
     let held = claimed.has(l.at);
     let moved = going.has(l.at);
-    if child_fits(x, lock, known, held, moved) {
+    if child_fits(x, lock, stands, held, moved) {
         let left = rest.rest();
-        let flat = stays_flat(l.flat, x.parent);
-        climbing(used, left, claimed, going, flat, l.at)
+        let leads = known.has(x.parent);
+        let more = known.insert_if(l.at, leads);
+        climbing(used, left, claimed, going, more)
     } else {
         halted()
     }
@@ -265,13 +247,15 @@ pub(super) fn placed(l: Climb, x: Place, lock: u8) -> Climb
 // Whether all fit and lead to the floor; up is where each stands.
 pub(super) fn led(l: Climb, up: [u8; 64]) -> bool
     requires { ⌜ Led l up ⌝ }
-    ensures { λ r. ⌜ r ≡ (l .fit && zerosOf (farUp 6 up)) ⌝ }
+    ensures { λ r. ⌜ r ≡ (l .fit && allLead (above up) (l .used)) ⌝ }
 {
+    let used = l.used;
+    let known = l.known;
     if l.fit {
-        if l.flat {
+        if known.bits == used.bits {
             true
         } else {
-            all_lead(up, l.high, 1)
+            all_lead(up, used, known)
         }
     } else {
         false

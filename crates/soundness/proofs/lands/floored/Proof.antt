@@ -1,8 +1,7 @@
 -- By the agents, and then by the floor.
 use mathlib.Core.Path.{ap, _∙_}
-use mathlib.Core.Bool.{true}
 use Rattle.sets.specs.declared.Set.{Set}
-use Rattle.soundness.specs.Climb.{climbingAt, flooredOf}
+use Rattle.soundness.specs.Climb.{floorAlone, climbingAt, flooredOf}
 use Rattle.soundness.proofs.lands.floored.Statement.{statement}
 use Rattle.soundness.proofs.lands.floored.Tie as tie
 
@@ -13,7 +12,7 @@ returns c =
     let f = s .before .before in
     let a = f .before .before .before .args in
     rw (f .if1 .taken, ← s .before .floor-sound .ensures, s .if2 .taken)
-    (c .climbing .ensures ∙ ap (λ (z : Set). climbingAt (a .used) z (a .w .claimed) (a .w .going) true 0) (c .before .remove .ensures))
+    (c .climbing .ensures ∙ ap (λ (z : Set). climbingAt (a .used) z (a .w .claimed) (a .w .going) floorAlone) (c .before .remove .ensures))
 
 returns-2 : tie.Need-returns-2
 unfolding flooredOf

@@ -1,9 +1,9 @@
 -- By the home, the row of actions and the stage; each return is what the laws say of its case.
 use Prim.Native.Nat.{ℕ, _%_}
-use mathlib.Core.Path.{_≡_, refl, sym, ap, ap₂, _∙_}
-use mathlib.Core.Bool.{Bool, true, false, not}
+use mathlib.Core.Path.{_≡_, sym, ap, ap₂, _∙_}
+use mathlib.Core.Bool.{Bool, true}
 use lib.Dec.{eqb}
-use borrow.Author.Tests.{not-true}
+use borrow.Author.Tests.{not-true, not-false}
 use Rattle.sets.specs.Set.{member}
 use Rattle.sets.specs.declared.Set.{Set}
 use Rattle.table.specs.Cell.{hasAction, kindOf}
@@ -14,11 +14,6 @@ use Rattle.soundness.specs.Turn.{stillWith, busyWith}
 use Rattle.soundness.specs.TurnLaws.{glance-out, glance-row, glance-still, glance-busy}
 use Rattle.soundness.proofs.turns.glance.Statement.{statement}
 use Rattle.soundness.proofs.turns.glance.Tie as tie
-
--- a test that was turned round
-kept : (b : Bool) → not b ≡ false → b ≡ true
-kept true e = refl
-kept false e = sym e
 
 -- the places in use, and the agent
 abbrev used : tie.After-has → Set
@@ -34,10 +29,10 @@ module _ (c : tie.Else2) where
   home = c .before .before .before .before
 
   home-in : member (used home) (agent home .home) ≡ true
-  home-in = sym (home .has .ensures) ∙ kept _ (c .before .before .before .if1 .left)
+  home-in = sym (home .has .ensures) ∙ not-false _ (c .before .before .before .if1 .left)
 
   row-in : c .before .before .row-of .result .fit ≡ true
-  row-in = kept _ (c .if2 .left)
+  row-in = not-false _ (c .if2 .left)
 
   row-fits : actionsFit (agent home) ≡ true
   row-fits = sym (c .before .before .row-of .ensures .0) ∙ row-in
@@ -53,7 +48,7 @@ returns-2 c =
     let r = c .before .before .before in
     let h = r .before .before in
     c .still2 .ensures
-    ∙ sym (glance-row (used h) (agent h) (sym (h .has .ensures) ∙ kept _ (r .before .if1 .left)) (sym (r .row-of .ensures .0) ∙ not-true _ (c .before .if2 .taken)))
+    ∙ sym (glance-row (used h) (agent h) (sym (h .has .ensures) ∙ not-false _ (r .before .if1 .left)) (sym (r .row-of .ensures .0) ∙ not-true _ (c .before .if2 .taken)))
 
 returns-3 : tie.Need-returns-3
 returns-3 c =

@@ -32,7 +32,9 @@ use Rattle.table.proofs.Place as Place′
 use Rattle.table.proofs.Place.Laws as place-laws
 use Rattle.table.proofs.Cell as T
 use Rattle.table.proofs.Cell.Laws as T′
-use Rattle.soundness.specs.Pass.{zerosOf, farUp, landsFit}
+use Rattle.table.proofs.Facts.{sized}
+use Rattle.soundness.specs.Pass.{allLead, landsFit}
+use Rattle.soundness.specs.Lead.{above}
 use Rattle.soundness.specs.Climb.{flooredOf, placedOf, Led}
 use Rattle.soundness.specs.ClimbLaws.{Climbs, left, climb-led, climb-ends}
 use Rattle.soundness.specs.declared.turns.Walk.{Walk}
@@ -175,13 +177,13 @@ module _ {M : Type 1} (𝓤 : URA M) (H : Heap 𝓤) (A : Atoms 𝓤) (W : Given
           (λ none. exec ! (𝓣 .C) (𝓣 .Λ) (En q′ l₀ l₁ l₂ l₃ l₄ l₅ l₆ l₇ l₈ l₉ l₁₀ l₁₁ l₁₂ l₁₃ l₁₄ l₁₅ l₁₆ l₁₇ l₁₈ l₁₉ l₂₀ l₂₁ l₂₂ l₂₃ l₂₄ l₂₅ l₂₆ l₂₇ l₂₈) pieces.t-13 (atRet (En q′ l₀ l₁ l₂ l₃ l₄ l₅ l₆ l₇ l₈ l₉ l₁₀ l₁₁ l₁₂ l₁₃ l₁₄ l₁₅ l₁₆ l₁₇ l₁₈ l₁₉ l₂₀ l₂₁ l₂₂ l₂₃ l₂₄ l₂₅ l₂₆ l₂₇ l₂₈) Post) $
           assigns ! (of-opd ! (load ! (from ! (stop !)) (look ! 50 refl))) (from ! (stop !)) (init ! 4 refl (up-typed (z .up) (z .many))) $
           shut ! tt q′ h was b o $
-          use0 W (raw (Leads .pre (to-leads (z .l) (z .up)))) (goes-leads (z .l) (z .up) (z .is) (z .many) (climb-led h w (z .l) (z .up) (at-end (z .l .at) none) (z .gone))) $
-          called ! fm leads.ended (leads.clauses 𝓤 H A at-mem run) known-leads (to-leads (z .l) (z .up)) (λ y ws′. y ≡ (z .l .fit && zerosOf (farUp 6 (z .up)))) (λ y ws′. id⊢ 𝓤 _) (and-then ! (load ! (from ! (stop !)) (look ! 48 refl)) (and-then ! (load ! (from ! (stop !)) (look ! 4 refl)) (no-more !))) (λ u y ws′ e′ is′.
+          use0 W (raw (Leads .pre (to-leads (z .l) (z .up)))) (goes-leads (z .l) (z .up) (z .is) (z .many) (climb-led h w (z .l) (z .up) (at-end (z .l .at) none) (sized h was .used) (z .gone))) $
+          called ! fm leads.ended (leads.clauses 𝓤 H A at-mem run) known-leads (to-leads (z .l) (z .up)) (λ y ws′. y ≡ (z .l .fit && allLead (above (z .up)) (z .l .used))) (λ y ws′. id⊢ 𝓤 _) (and-then ! (load ! (from ! (stop !)) (look ! 48 refl)) (and-then ! (load ! (from ! (stop !)) (look ! 4 refl)) (no-more !))) (λ u y ws′ e′ is′.
           -- [what y owns; …; …; the token; the fractured borrow; res; _28 at 6; …; _0 at 62]
           land ! (from ! (stop !)) (init ! 62 refl (bool-lawful 𝓤 H A W .typed y _ is′ .0)) $
           returns ! (look ! 62 refl) $ forget ! 6 refl $ forget ! 26 refl $ forget ! 50 refl $ forget ! 52 refl $ forget ! 58 refl $ forget ! 60 refl $ forget ! 62 refl $
           move ! (62 ∷ 63 ∷ 60 ∷ 61 ∷ 58 ∷ 59 ∷ 56 ∷ 57 ∷ 54 ∷ 55 ∷ 52 ∷ 53 ∷ 50 ∷ 51 ∷ 48 ∷ 49 ∷ 46 ∷ 47 ∷ 44 ∷ 45 ∷ 42 ∷ 43 ∷ 40 ∷ 41 ∷ 38 ∷ 39 ∷ 36 ∷ 37 ∷ 34 ∷ 35 ∷ 32 ∷ 33 ∷ 30 ∷ 31 ∷ 28 ∷ 29 ∷ 26 ∷ 27 ∷ 24 ∷ 25 ∷ 22 ∷ 23 ∷ 20 ∷ 21 ∷ 18 ∷ 19 ∷ 16 ∷ 17 ∷ 14 ∷ 15 ∷ 12 ∷ 13 ∷ 10 ∷ 11 ∷ 8 ∷ 9 ∷ 6 ∷ 7 ∷ []) $ freed ! $ keep ! (3 ∷ 5 ∷ 4 ∷ 0 ∷ []) $
-          by ! (exits y u (e′ ∙ climb-ends h w (z .l) (z .up) (at-end (z .l .at) none) (z .gone))))))
+          by ! (exits y u (e′ ∙ climb-ends h w (z .l) (z .up) (at-end (z .l .at) none) (sized h was .used) (z .gone))))))
           z₀
 
       walk : ent 𝓤 (onEntry 𝓤 H A f.signature (κ, tt) (q, tt) x at) (WpFn 𝓤 H (𝓣 .C) (𝓣 .Λ) code.function (vptr b o ∷ walk-val w ∷ []) Post)
