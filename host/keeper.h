@@ -69,7 +69,7 @@
 **     likes (keeper_window). So calls on different cells may run at the same
 **     time; and on one cell those that only read it (keeper_ask, keeper_list, keeper_check, keeper_idle, keeper_touches, keeper_nearest,
 **     keeper_common, keeper_ceiling), each with a text of its own. keeper_audit and keeper_trail take no cell.
-**   - The stack has room for KEEPER_STACK bytes, in keeper_audit for KEEPER_AUDIT_STACK.
+**   - The stack has room for KEEPER_STACK bytes.
 */
 #ifndef KEEPER_H
 #define KEEPER_H
@@ -131,10 +131,11 @@ extern "C" {
 #define KEEPER_MOVE_BYTES 2
 #define KEEPER_TRAIL_LONGEST 2048
 
-/* The stack that a call uses, in bytes, at most; and what keeper_audit uses, which lists too, into a page of its own. This is measured and not proved:
-** host/c/stack.c measures it on the libraries at hand and fails where it is more; of the keeper's calls keeper_list needs the most. */
+/* The stack that a call uses, in bytes, at most. This is measured and not proved: host/c/stack.c measures it on the libraries at hand and fails where it
+** is more; keeper_audit needs the most, which has a cell and a page for the listing inside, and of the keeper's calls keeper_list. KEEPER_AUDIT_STACK is
+** a name for the same number. */
 #define KEEPER_STACK 65536
-#define KEEPER_AUDIT_STACK 81920
+#define KEEPER_AUDIT_STACK KEEPER_STACK
 
 /*
 ** Place numbers are given again. An opening (the word opened) takes the number of the opened place out of use, and a release (the word put) puts

@@ -163,10 +163,8 @@ int main(void)
     }
     for (int call = 0; call < CALLS; call++) {
         printf("stack used by keeper_%s: %zu bytes\n", names[call], used[call]);
-        if (calls[call] != audit)
-            most = used[call] > most ? used[call] : most;
+        most = used[call] > most ? used[call] : most;
     }
     printf("stack used: %zu bytes, promised: at most %d\n", most, KEEPER_STACK);
-    printf("stack used by keeper_audit: %zu bytes, promised: at most %d\n", used[CALLS - 1], KEEPER_AUDIT_STACK);
-    return most <= KEEPER_STACK && used[CALLS - 1] <= KEEPER_AUDIT_STACK ? 0 : 1;
+    return most <= KEEPER_STACK ? 0 : 1;
 }

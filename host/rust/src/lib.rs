@@ -117,7 +117,7 @@
 //!
 //! # What a host owes
 //!
-//! The thread that calls has [`STACK`] bytes of stack left, for [`audit`](audit()) [`AUDIT_STACK`]. Rust's own threads have 2 MiB unless they are given less. Calls on different cells
+//! The thread that calls has [`STACK`] bytes of stack left. Rust's own threads have 2 MiB unless they are given less. Calls on different cells
 //! may run at the same time, and on one cell those that only read it, which take `&self`; the compiler sees to it that no others do.
 //!
 //! # The library
@@ -168,11 +168,11 @@ pub const TRAIL_LONGEST: usize = 2_048;
 /// The touches that the places in use may have together, at most.
 pub const TOUCHES_MOST: u64 = 1_000_000_000_000;
 
-/// The stack that a call uses, in bytes, at most: measured by `host/c/stack.c`, not proved.
+/// The stack that a call uses, in bytes, at most, [`audit`](audit()) among them: measured by `host/c/stack.c`, not proved.
 pub const STACK: usize = 65_536;
 
-/// The stack that [`audit`](audit()) uses, in bytes, at most: measured likewise.
-pub const AUDIT_STACK: usize = 81_920;
+/// A name for the same number, for hosts that call [`audit`](audit()) only.
+pub const AUDIT_STACK: usize = STACK;
 
 /// Whether the linked library is one that this crate was made for.
 ///
