@@ -1,4 +1,5 @@
 pub mod Longest
+pub mod BenchLengths
 pub mod Sums
 pub mod FileLength
 pub mod Parts

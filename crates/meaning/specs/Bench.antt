@@ -30,6 +30,7 @@ use Rattle.meaning.specs.Sorted.{leq, insert, sorted}
 use Rattle.meaning.specs.Listing.{kindText, actionText, agentText, listsIn, textsOf, agentTexts, standsUnder, isPlain, slashed, nameText, bracketed, placeTexts}
 use Rattle.meaning.specs.Listing.{inOrder, contentsText, listing}
 use Rattle.meaning.specs.Listing.{listAnswer, listBuffer}
+use Rattle.meaning.specs.TreeListing.{rowText, actsIn, treeAgents, treePlaces, treeContents, treeListing}
 use Rattle.meaning.specs.Report.{wordText, stepLine, refusedLine, listingLine, callsIn, reportRun, reportOf, report}
 use Rattle.meaning.specs.Codes.{checkOf, idleOf}
 use Rattle.meaning.specs.BenchRow.{Row, file, manyOpens, manyPlaces, calls}
@@ -39,6 +40,7 @@ use Rattle.meaning.specs.BenchSteps.{stepRows}
 use Rattle.meaning.specs.BenchListing.{listingRows}
 use Rattle.meaning.specs.BenchTables.{Computed, sample, topmost}
 use Rattle.meaning.specs.BenchSound.{soundRows}
+use Rattle.meaning.specs.BenchUnsound.{unsoundRows}
 use Rattle.meaning.specs.BenchCalls.{callRows}
 use Rattle.meaning.specs.BenchAfter.{afterRows}
 use Rattle.meaning.specs.BenchTouch.{crib, touchRows}
@@ -89,9 +91,9 @@ allMeant [] = true
 allMeant (r ∷ rest) = same (r .value) (r .meant) && allMeant rest
 
 -- what walk cannot show: the plain tree and the calculus, keys and the row of places in a table, the calls and answers of a host, touches, ask
--- and commit, where a place is, the ceiling, release, the table after each kind of step, and soundness clause by clause
-pub numbers : allMeant (plainRows ++ (keyNumbers ++ (orderRows ++ (callRows ++ (touchRows ++ (askRows ++ (whereRows ++ (ceilingRows ++ (releaseNumbers ++ (afterRows ++ soundRows)))))))))) ≡ true
-unfolding allMeant soundRows callRows afterRows releaseNumbers carrier rested manyPlaces askRows yard toldAt askOf commitOf handedOf whereRows hall shaft outwards nearest holds common nearestOf commonOf ceilingRows worked lone movesLeft changesLeft ceilingOf touchRows orderRows keyNumbers plainRows treeOf plainOf landIn pickOf plainWord plainStep plainRun
+-- and commit, where a place is, the ceiling, release, the table after each kind of step, soundness clause by clause, and what soundness rules out
+pub numbers : allMeant (plainRows ++ (keyNumbers ++ (orderRows ++ (callRows ++ (touchRows ++ (askRows ++ (whereRows ++ (ceilingRows ++ (releaseNumbers ++ (afterRows ++ (soundRows ++ unsoundRows))))))))))) ≡ true
+unfolding allMeant soundRows unsoundRows callRows afterRows releaseNumbers carrier rested manyPlaces askRows yard toldAt askOf commitOf handedOf whereRows hall shaft outwards nearest holds common nearestOf commonOf ceilingRows worked lone movesLeft changesLeft ceilingOf touchRows orderRows keyNumbers plainRows treeOf plainOf landIn pickOf plainWord plainStep plainRun rowText actsIn treeAgents treePlaces treeContents treeListing
     standsAt mayEnter mayExit mayOpen hasRoom mayRelease permits putInto openUp putOut move answers rowEnd unused crib counted untouched touchOf touchesOf callOf run sample topmost checkOf idleOf idle loadOf loaded listAnswer listBuffer overlay settled rests file manyOpens
     calls same has wordOf countOf lowestOf freshNumber keep later firstIn occurs counting countingRow hasAll allSmall rowFits chosenOf upd tab foldUp allBelow anyBelow countBelow iter cellOf tableOf bareTable linked
     linkedTo travels nextAction actionsFit ready holdsBoth stageFits firstHeld secondHeld lockIs claims agentFits goingFrom goes placeFits

@@ -9,7 +9,7 @@ use Rattle.meaning.specs.declared.Word.the-variants.{Left, Opened, Done}
 use Rattle.meaning.specs.declared.Asked.the-variants.{Would, Unasked}
 use Rattle.meaning.specs.Run.{Call, stepCall, commitCall, run, answers}
 use Rattle.meaning.specs.Ask.{askOf, commitOf, handedOf}
-use Rattle.meaning.specs.Codes.{askNumber, stepNumber}
+use Rattle.meaning.specs.Codes.{askNumber, stepNumber, wordIn, wokenIn, placeIn}
 use Rattle.meaning.specs.Plain.{Plain, plainOf, plainRun}
 use Rattle.meaning.specs.BenchRow.{file, place, agent, enters}
 use Rattle.meaning.specs.BenchTables.{Computed, number, bytes, loadedFrom, placed, notUsed, locked, staged, counted, acting}
@@ -146,6 +146,7 @@ askRows =
     ∷ number 0x000500 (commits (tableOf exiting) 2 255 5 0 255)
     ∷ number 0x000100 (commits choosing 0 255 1 0 2)
     ∷ number 0x000100 (commits choosing 0 3 1 0 3)
+    ∷ number 3 (cellOf (commitOf choosing 0 3 1 0 3 .cell) .agent 0 .chosen)
     -- "18 if the answer would differ": another place, another number woken, another word, words that do not exist
     ∷ number 18 (commits (tableOf entering) 0 255 5 0 2)
     ∷ number 18 (commits (tableOf entering) 0 255 5 0 255)
@@ -176,6 +177,7 @@ askRows =
     -- the very number that an ask gave; another place, another number woken, another word, other bits
     ∷ number 0x000500 (handed (tableOf entering) 0 0x03000500)
     ∷ bytes (4 ∷ 0 ∷ 64 ∷ 64 ∷ 3 ∷ 1 ∷ []) (seen (handedOf (tableOf entering) 0 255 0x03000500 .cell))
+    ∷ number 3 (cellOf (handedOf choosing 0 3 0x03000100 .cell) .agent 0 .chosen)
     ∷ number 18 (handed (tableOf entering) 0 0x02000500)
     ∷ number 18 (handed (tableOf entering) 0 0x03010500)
     ∷ number 18 (handed (tableOf entering) 0 0x03000800)
@@ -184,6 +186,8 @@ askRows =
     ∷ number 18 (handed (tableOf entering) 0 11)
     ∷ number 11 (handed (tableOf sample) 9 11)
     ∷ number 10 (handed (tableOf (notUsed 0 sample)) 9 11)
+    -- word, number woken and place in the bits of a number, whatever stands above and below them
+    ∷ bytes (255 ∷ 254 ∷ 253 ∷ []) (wordIn 0x01fdfeff01 ∷ wokenIn 0x01fdfeff01 ∷ placeIn 0x01fdfeff01 ∷ [])
     -- "A commit that goes through is a step call": in a list of calls, and beside it the plain tree, which passes over the refused one
     ∷ bytes (4 ∷ 0 ∷ 64 ∷ 64 ∷ 3 ∷ 1 ∷ []) (seen (after parked))
     ∷ bytes (3 ∷ 3 ∷ 1 ∷ []) (pickIn (plainly parked))

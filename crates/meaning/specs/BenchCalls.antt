@@ -50,10 +50,11 @@ callRows =
     ∷ number 0x0100 (idleNumber Idle)
     ∷ number 0 (idleNumber Busy)
     ∷ number 10 (idleNumber (Unknown 10))
-    -- "A load starts from a bare floor", whatever the cell was; `04 04` is refused with 9 at 1
+    -- "A load starts from a bare floor", whatever the cell was; `04 04` is refused with 9 at 1 and "leaves the cell that was there"
     ∷ number 0 (loadNumber (loadOf (tableOf sample) (hex "04") .verdict))
     ∷ bytes (48 ∷ []) (listing (cellOf (loadOf (tableOf sample) (hex "04") .cell)))
     ∷ number 0x0109 (loadNumber (loadOf (tableOf sample) (hex "04 04") .verdict))
+    ∷ number 2 (cellOf (loadOf (tableOf sample) (hex "04 04") .cell) .agent 2 .home)
     -- "Calls on a table test 10 first, then 11", for a given agent and for one never given
     ∷ number 10 (stepNumber (stepOf (tableOf (notUsed 0 sample)) 0 255 .answer))
     ∷ number 10 (stepNumber (stepOf (tableOf (notUsed 0 sample)) 9 255 .answer))
@@ -92,6 +93,7 @@ callRows =
     -- "An agent is asleep, or done, when a step call for it would answer that word": not by looked, took, held, back, slept, left, came, opened
     ∷ holds (rests (tableOf (staged 0 7 0 0 sample)) 0)
     ∷ holds (rests (tableOf (counted 0 1 1 (staged 0 8 0 0 sample))) 0)
+    ∷ holds (rests (tableOf (staged 2 7 1 0 sample)) 2)
     ∷ fails (rests (tableOf sample) 0)
     ∷ fails (rests (tableOf going) 0)
     ∷ fails (rests (tableOf (locked 1 1 (staged 1 2 1 0 (staged 2 1 1 0 sample)))) 2)

@@ -1,5 +1,5 @@
 -- Rows on the ceiling (document 02, W12): of loaded cells, of tables with agents on their way or done, and the refusal.
-use mathlib.Core.List.{List, [], _∷_}
+use mathlib.Core.List.{List, [], _∷_, _++_}
 use Prim.Native.Nat.{ℕ}
 use Rattle.table.specs.Base.{tab}
 use Rattle.table.specs.Cell.{bareTable, tableOf}
@@ -8,7 +8,7 @@ use Rattle.meaning.specs.declared.Limit.the-variants.{AtMost, Uncounted}
 use Rattle.meaning.specs.Run.{stepCall, run}
 use Rattle.meaning.specs.Codes.{limitNumber}
 use Rattle.meaning.specs.Limit.{ceilingOf}
-use Rattle.meaning.specs.BenchRow.{file, place, agent, enters, exits, releases}
+use Rattle.meaning.specs.BenchRow.{hex, file, manyOpens, place, agent, enters, exits, releases}
 use Rattle.meaning.specs.BenchTables.{Computed, number, loadedFrom, notUsed, counted, sample, holding, entering, going, going5, going6, topmost}
 
 -- the worked example of `walk`: `7[enter 9] | 9[exit 7]`
@@ -42,6 +42,8 @@ ceilingRows =
     ∷ number 0x1100 (told lone)
     ∷ number 0x0500 (told (loadedFrom (file (agent 0 0 ∷ []))))
     ∷ number 0 (told bareTable)
+    -- sixteen actions, the most: G and A are 1 and 16
+    ∷ number 0xc500 (told (loadedFrom (agent 0 0 ++ manyOpens 16 (hex "04"))))
     -- agent 63 counts; an agent that is not given does not, whatever actions the table has there
     ∷ number 0x1100 (told (tableOf topmost))
     ∷ number 0x8f00 (told (tableOf (counted 9 0 4 sample)))

@@ -64,6 +64,8 @@ fileRows =
     ∷ row (hex "05 40 05 00 00 00 04") [] ("refused 3 0" ∷ [])
     -- "a second record for a place is 4", also after one that gave none
     ∷ row (hex "05 00 00 00 00 00 05 00 05 00 00 00 04") [] ("refused 4 6" ∷ [])
+    -- and after records of other places
+    ∷ row (hex "05 00 05 00 00 00 01 01 00 07 00 05 01 05 00 00 00 05 00 05 00 00 00 04") [] ("refused 4 17" ∷ [])
     -- "a place not given is 5"; it stands "after that place"
     ∷ row (hex "05 01 05 00 00 00 01 01 00 07 00 04") [] ("refused 5 0" ∷ [])
     -- "Sixteen actions load"

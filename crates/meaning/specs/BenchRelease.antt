@@ -16,7 +16,7 @@ use Rattle.meaning.specs.Codes.{askNumber, stepNumber, idleOf, idleNumbe
 use Rattle.meaning.specs.Calculus.{Tree, nextOf, permits, move}
 use Rattle.meaning.specs.Plain.{Plain, treeOf, plainOf, plainRun}
 use Rattle.meaning.specs.BenchRow.{Row, row, hex, agents, file, manyPlaces, place, agent, enters, opens, releases}
-use Rattle.meaning.specs.BenchTables.{Computed, number, bytes, holds, fails, locked, staged, touched, loadedFrom, checked}
+use Rattle.meaning.specs.BenchTables.{Computed, number, bytes, holds, fails, notUsed, locked, staged, touched, loadedFrom, checked}
 
 -- ---- what walk writes
 
@@ -166,9 +166,12 @@ releaseNumbers =
     ∷ fails (permits (treeOf carrier) 1 2)
     ∷ fails (permits (treeOf (crowded carrier)) 0 2)
     ∷ fails (permits (treeOf (crowded carrier)) 0 64)
+    ∷ holds (permits (treeOf (notUsed 63 (crowded carrier))) 0 63)
     -- "`release n.P` becomes `n[] | P`"
     ∷ bytes (0 ∷ 0 ∷ 0 ∷ 0 ∷ 1 ∷ []) (treeIn (treeOf carrier))
     ∷ bytes (1 ∷ 5 ∷ 5 ∷ 1 ∷ 0 ∷ []) (treeIn (move (treeOf carrier) 0 2))
+    ∷ bytes (0 ∷ 0 ∷ 1 ∷ 0 ∷ 1 ∷ []) (tab (move (treeOf carrier) 0 2 .parent) 5 0)
+    ∷ bytes (1 ∷ 1 ∷ 3 ∷ 3 ∷ []) (tab (move (treeOf carrier) 0 2 .home) 4 0)
     -- "The plain tree .. takes one such move for each put", and none before it
     ∷ bytes (0 ∷ 0 ∷ 0 ∷ 0 ∷ 1 ∷ []) (treeIn (ran (stepCall 0 255 ∷ stepCall 0 255 ∷ []) .tree))
     ∷ bytes (1 ∷ 5 ∷ 5 ∷ 1 ∷ 0 ∷ []) (treeIn (ran (stepCall 0 255 ∷ stepCall 0 255 ∷ stepCall 0 255 ∷ []) .tree))

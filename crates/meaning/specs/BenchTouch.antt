@@ -1,15 +1,15 @@
 -- Rows on touches (document 02, W3): counts loaded, added and pooled, touch calls and their refusals, and the bound on their sum.
 use mathlib.Core.List.{List, [], _∷_}
-use Prim.Native.Nat.{ℕ}
+use Prim.Native.Nat.{ℕ, _+_}
 use Rattle.table.specs.Base.{tab}
 use Rattle.table.specs.Cell.{bareTable, cellOf, tableOf}
 use Rattle.table.specs.declared.Cell.{Cell}
 use Rattle.meaning.specs.declared.Touching.the-variants.{Count, Untouched}
-use Rattle.meaning.specs.Run.{Call, stepCall, touchCall, run}
+use Rattle.meaning.specs.Run.{Call, stepCall, touchCall, Reply, stepReply, touchReply, callOf, run}
 use Rattle.meaning.specs.Touch.{touchOf, touchesOf}
-use Rattle.meaning.specs.Codes.{touchNumber}
+use Rattle.meaning.specs.Codes.{stepNumber, touchNumber}
 use Rattle.meaning.specs.BenchRow.{file, place, agent, enters, opens, touches}
-use Rattle.meaning.specs.BenchTables.{Computed, number, bytes, loadedFrom, notUsed, touched, sample, checked}
+use Rattle.meaning.specs.BenchTables.{Computed, number, bytes, loadedFrom, notUsed, touched, sample, topmost, checked}
 
 -- `open 7.open 8 | 7[8[]] | 9[enter 6] | 6[]`, with 1, 5, 7, 0 and 3 touches: the floor is place 0, 7 place 1, 8 place 2, 9 place 3, 6 place 4
 unfoldable pub crib : Cell
@@ -31,6 +31,11 @@ answered t q n = touchNumber (touchOf t q n .answer)
 
 abbrev countsAfter : Cell → ℕ → ℕ → List ℕ
 countsAfter t q n = countsOf (touchOf t q n .cell)
+
+-- a reply as a number: a step's, or a touch call's with bit 63 set
+abbrev replied : Reply → ℕ
+replied (stepReply answer) = stepNumber answer
+replied (touchReply answer) = 0x8000000000000000 + touchNumber answer
 
 -- the crib with a sum of 999,999,999,999, and of one more
 abbrev nearly : Cell
@@ -60,6 +65,9 @@ touchRows =
     ∷ number 15 (touchNumber (Untouched 15))
     ∷ number 0x0900 (answered crib 1 4)
     ∷ bytes (1 ∷ 9 ∷ 7 ∷ 0 ∷ 3 ∷ []) (countsAfter crib 1 4)
+    -- in a list of calls too, and a step call's answer is told apart
+    ∷ number 0x8000000000000900 (replied (callOf crib (touchCall 1 4) .reply))
+    ∷ number 0 (replied (callOf crib (stepCall 0 255) .reply))
     ∷ bytes (4294967296 ∷ 5 ∷ 7 ∷ 0 ∷ 3 ∷ []) (countsAfter crib 0 4294967295)
     -- "or 3 for a place above 63 and 5 for an unused one"; 10 first; a refusal changes nothing
     ∷ number 3 (answered crib 64 4)
@@ -80,6 +88,9 @@ touchRows =
     ∷ number 10 (checked (touched 0 999999999986 (cellOf crib)))
     ∷ number 0 (checked (touched 63 1 (touched 0 1000000000000 sample)))
     ∷ number 0 (checked (touched 63 18446744073709551615 sample))
+    -- place 63 counts
+    ∷ number 0 (checked (touched 63 1000000000000 topmost))
+    ∷ number 10 (checked (touched 63 1000000000001 topmost))
     -- the count of a place, asked for
     ∷ number 0x0700 (touchNumber (touchesOf crib 2))
     ∷ number 3 (touchNumber (touchesOf crib 64))

@@ -23,6 +23,7 @@ pub mod BenchSteps
 pub mod BenchListing
 pub mod BenchTables
 pub mod BenchSound
+pub mod BenchUnsound
 pub mod BenchCalls
 pub mod BenchAfter
 pub mod BenchTouch

@@ -100,11 +100,6 @@ unfolding agentTexts placeTexts inOrder
 contentsText zero c p = []
 contentsText (suc depth) c p = inOrder (agentTexts c p) (placeTexts (c .land) p (contentsText depth c))
 
--- "a place writes its contents"
-unfoldable pub placeText : ℕ → State → ℕ → List ℕ
-unfolding bracketed contentsText
-placeText depth c q = bracketed (c .land .place q .name) (contentsText depth c q)
-
 -- "An empty floor is `0`"; no place of a sound table is more than 63 levels deep
 unfoldable pub listing : State → List ℕ
 unfolding contentsText tab
