@@ -1,17 +1,15 @@
 -- What is told of the decision is what the step would give; and the decision carried out if that is still so is a commit.
 -- Idea: the place is read off the change that the stage decides; word and number woken are those of the change, carried out.
 use mathlib.Core.Path.{_≡_, refl, sym, ap, ap₂, _∙_}
-use mathlib.Core.Bool.{Bool, true, false, cond}
-use mathlib.Core.List.{List}
-use Prim.Native.Nat.{ℕ, _%_, _<_}
-use native.Mathlib.Omega.{arith}
+use mathlib.Core.Bool.{Bool, true, false, _&&_, cond}
+use Prim.Native.Nat.{ℕ, _<_}
 use lib.Dec.{eqb, ltb, leb}
 use lib.ListN.{getD}
 use borrow.Author.Tests.{eqb-true}
 use Rattle.sets.specs.Set.{member}
 use Rattle.table.specs.BaseLaws.{Told, yea, nay, told, clash}
 use Rattle.table.specs.Bounds.{Sized}
-use Rattle.table.specs.Cell.{Land, State, none, noAgent, cellOf, landOf, nextAction, kindOf, linked, freshNumber, exitKind, openKind, releaseKind, looksHome, chooses}
+use Rattle.table.specs.Cell.{Land, State, none, noAgent, cellOf, landOf, kindOf, linked, freshNumber, exitKind, openKind, releaseKind, looksHome, chooses}
 use Rattle.table.specs.Cell.{looking, found, holding, holdingBoth, onWay, onWayOwn, onWayBoth, asleep}
 use Rattle.table.specs.CellLaws.{is-given}
 use Rattle.table.specs.Sound.{sound}
@@ -32,12 +30,17 @@ use Rattle.stages.specs.Changes.{looks, locksSecond, putsOrSleeps, holds, acts,
 use Rattle.stages.specs.ChangeLaws.{step-carried}
 use Rattle.stages.specs.declared.Change.{Change}
 use Rattle.stages.specs.declared.Change.the-variants.{Still, Turn, Take, Release, Move}
-use Rattle.step.specs.Decided.{lockedChoice, motionChoice, motionWord, settling, decided, settled, carriedOut}
-use Rattle.step.specs.CarryLaws.{decided-step}
+use Rattle.step.specs.Decided.{toldBy, lockedChoice, motionChoice, motionWord, settling, changeIn, settlingIn, decided, agentAt, settled, carriedOut}
+use Rattle.step.specs.CarryLaws.{index, lock-read, decided-step}
 use Rattle.step.specs.declared.Decision.{Decision}
-use Rattle.asking.specs.Asked.{toldBy, wokenBy, tellOf, askedOf, madeIf, sayOf, goesOn, onlyIf, movedIf, settledIf, carriedIf}
+use Rattle.asking.specs.Asked.{wokenBy, tellOf, askedOf, madeIf, sayOf, goesOn, onlyIf, movedIf, settledIf, carriedIf}
 
 -- ---- the chosen place
+
+-- what chooses no place tells none
+none-told : (b : Bool) → _≡_ {A = ℕ} (cond b noneTold noneTold) noneTold
+none-told true = refl
+none-told false = refl
 
 -- the place that a change of agent a chooses, whatever its kind
 abbrev chosenBy : Change → Agent → ℕ
@@ -47,20 +50,17 @@ chosenBy (Take q stage remembered chosen) a = lockedChoice stage chosen
 chosenBy (Release p q stage remembered w) a = noneTold
 chosenBy (Move m) a = motionChoice m a
 
--- what is told of the decision is told of it, held or not: the agent's next action is as it was
-settled-told : (k : Change) (x : ℕ) (a : Agent) (ls : List ℕ) → toldBy (settling k x a ls .agent) (settling k x a ls .chosen) ≡ toldBy a (chosenBy k a)
-unfolding nextAction
-settled-told (Still w) x a ls = refl
-settled-told (Turn stage remembered w) x a ls = refl
-settled-told (Take q stage remembered chosen) x a ls = go (told (eqb (getD ls q 0) none))
+-- what is told of the decision is told of it, held or not
+settled-told : (k : Change) (x : ℕ) (a : Agent) (lock : ℕ) → settling k x a lock .chosen ≡ toldBy a (chosenBy k a)
+settled-told (Still w) x a lock = sym (none-told (chooses (kindOf a)))
+settled-told (Turn stage remembered w) x a lock = sym (none-told (chooses (kindOf a)))
+settled-told (Take q stage remembered chosen) x a lock = go (told (ltb q 64 && eqb lock none))
   where
-    go : Told (eqb (getD ls q 0) none)
-        → toldBy (settling (Take q stage remembered chosen) x a ls .agent) (settling (Take q stage remembered chosen) x a ls .chosen)
-        ≡ toldBy a (lockedChoice stage chosen)
+    go : Told (ltb q 64 && eqb lock none) → settling (Take q stage remembered chosen) x a lock .chosen ≡ toldBy a (lockedChoice stage chosen)
     go (yea e) = rw e
     go (nay e) = rw e
-settled-told (Release p q stage remembered w) x a ls = refl
-settled-told (Move m) x a ls = refl
+settled-told (Release p q stage remembered w) x a lock = sym (none-told (chooses (kindOf a)))
+settled-told (Move m) x a lock = refl
 
 -- a kind of action that chooses is not exit, and not release
 chooses-not : (other : ℕ) → chooses other ≡ false → (kind : ℕ) → chooses kind ≡ true → eqb kind other ≡ false
@@ -75,18 +75,13 @@ module _ (l : Land) (a : Agent) where
   abbrev tells : Change → ℕ
   tells k = toldBy a (chosenBy k a)
 
-  -- what chooses no place tells none, and so does what chooses none of those there are
-  same : (b : Bool) → _≡_ {A = ℕ} (cond b noneTold noneTold) noneTold
-  same true = refl
-  same false = refl
-
   -- neither of two changes tells a place
   quiet : (b : Bool) (r s : Change) → tells r ≡ noneTold → tells s ≡ noneTold → tells (cond b r s) ≡ noneTold
   quiet true r s e f = e
   quiet false r s e f = f
 
   abbrev silent : _≡_ {A = ℕ} (toldBy a noneTold) noneTold
-  silent = same (chooses (kindOf a))
+  silent = none-told (chooses (kindOf a))
 
   second-told : (q : ℕ) → tells (locksSecond a q) ≡ toldBy a (choiceTold q)
   unfolding locksSecond
@@ -158,89 +153,83 @@ motion-told c x a Dissolve place = refl
 motion-told c x a (Put q) place = refl
 
 -- word and number woken of the decision are those of the change, carried out
-change-answered : (k : Change) (t : Cell) (x : ℕ) (a : Agent) (place : ℕ)
-    → tellOf (settling k x a (t .locks) .answer) (wokenBy (cellOf t) (settling k x a (t .locks))) place ≡ would (carried (cellOf t) x a k) place
+change-answered : (k : Change) (t : Cell) → Sized t → (x : ℕ) (a : Agent) (place : ℕ)
+    → tellOf (settlingIn t x a k .answer) (wokenBy (cellOf t) a (settlingIn t x a k)) place ≡ would (carried (cellOf t) x a k) place
 unfolding still turn take release cellOf
-change-answered (Still w) t x a place = refl
-change-answered (Turn stage remembered w) t x a place = refl
-change-answered (Take q stage remembered chosen) t x a place = go (told (eqb (getD (t .locks) q 0) none))
+change-answered (Still w) t z x a place = refl
+change-answered (Turn stage remembered w) t z x a place = refl
+change-answered (Take q stage remembered chosen) t z x a place = go (told (eqb (getD (t .locks) q 0) none))
   where
     go : Told (eqb (getD (t .locks) q 0) none)
-        → tellOf (settling (Take q stage remembered chosen) x a (t .locks) .answer)
-        (wokenBy (cellOf t) (settling (Take q stage remembered chosen) x a (t .locks))) place
+        → tellOf (settlingIn t x a (Take q stage remembered chosen) .answer) (wokenBy (cellOf t) a (settlingIn t x a (Take q stage remembered chosen))) place
         ≡ would (carried (cellOf t) x a (Take q stage remembered chosen)) place
-    go (yea e) = rw e
-    go (nay e) = rw e
-change-answered (Release p q stage remembered w) t x a place = refl
-change-answered (Move m) t x a place = motion-told (cellOf t) x a m place
+    go (yea e) = rw (lock-read (t .locks) q (z .locks), e)
+    go (nay e) = rw (lock-read (t .locks) q (z .locks), e)
+change-answered (Release p q stage remembered w) t z x a place = refl
+change-answered (Move m) t z x a place = motion-told (cellOf t) x a m place
 
 -- ---- ask and commit
 
 module _ (t : Cell) (z : Sized t) (x wish : ℕ) where
   abbrev a : Agent
-  a = seenOf t x .agent
+  a = agentAt t x
 
   abbrev change : Change
-  change = changeAt (a .stage) (landOf (t .places) (t .used) (t .order)) a wish
+  change = changeIn t a wish
 
   abbrev decision : Decision
   decision = decided (seenOf t x) t x wish
 
   -- the place, of an agent that is given
-  place-told : member (t .given) x ≡ true
-      → toldBy (settling change x a (t .locks) .agent) (settling change x a (t .locks) .chosen) ≡ toldPlace (cellOf t) x wish
+  place-told : member (t .given) x ≡ true → settlingIn t x a change .chosen ≡ toldPlace (cellOf t) x wish
   unfolding cellOf
   place-told g =
       let low : x < 64 = is-given t z x g in
-      let i : x % 64 ≡ x = omega arith in
-      let read : a ≡ getD (t .agents) x noAgent = ap (λ (n : ℕ). getD (t .agents) n noAgent) i in
-      settled-told change x a (t .locks) ∙ change-told (landOf (t .places) (t .used) (t .order)) a (a .stage) wish
+      let read : a ≡ getD (t .agents) x noAgent = ap (λ (n : ℕ). getD (t .agents) n noAgent) (index x low) in
+      settled-told change x a _ ∙ change-told (landOf (t .places) (t .used) (t .order)) a (a .stage) wish
       ∙ ap (λ (b : Agent). toldAt (b .stage) (cellOf t .land) b wish) read
 
   -- of an agent that is given, on a sound table
-  told-step : member (t .given) x ≡ true → askedOf t (settling change x a (t .locks)) ≡ would (step (cellOf t) x wish) (toldPlace (cellOf t) x wish)
+  told-step : member (t .given) x ≡ true → askedOf t a (settlingIn t x a change) ≡ would (step (cellOf t) x wish) (toldPlace (cellOf t) x wish)
   unfolding askedOf step cellOf
   told-step g =
       let low : x < 64 = is-given t z x g in
-      let i : x % 64 ≡ x = omega arith in
-      let read : a ≡ getD (t .agents) x noAgent = ap (λ (n : ℕ). getD (t .agents) n noAgent) i in
-      ap (tellOf (settling change x a (t .locks) .answer) (wokenBy (cellOf t) (settling change x a (t .locks)))) (settled-told change x a (t .locks))
-      ∙ change-answered change t x a _
-      ∙ ap (would (carried (cellOf t) x a change)) (change-told (landOf (t .places) (t .used) (t .order)) a (a .stage) wish)
-      ∙ ap (λ (o : Outcome). would o (toldAt (a .stage) (cellOf t .land) a wish)) (step-carried (cellOf t) x a (a .stage) wish)
-      ∙ ap (λ (b : Agent). would (stepAt (b .stage) (cellOf t) x b wish) (toldAt (b .stage) (cellOf t .land) b wish)) read
+      let read : a ≡ getD (t .agents) x noAgent = ap (λ (n : ℕ). getD (t .agents) n noAgent) (index x low) in
+      ap (tellOf (settlingIn t x a change .answer) (wokenBy (cellOf t) a (settlingIn t x a change))) (place-told g)
+      ∙ change-answered change t z x a _
+      ∙ ap (λ (o : Outcome). would o (toldPlace (cellOf t) x wish)) (step-carried (cellOf t) x a (a .stage) wish ∙ ap (λ (b : Agent). stepAt (b .stage) (cellOf t) x b wish) read)
 
   -- what is told of what is decided of a table is the ask
-  pub decided-ask : askedOf t decision ≡ askOf t x wish
+  pub decided-ask : askedOf t a decision ≡ askOf t x wish
   unfolding decided askOf cellOf askedOf
   decided-ask = go (told (sound (cellOf t))) (told (member (t .given) x))
     where
-      go : Told (sound (cellOf t)) → Told (member (t .given) x) → askedOf t decision ≡ askOf t x wish
+      go : Told (sound (cellOf t)) → Told (member (t .given) x) → askedOf t a decision ≡ askOf t x wish
       go (nay s) _ = rw s
       go (yea s) (nay g) = rw (s, g)
       go (yea s) (yea g) = rw (s, g) (told-step g)
 
   -- the decision carried out if what is told passes a test: the step if an ask would pass it, 18 if not
-  made-step : (passes : Asked → Bool) → madeIf (passes (askedOf t decision)) t x decision ≡ cond (passes (askOf t x wish)) (stepOf t x wish) (turnedAway t answerDiffers)
+  made-step : (passes : Asked → Bool) → madeIf (passes (askedOf t a decision)) t x decision ≡ cond (passes (askOf t x wish)) (stepOf t x wish) (turnedAway t answerDiffers)
   unfolding madeIf
   made-step passes = ap₂ (λ (b : Asked) (s : Stepped). cond (passes b) s (turnedAway t answerDiffers)) decided-ask (decided-step t z x wish)
 
   -- so a commit, of the three
-  pub made-commit : (word woken place : ℕ) → madeIf (agrees (askedOf t decision) word woken place) t x decision ≡ commitOf t x wish word woken place
+  pub made-commit : (word woken place : ℕ) → madeIf (agrees (askedOf t a decision) word woken place) t x decision ≡ commitOf t x wish word woken place
   unfolding commitOf
   made-commit word woken place = made-step (λ b. agrees b word woken place)
 
   -- and of the number of an ask
-  pub made-handed : (n : ℕ) → madeIf (handsBack (askedOf t decision) n) t x decision ≡ handedOf t x wish n
+  pub made-handed : (n : ℕ) → madeIf (handsBack (askedOf t a decision) n) t x decision ≡ handedOf t x wish n
   unfolding handedOf
   made-handed n = made-step (λ b. handsBack b n)
 
   -- what the step answers, with the place, is the ask
-  said-ask : sayOf (stepOf t x wish .answer) (toldBy (decision .agent) (decision .chosen)) ≡ askOf t x wish
+  said-ask : sayOf (stepOf t x wish .answer) (decision .chosen) ≡ askOf t x wish
   unfolding decided stepOf made turnedAway askOf cellOf
   said-ask = go (told (sound (cellOf t))) (told (member (t .given) x))
     where
-      go : Told (sound (cellOf t)) → Told (member (t .given) x) → sayOf (stepOf t x wish .answer) (toldBy (decision .agent) (decision .chosen)) ≡ askOf t x wish
+      go : Told (sound (cellOf t)) → Told (member (t .given) x) → sayOf (stepOf t x wish .answer) (decision .chosen) ≡ askOf t x wish
       go (nay s) _ = rw s
       go (yea s) (nay g) = rw (s, g)
       go (yea s) (yea g) = rw (s, g) (ap (would (step (cellOf t) x wish)) (place-told g))
@@ -253,26 +242,30 @@ module _ (t : Cell) (z : Sized t) (x wish : ℕ) where
   pub carried-handed : (n : ℕ) → carriedIf t x decision false n ≡ handedOf t x wish n
   unfolding carriedIf handedOf
   carried-handed n =
-      ap (λ (s : Stepped). cond (handsBack (sayOf (s .answer) (toldBy (decision .agent) (decision .chosen))) n) s (turnedAway t answerDiffers)) (decided-step t z x wish)
+      ap (λ (s : Stepped). cond (handsBack (sayOf (s .answer) (decision .chosen)) n) s (turnedAway t answerDiffers)) (decided-step t z x wish)
       ∙ ap (λ (b : Asked). cond (handsBack b n) (stepOf t x wish) (turnedAway t answerDiffers)) said-ask
 
 -- where a place moves, the motion is what is carried out; where none does, the agent and the locks
 module _ (t : Cell) (x : ℕ) (d : Decision) (any : Bool) (n : ℕ) where
+  -- by whether a place moves
+  abbrev by-moves : Bool → Stepped
+  by-moves y = onlyIf t d any n (cond y (made (shifted (cellOf t) x (agentAt t x) (d .motion))) (record { cell = settled t x d; answer = d .answer }))
+
   pub carried-moved : d .moves ≡ true → movedIf t x d any n ≡ carriedIf t x d any n
   unfolding movedIf carriedIf carriedOut
-  carried-moved e = sym (ap (λ (y : Bool). onlyIf t d any n (cond y (made (shifted (cellOf t) x (d .agent) (d .motion))) (record { cell = settled t x (d .agent) (d .locks); answer = d .answer }))) e)
+  carried-moved e = sym (ap by-moves e)
 
   pub carried-settled : d .moves ≡ false → settledIf t x d any n ≡ carriedIf t x d any n
   unfolding settledIf carriedIf carriedOut
-  carried-settled e = sym (ap (λ (y : Bool). onlyIf t d any n (cond y (made (shifted (cellOf t) x (d .agent) (d .motion))) (record { cell = settled t x (d .agent) (d .locks); answer = d .answer }))) e)
+  carried-settled e = sym (ap by-moves e)
 
 -- a step r, which is s, that goes on by the test y, and one that does not
-module _ (t : Cell) (d : Decision) (any : Bool) (n : ℕ) (s r : Stepped) (e : r ≡ s) (y : Bool) (e′ : y ≡ goesOn any (r .answer) (d .agent) (d .chosen) n) where
+module _ (t : Cell) (d : Decision) (any : Bool) (n : ℕ) (s r : Stepped) (e : r ≡ s) (y : Bool) (e′ : y ≡ goesOn any (r .answer) (d .chosen) n) where
   abbrev made-by : Bool → Stepped
   made-by w = cond w s (turnedAway t answerDiffers)
 
-  test : goesOn any (s .answer) (d .agent) (d .chosen) n ≡ y
-  test = sym (ap (λ (q : Stepped). goesOn any (q .answer) (d .agent) (d .chosen) n) e) ∙ sym e′
+  test : goesOn any (s .answer) (d .chosen) n ≡ y
+  test = sym (ap (λ (q : Stepped). goesOn any (q .answer) (d .chosen) n) e) ∙ sym e′
 
   pub only-goes : y ≡ true → r ≡ onlyIf t d any n s
   only-goes h = e ∙ sym (ap made-by (test ∙ h))

@@ -10,46 +10,33 @@ use table::Cell;
 ghost use mathlib.Core.Path.{_≡_};
 ghost use Rattle.table.specs.Cell.{cellOf};
 ghost use Rattle.meaning.specs.Ask.{askOf, agrees as agreesWith, commitOf};
-ghost use Rattle.asking.specs.Asked.{toldBy, wokenBy, askedOf, madeIf};
+ghost use Rattle.asking.specs.Asked.{wokenBy, askedOf, madeIf};
 
 // A commit of the very number that an ask gave.
 pub use number::goes_on;
 pub use number::handed;
 pub use number::hands_back;
 
-// The place that an ask of agent a tells: none for exit and release.
-fn told(a: Agent, chosen: u8) -> u8
-    ensures { λ r. ⌜ r ≡ toldBy a chosen ⌝ }
-{
-    let x = table::next_action(a);
-    if x.kind == 1 {
-        return chosen;
-    }
-    if x.kind == 3 { chosen } else { 255 }
-}
-
-// How many agents the step that was decided would wake.
-fn waking(c: Cell, d: Decision) -> u8
-    ensures { λ r. ⌜ r ≡ wokenBy (cellOf c) d ⌝ }
+// How many agents the step that was decided for agent a would wake.
+fn waking(c: Cell, a: Agent, d: Decision) -> u8
+    ensures { λ r. ⌜ r ≡ wokenBy (cellOf c) a d ⌝ }
 {
     if d.moves {
-        let a = d.agent;
         let m = d.motion;
         return moves::woken(c, a, m);
     }
     0
 }
 
-// What an ask tells of the step that was decided.
-pub fn asked(c: Cell, d: Decision) -> Asked
-    ensures { λ r. ⌜ r ≡ askedOf c d ⌝ }
+// What an ask tells of the step that was decided for agent a.
+pub fn asked(c: Cell, a: Agent, d: Decision) -> Asked
+    ensures { λ r. ⌜ r ≡ askedOf c a d ⌝ }
 {
-    let a = d.agent;
-    let q = told(a, d.chosen);
+    let q = d.chosen;
     let answer = d.answer;
     match answer {
         Answer::Did(word, _) => {
-            let n = waking(c, d);
+            let n = waking(c, a, d);
             Asked::Would(word, n, q)
         }
         Answer::Refused(number) => Asked::Unasked(number),
@@ -77,8 +64,9 @@ pub fn ask(c: Cell, agent: u8, wish: u8) -> Asked
     ensures { λ r. ⌜ r ≡ askOf c agent wish ⌝ }
 {
     let s = soundness::see(c, agent);
+    let a = s.agent;
     let d = step::decide(s, c, agent, wish);
-    asked(c, d)
+    asked(c, a, d)
 }
 
 // The decision carried out if what was told is still so: 18 otherwise.
@@ -99,8 +87,9 @@ pub fn commit(c: Cell, agent: u8, wish: u8, word: u8, woken: u8, place: u8) -> S
     ensures { λ r. ⌜ r ≡ commitOf c agent wish word woken place ⌝ }
 {
     let s = soundness::see(c, agent);
+    let a = s.agent;
     let d = step::decide(s, c, agent, wish);
-    let t = asked(c, d);
+    let t = asked(c, a, d);
     let same = agrees(t, word, woken, place);
     made_if(same, c, agent, d)
 }

@@ -1,11 +1,9 @@
 // A commit of the very number that an ask gave, for hosts that hand it back unread.
 use super::asked;
 use super::made_if;
-use super::told;
 use meaning::Answer;
 use meaning::Asked;
 use meaning::Stepped;
-use table::Agent;
 use table::Cell;
 ghost use mathlib.Core.Path.{_≡_};
 ghost use Rattle.meaning.specs.Ask.{handsBack, handedOf};
@@ -32,15 +30,14 @@ fn say(said: Answer, place: u8) -> Asked
     }
 }
 
-// Whether a step of agent a that answers so goes on: any does, or the one of which an ask gives this number.
-pub fn goes_on(any: bool, said: Answer, a: Agent, chosen: u8, answer: u64) -> bool
-    ensures { λ r. ⌜ r ≡ goesOn any said a chosen answer ⌝ }
+// Whether a step that answers so, with this place, goes on: any does, or the one of which an ask gives this number.
+pub fn goes_on(any: bool, said: Answer, place: u8, answer: u64) -> bool
+    ensures { λ r. ⌜ r ≡ goesOn any said place answer ⌝ }
 {
     if any {
         return true;
     }
-    let q = told(a, chosen);
-    let t = say(said, q);
+    let t = say(said, place);
     hands_back(t, answer)
 }
 
@@ -49,8 +46,9 @@ pub fn handed(c: Cell, agent: u8, wish: u8, answer: u64) -> Stepped
     ensures { λ r. ⌜ r ≡ handedOf c agent wish answer ⌝ }
 {
     let s = soundness::see(c, agent);
+    let a = s.agent;
     let d = step::decide(s, c, agent, wish);
-    let t = asked(c, d);
+    let t = asked(c, a, d);
     let same = hands_back(t, answer);
     made_if(same, c, agent, d)
 }

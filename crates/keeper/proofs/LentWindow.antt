@@ -24,7 +24,7 @@ use Rattle.window.proofs.Window.Laws as T′
 use Rattle.lent.proofs.Walk.{refl, ℕ, _<_, _^_, List, [], _∷_, URA, fullShare, w8, Val, vint, GName, Lft, Share, flft, fobs, fbor, Heap, Atoms, Given, ‵, _$_, _∵_, !, qed, fjoin, done, Body, RattleType, Is, mem, u8, u64, uint-makes, plain, owned, nothing, yes}
 use Rattle.lent.proofs.Declared as D
 use Rattle.lending.proofs.Passing.{Lends, Passed}
-use Rattle.lending.proofs.Altering.{Alters}
+use Rattle.lending.proofs.Altering.{Alters, leaving}
 
 -- ---- the window
 
@@ -64,19 +64,17 @@ flags-is w r was is =
 -- ---- the functions over the lent cell
 
 abbrev pub Steps : Alters
-Steps = record {
-  tells = record { slots = plain (λ _. u8) ∷ plain (λ _. u8) ∷ []; kept = (yes, (yes, tt)); result = u64; of = λ κs c a. stepNumber (stepOf c (a .0) (a .1 .0) .answer) };
-  leaves = λ κs c a. stepOf c (a .0) (a .1 .0) .cell;
-}
+Steps = leaving
+    (record { slots = plain (λ _. u8) ∷ plain (λ _. u8) ∷ []; kept = (yes, (yes, tt)); result = u64; of = λ κs c a. stepNumber (stepOf c (a .0) (a .1 .0) .answer) })
+    (λ κs c a. stepOf c (a .0) (a .1 .0) .cell)
 
 abbrev pub Rests : Lends
 Rests = record { slots = []; kept = tt; result = bool; of = λ κs c a. idle (cellOf c) }
 
 abbrev pub Commands : Alters
-Commands = record {
-  tells = record { slots = plain (λ _. R) ∷ []; kept = (yes, tt); result = R; of = λ κs c a. commandOf c (a .0) .window };
-  leaves = λ κs c a. commandOf c (a .0) .cell;
-}
+Commands = leaving
+    (record { slots = plain (λ _. R) ∷ []; kept = (yes, tt); result = R; of = λ κs c a. commandOf c (a .0) .window })
+    (λ κs c a. commandOf c (a .0) .cell)
 
 module _ {M : Type 1} (𝓤 : URA M) (H : Heap 𝓤) (A : Atoms 𝓤) (W : Given 𝓤 H A) where
   -- a window has its MIR type

@@ -1,5 +1,6 @@
 -- What the calls for an agent share over a lent cell: the contracts of the functions that decide the step, tell it and carry it out, and the call of one that carries it out as one step.
---     Decides, Tells   the functions that decide, and that tell what was decided, in the words of `Passing`
+--     Changes, Decides, Tells   the functions that say what the step changes, that decide, and that tell what was decided, in the words of `Passing`
+--     val              the machine value of a decision
 --     Carries F        the contract of a function that makes F of a decision, if the step goes on
 --     carrying         a `&mut Cell` is given up for the call of such a function, and the cell that it leaves is known
 -- Assumes nothing.
@@ -18,18 +19,23 @@ use denote.Plain.{bool-makes, uint-makes}
 use denote.Ref.{now}
 use denote.Triple.Clauses.{Ended, Clauses, closing}
 use denote.Struct.Laws as LL
+use Rattle.table.specs.declared.Agent.{Agent}
 use Rattle.table.specs.declared.Cell.{Cell}
+use Rattle.table.proofs.Agent as Agent′
+use Rattle.table.proofs.Agent.Laws as agent-laws
 use Rattle.meaning.specs.declared.Stepped.{Stepped}
 use Rattle.meaning.specs.Codes.{stepNumber}
 use Rattle.meaning.proofs.Asked as Asked′
 use Rattle.soundness.specs.Seen.{seenOf}
 use Rattle.step.specs.declared.Decision.{Decision}
-use Rattle.step.specs.Decided.{decided}
+use Rattle.stages.proofs.Change as Change′
+use Rattle.step.specs.Decided.{changeIn, decided, agentAt}
 use Rattle.step.proofs.Decision as Decision′
 use Rattle.step.proofs.Decision.Laws as decision-laws
 use Rattle.asking.specs.Asked.{askedOf}
 use Rattle.lent.proofs.Walk.{_≡_, refl, ℕ, List, [], _∷_, URA, Val, vptr, ent, emp, id⊢, GName, Lft, Share, ftrue, flft, fres, Heap, Calls, Loops, Atoms, fact, Given, ‵, raw, _⊛_, ⋆, _$_, _∵_, !, qed, move, drop, use1, use3, join, fsplit, fjoin, fjoin3, feqI, done, FmC, Is, u8, u64, plain, owned, nothing, Contract, Triple, tripleOf, yes}
 use Rattle.lent.proofs.Lent.{R, called}
+use Rattle.lent.proofs.Reading.{agent-val, Agent-is}
 use Rattle.lending.proofs.Passing.{Lends, Passed}
 
 -- ---- the step is decided, and told
@@ -38,7 +44,14 @@ abbrev pub Decides : Lends
 Decides = record { slots = plain (λ _. u8) ∷ plain (λ _. u8) ∷ []; kept = (yes, (yes, tt)); result = Decision′.the-row; of = λ κs c a. decided (seenOf c (a .0)) c (a .0) (a .1 .0) }
 
 abbrev pub Tells : Lends
-Tells = record { slots = plain (λ _. Decision′.the-row) ∷ []; kept = (yes, tt); result = Asked′.the-row; of = λ κs c a. askedOf c (a .0) }
+Tells = record { slots = plain (λ _. u8) ∷ plain (λ _. Decision′.the-row) ∷ []; kept = (yes, (yes, tt)); result = Asked′.the-row; of = λ κs c a. askedOf c (agentAt c (a .0)) (a .1 .0) }
+
+abbrev pub Changes : Lends
+Changes = record { slots = plain (λ _. Agent′.the-row) ∷ plain (λ _. u8) ∷ []; kept = (yes, (yes, tt)); result = Change′.the-row; of = λ κs c a. changeIn c (a .0) (a .1 .0) }
+
+-- the machine value of a decision
+abbrev pub val : Decision → Val
+val d = LL.val Decision′.the-type decision-laws.the-laws d
 
 module _ {M : Type 1} (𝓤 : URA M) (H : Heap 𝓤) (A : Atoms 𝓤) (W : Given 𝓤 H A) where
   -- agent and wish
@@ -49,12 +62,20 @@ module _ {M : Type 1} (𝓤 : URA M) (H : Heap 𝓤) (A : Atoms 𝓤) (W : Given
     free = λ κs. qed W [] ∵ nothing ! $ owned ! u8 (Is u8) (uint-makes 𝓤 H A W w8) n _ (refl, n-fits) $ fjoin ! $ owned ! u8 (Is u8) (uint-makes 𝓤 H A W w8) m _ (refl, m-fits) $ fjoin ! $ done !;
   }
 
-  -- a decision
-  abbrev pub one : (d : Decision) (v : Val) → Is Decision′.the-row d (v ∷ []) → Passed 𝓤 H A Tells
-  one d v is = record {
-    xs = λ κs. (d, tt);
-    vs = λ κs. (v ∷ [], tt);
-    free = λ κs. qed W [] ∵ nothing ! $ owned ! Decision′.the-row (Is Decision′.the-row) (LL.makes Decision′.the-type decision-laws.the-plain 𝓤 H A) d _ is $ fjoin ! $ done !;
+  -- agent and decision
+  abbrev pub one : (m : ℕ) → m < 2 ^ 8 → (d : Decision) (v : Val) → Is Decision′.the-row d (v ∷ []) → Passed 𝓤 H A Tells
+  one m fits d v is = record {
+    xs = λ κs. (m, (d, tt));
+    vs = λ κs. (vint w8 m ∷ [], (v ∷ [], tt));
+    free = λ κs. qed W [] ∵ nothing ! $ owned ! Decision′.the-row (Is Decision′.the-row) (LL.makes Decision′.the-type decision-laws.the-plain 𝓤 H A) d _ is $ fjoin ! $ owned ! u8 (Is u8) (uint-makes 𝓤 H A W w8) m _ (refl, fits) $ fjoin ! $ done !;
+  }
+
+  -- what stands at an agent's number, and a wish
+  abbrev pub wishing : (a : Agent) → Agent-is a → (n : ℕ) → n < 2 ^ 8 → Passed 𝓤 H A Changes
+  wishing a is n fits = record {
+    xs = λ κs. (a, (n, tt));
+    vs = λ κs. (agent-val a ∷ [], (vint w8 n ∷ [], tt));
+    free = λ κs. qed W [] ∵ nothing ! $ owned ! u8 (Is u8) (uint-makes 𝓤 H A W w8) n _ (refl, fits) $ fjoin ! $ owned ! Agent′.the-row (Is Agent′.the-row) (LL.makes Agent′.the-type agent-laws.the-plain 𝓤 H A) a _ is $ fjoin ! $ done !;
   }
 
 -- ---- the decision is carried out

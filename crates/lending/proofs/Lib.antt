@@ -1,8 +1,10 @@
 pub mod Stored
 pub mod Asks
 pub mod Placed
-pub mod Settled
 pub mod Tallied
 pub mod Passing
+pub mod Sounding
+pub mod Wholes
 pub mod Deciding
 pub mod Altering
+pub mod Locking

@@ -4,8 +4,9 @@ use Prim.Native.Nat.{ℕ}
 use mathlib.Core.Bool.{Bool, _&&_, cond}
 use mathlib.Core.List.{List, []}
 use lib.Dec.{ltb, leb, eqb}
+use Rattle.sets.specs.Set.{member}
 use Rattle.sets.specs.declared.Set.{Set}
-use Rattle.table.specs.Cell.{Land, State, landOf, none, linked, linkedTo, freshNumber, kindOf, exitKind, openKind, releaseKind, looksHome}
+use Rattle.table.specs.Cell.{Land, State, landOf, none, noPlace, linked, linkedTo, freshNumber, kindOf, exitKind, openKind, releaseKind, looksHome}
 use Rattle.table.specs.Cell.{looking, found, holding, holdingBoth, onWay, onWayOwn, onWayBoth, asleep}
 use Rattle.table.specs.Sound.{secondPlace}
 use Rattle.table.specs.declared.Place.{Place}
@@ -21,6 +22,14 @@ use Rattle.stages.specs.declared.Change.the-variants.{Still, Turn, Take,
 -- the land of a table's places and the set of those in use, for whatever does not ask for their row
 abbrev pub rowless : List Place → Set → Land
 rowless ps used = landOf ps used []
+
+-- the place with number q, where x is read at q among 64: past 63 there is none
+abbrev pub ownPlace : ℕ → Place → Place
+ownPlace q x = cond (ltb q 64) x noPlace
+
+-- the land that an agent sees of which the own place is h: nothing is asked of the others
+abbrev pub ownLand : Place → Set → Land
+ownLand h used = record { place = λ q. h; used = member used; order = [] }
 
 -- q is a place linked to p, and n is its key for actions of this kind
 abbrev pub childNamed : ℕ → Land → ℕ → ℕ → ℕ → Bool
@@ -80,6 +89,14 @@ travels l a =
 -- stages 7 and 8, asleep and done
 abbrev pub idles : ℕ → Change
 idles stage = cond (eqb stage asleep) (Still Asleep) (Still Done)
+
+-- the stages other than 2 and 3, which look at the agent's own place alone
+unfoldable pub ownChange : ℕ → Land → Agent → Change
+ownChange stage l a =
+    cond (eqb stage looking) (looks l a)
+    (cond (eqb stage found) (locksFirst a)
+    (cond (leb stage onWayBoth) (travels l a)
+    (idles stage)))
 
 -- "The agent's stage, a number from 0 to 8, decides the step"
 unfoldable pub changeAt : ℕ → Land → Agent → ℕ → Change

@@ -1,5 +1,5 @@
 -- What is told of what was decided is the ask.
-use mathlib.Core.Path.{ap, _∙_}
+use mathlib.Core.Path.{ap, ap₂, _∙_}
 use borrow.Author.Needs.{needs}
 use Rattle.table.proofs.Facts.{sized}
 use Rattle.soundness.specs.declared.sound.Seen.{Seen}
@@ -11,10 +11,11 @@ use Rattle.asking.proofs.ask.Tie as tie
 
 returns : tie.Need-returns
 returns c =
-    let v = c .before .before .before in
+    let sees = c .before .before .before in
+    let v = sees .before in
     let s = v .args in
     c .asked .ensures
-    ∙ ap (askedOf (s .c)) (c .before .decide .ensures ∙ ap (λ (w : Seen). decided w (s .c) (s .agent) (s .wish)) (c .before .before .see .ensures))
+    ∙ ap₂ (askedOf (s .c)) (ap (λ (w : Seen). w .agent) (sees .see .ensures)) (c .before .decide .ensures ∙ ap (λ (w : Seen). decided w (s .c) (s .agent) (s .wish)) (sees .see .ensures))
     ∙ decided-ask (s .c) (sized (s .c) (v .good .0)) (s .agent) (s .wish)
 
 pub ask-spec : {M : Type 1} → statement M

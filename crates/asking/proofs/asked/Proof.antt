@@ -9,6 +9,6 @@ unfolding askedOf
 asked-spec =
     tie.close
     (tie.spec
-    (λ c κs. search needs) (λ c. search needs) (λ c κs. search needs) (λ c. search needs)
-    (λ c. rw (c .before .before .answer .given .1, c .waking .ensures, c .before .before .before .before .told .ensures))
+    (λ c. search needs) (λ c κs. search needs) (λ c. search needs)
+    (λ c. rw (c .before .before .answer .given .1, c .waking .ensures))
     (λ c. rw (c .before .answer2 .given .1)))

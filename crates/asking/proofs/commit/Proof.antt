@@ -17,13 +17,14 @@ use Rattle.asking.proofs.commit.Tie as tie
 returns : tie.Need-returns
 returns c =
     let d = c .before .before .before in
-    let v = d .before .before in
+    let sees = d .before .before in
+    let v = sees .before in
     let s = v .args in
     let is : d .decide .result ≡ decided (seenOf (s .c) (s .agent)) (s .c) (s .agent) (s .wish) =
-    d .decide .ensures ∙ ap (λ (w : Seen). decided w (s .c) (s .agent) (s .wish)) (d .before .see .ensures) in
+    d .decide .ensures ∙ ap (λ (w : Seen). decided w (s .c) (s .agent) (s .wish)) (sees .see .ensures) in
     c .made-if .ensures
     ∙ ap₂ (λ (y : Bool) (e : Decision). madeIf y (s .c) (s .agent) e)
-    (c .before .agrees .ensures ∙ ap (λ (b : Asked). agrees b (s .word) (s .woken) (s .place)) (c .before .before .asked .ensures ∙ ap (askedOf (s .c)) is)) is
+    (c .before .agrees .ensures ∙ ap (λ (b : Asked). agrees b (s .word) (s .woken) (s .place)) (c .before .before .asked .ensures ∙ ap₂ (askedOf (s .c)) (ap (λ (w : Seen). w .agent) (sees .see .ensures)) is)) is
     ∙ made-commit (s .c) (sized (s .c) (v .good .0)) (s .agent) (s .wish) (s .word) (s .woken) (s .place)
 
 pub commit-spec : {M : Type 1} → statement M

@@ -7,5 +7,5 @@ pub waking-spec : {M : Type 1} → statement M
 waking-spec =
     tie.close
     (tie.spec
-    (λ c κs. search needs) (λ c. rw (c .before .before .if1 .taken) (c .woken .ensures))
+    (λ c κs. search needs) (λ c. rw (c .before .if1 .taken) (c .woken .ensures))
     (λ c. rw (c .if1 .left)))

@@ -1,8 +1,7 @@
 -- `commanded` meets its contract: where the command is 1 the reference is lent on to `keeper_step` and to `at_rest`, and what they answer is noted; where it is not the line is set.
 -- Assumes nothing.
 use mathlib.Core.Bool.{Bool}
-use mathlib.Core.Logic.{_≢_}
-use lib.Dec.{T, eqb}
+use lib.Dec.{eqb}
 use borrow.Author.Tests.{eqb-true, eqb-false}
 use mir.Syntax.{tyInt, tyBool}
 use mir.Val.{vbool}
@@ -26,8 +25,8 @@ use Rattle.window.proofs.with_line.Symbol as lined-def
 use Rattle.window.proofs.with_line.Met as lined-thm
 use Rattle.resting.proofs.at_rest.Symbol as rest-def
 use Rattle.resting.proofs.at_rest.Met as rest-thm
-use Rattle.lent.proofs.Walk.{_≡_, refl, ap, ℕ, _<_, _^_, List, [], _∷_, URA, fullShare, named, w8, w64, Val, vint, vptr, SProp, ent, emp, id⊢, GName, Lft, Share, ftrue, fat, flft, fobs, fbor, Memory, Routine, Heap, Calls, Loops, WpFn, Atoms, Fun, givenOf, tables, Given, ‵, raw, _⊛_, ⋆, _$_, _∵_, !, qed, by, move, keep, drop, split, join, rewrite, fsplit, fsplit3, fjoin, fjoin3, feqI, suffices, frame, done, look, init, forget, stop, hop, fld, from, load, lit, addr, and-then, no-more, assigns, land, returns, enter, alloc1, alloc0, params1, pass1, pass0, whole, sub, look-in, Body, FmC, owns, Is, mem, uint-makes, uint-lawful, u64, RefT, MutRef, ptr-vals, mut-tells, plain, only, owned, nothing, Contract, Triple, onEntry, tripleOf, cited, says, Stays, stay-ref, stay-none, walkOf, goes-ref, goes-none, ends-at, yes, exported}
-use Rattle.lent.proofs.Lent.{R, mach, opened, closed, called, Equates, applied}
+use Rattle.lent.proofs.Walk.{_≡_, refl, ap, ℕ, _<_, _^_, List, [], _∷_, URA, fullShare, named, w64, Val, vint, vptr, SProp, ent, emp, id⊢, GName, Lft, Share, ftrue, fat, flft, fobs, fbor, Memory, Routine, Heap, Calls, Loops, WpFn, Atoms, Fun, givenOf, tables, Given, ‵, raw, _⊛_, ⋆, _$_, _∵_, !, qed, by, move, keep, drop, split, join, rewrite, fsplit, fsplit3, fjoin, fjoin3, feqI, suffices, frame, done, look, init, forget, stop, hop, fld, from, load, lit, addr, and-then, no-more, assigns, land, returns, enter, alloc1, alloc0, params1, pass1, pass0, whole, sub, look-in, Body, FmC, owns, Is, mem, uint-makes, uint-lawful, u64, RefT, MutRef, ptr-vals, mut-tells, plain, only, owned, nothing, Contract, Triple, onEntry, tripleOf, cited, says, Stays, stay-ref, stay-none, walkOf, goes-ref, goes-none, ends-at, yes, exported}
+use Rattle.lent.proofs.Lent.{R, opened, closed, called, Equates, applied}
 use Rattle.lent.proofs.Loop.{is-true, is-false}
 use Rattle.lent.proofs.Freed.{freed}
 use Rattle.soundness.proofs.Seeing.{unless}
@@ -90,7 +89,7 @@ module _ {M : Type 1} (𝓤 : URA M) (H : Heap 𝓤) (A : Atoms 𝓤) (W : Given
           (λ steps.
           assigns ! (addr ! (from ! (hop ! (look ! 15 refl) (stop !)))) (from ! (stop !)) (init ! 5 refl (tt, tt)) $
           altering ! fm Steps known-step (numbers 𝓤 H A W (w .agent) (w .wish) (owed .1 .0 .1) (owed .1 .1 .0 .1)) h b o
-          (λ κs y i. and-then ! (load ! (from ! (stop !)) (look ! 4 refl)) (and-then ! (load ! (from ! (fld ! refl (stop !))) (look-in ! 12 (sub ! 1 refl (whole !)))) (and-then ! (load ! (from ! (fld ! refl (stop !))) (look-in ! 12 (sub ! 2 refl (whole !)))) (no-more !)))) (λ v n c κs e e′ is′.
+          (λ κs y i. and-then ! (load ! (from ! (stop !)) (look ! 4 refl)) (and-then ! (load ! (from ! (fld ! refl (stop !))) (look-in ! 12 (sub ! 1 refl (whole !)))) (and-then ! (load ! (from ! (fld ! refl (stop !))) (look-in ! 12 (sub ! 2 refl (whole !)))) (no-more !)))) (λ v n c κs (e, e′) is′.
           land ! (from ! (stop !)) (init ! 11 refl (uint-lawful 𝓤 H A W w64 .typed n _ is′ .0)) $ rewrite ! 11 (λ (z : Val). ‵ (fat fullShare (tyInt w64) l₃ 0 z)) (ap only (is′ .0)) refl $
           opened ! tt c b o (λ was.
           -- [the cell; the open borrow; obs; auth; _7 at 4; _6; …; _0 at 18]

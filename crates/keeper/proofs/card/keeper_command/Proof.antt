@@ -57,7 +57,7 @@ module _ {M : Type 1} (𝓤 : URA M) (H : Heap 𝓤) (A : Atoms 𝓤) (W : Given
         -- [obs, borrow and token of the cell; the window at 3; its open borrow; obs; auth; _5 at 7; _4; _3; _2; _1; _0 at 17]
         assigns ! (addr ! (from ! (hop ! (look ! 15 refl) (stop !)))) (from ! (stop !)) (init ! 9 refl (tt, tt)) $
         assigns ! (of-opd ! (load ! (from ! (hop ! (look ! 13 refl) (stop !))) (look-raw ! 3 refl))) (from ! (stop !)) (init ! 7 refl (typed 𝓤 H A W w (val w) was)) $
-        altering ! fm Commands known (one 𝓤 H A W w was) h b o (λ κs y i. and-then ! (load ! (from ! (stop !)) (look ! 8 refl)) (and-then ! (load ! (from ! (stop !)) (look ! 6 refl)) (no-more !))) (λ v r c κs e e′ is.
+        altering ! fm Commands known (one 𝓤 H A W w was) h b o (λ κs y i. and-then ! (load ! (from ! (stop !)) (look ! 8 refl)) (and-then ! (load ! (from ! (stop !)) (look ! 6 refl)) (no-more !))) (λ v r c κs (e, e′) is.
         land ! (from ! (stop !)) (init ! 11 refl (typed 𝓤 H A W r v is)) $ rewrite ! 11 (λ (u : Val). ‵ (fat fullShare window-laws.mir l₃ 0 u)) (ap only (LL.tells Window′.the-type window-laws.the-laws r _ is)) refl $
         let is′ = subst (Is R r) (LL.tells Window′.the-type window-laws.the-laws r _ is) is in
         let owed = LL.owed Window′.the-type window-laws.the-laws r _ is′ in

@@ -19,7 +19,7 @@ use Rattle.asking.specs.AskedLaws.{carried-moved, carried-settled}
 use Rattle.lent.proofs.Walk.{_≡_, refl, ap, _∙_, ℕ, _<_, _^_, List, [], _∷_, URA, named, w8, w64, Val, vint, vptr, SProp, ent, GName, Lft, Share, ftrue, flft, fres, Memory, Routine, Heap, Calls, Loops, WpFn, Atoms, Fun, givenOf, tables, Given, ‵, _⊛_, ⋆, _$_, _∵_, !, qed, by, move, drop, split, fsplit, fsplit3, fjoin, suffices, frame, done, look, init, forget, stop, hop, fld, from, load, addr, of-opd, and-then, no-more, assigns, land, returns, enter, alloc1, alloc0, params1, pass1, pass0, whole, sub, look-in, FmC, owns, Is, mem, uint-vals, uint-tells, uint-makes, uint-lawful, u8, u64, RefT, MutRef, ptr-vals, mut-tells, plain, owned, nothing, Triple, onEntry, cited, says, Stays, stay-none, walkOf, goes-none, ends-at, yes, exported}
 use Rattle.lent.proofs.Lent.{R}
 use Rattle.lent.proofs.Freed.{freed}
-use Rattle.lending.proofs.Settled.{val}
+use Rattle.lending.proofs.Deciding.{val}
 use Rattle.soundness.proofs.Seeing.{unless}
 use Rattle.lending.proofs.Deciding.{Carries, carrying}
 use Rattle.keeper.proofs.exports.moved.Symbol as moved-def

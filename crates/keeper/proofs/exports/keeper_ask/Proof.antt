@@ -8,6 +8,7 @@ use Rattle.meaning.specs.Ask.{askOf}
 use Rattle.meaning.specs.Codes.{askNumber}
 use Rattle.meaning.proofs.Asked as Asked′
 use Rattle.meaning.proofs.Asked.Laws as asked-laws
+use Rattle.step.specs.Decided.{agentAt}
 use Rattle.step.proofs.Decision as Decision′
 use Rattle.step.proofs.Decision.Laws as decision-laws
 use Rattle.asking.specs.Asked.{askedOf}
@@ -61,7 +62,7 @@ module _ {M : Type 1} (𝓤 : URA M) (H : Heap 𝓤) (A : Atoms 𝓤) (W : Given
         over-lent ! fm Decides known-decided (pair 𝓤 H A W m n m-fits n-fits) h b o
         (λ κs y. and-then ! (load ! (from ! (stop !)) (look ! 11 refl)) (and-then ! (load ! (from ! (stop !)) (look ! 9 refl)) (and-then ! (load ! (from ! (stop !)) (look ! 7 refl)) (no-more !)))) (λ v d κs e is.
         land ! (from ! (stop !)) (init ! 5 refl (LL.lawful Decision′.the-type decision-laws.the-laws 𝓤 H A W .typed d _ is .0)) $
-        over-lent ! fm Tells known-told (one 𝓤 H A W d v is) h b o (λ κs y. and-then ! (load ! (from ! (stop !)) (look ! 11 refl)) (and-then ! (load ! (from ! (stop !)) (look ! 5 refl)) (no-more !))) (λ u a κs e′ is′.
+        over-lent ! fm Tells known-told (one 𝓤 H A W m m-fits d v is) h b o (λ κs y. and-then ! (load ! (from ! (stop !)) (look ! 11 refl)) (and-then ! (load ! (from ! (stop !)) (look ! 9 refl)) (and-then ! (load ! (from ! (stop !)) (look ! 5 refl)) (no-more !)))) (λ u a κs e′ is′.
         land ! (from ! (stop !)) (init ! 3 refl (EL.lawful Asked′.the-type asked-laws.the-laws 𝓤 H A W tt .typed a _ is′ .0)) $
         owned ! Asked′.the-row (Is Asked′.the-row) (EL.makes Asked′.the-type asked-laws.the-plain 𝓤 H A) a _ is′ $
         applied ! fm Asked′.the-row u64 askNumber known-number a u (and-then ! (load ! (from ! (stop !)) (look ! 4 refl)) (no-more !)) (λ v′ y e″ is″.
@@ -69,7 +70,7 @@ module _ {M : Type 1} (𝓤 : URA M) (H : Heap 𝓤) (A : Atoms 𝓤) (W : Given
         land ! (from ! (stop !)) (init ! 14 refl (uint-lawful 𝓤 H A W w64 .typed y _ is″ .0)) $
         returns ! (look ! 14 refl) $ forget ! 4 refl $ forget ! 6 refl $ forget ! 8 refl $ forget ! 10 refl $ forget ! 12 refl $ forget ! 14 refl $
         move ! (14 ∷ 15 ∷ 12 ∷ 13 ∷ 10 ∷ 11 ∷ 8 ∷ 9 ∷ 6 ∷ 7 ∷ 4 ∷ 5 ∷ []) $ freed ! $ move ! (1 ∷ 2 ∷ 3 ∷ 0 ∷ []) $
-        by ! (exits y v′ (e″ ∙ ap askNumber (e′ ∙ ap (askedOf h) e ∙ decided-ask h (sized h was) m n)))))))))))))
+        by ! (exits y v′ (e″ ∙ ap askNumber (e′ ∙ ap (askedOf h (agentAt h m)) e ∙ decided-ask h (sized h was) m n)))))))))))))
 
 pub keeper-ask-spec : {M : Type 1} → statement M
 unfolding code.routine

@@ -1,31 +1,28 @@
--- `keeper_list` meets its contract: the reference is passed on to `see_lent`, the borrow of the cell is looked into, the cell is loaded whole, the borrow is shut, `list_known` is called with what was seen, the cell and the slice, which is given up for good, and the answer is passed on.
+-- `keeper_list` meets its contract: the reference is passed on to `sound_lent`, the borrow of the cell is looked into, the cell is loaded whole, the borrow is shut, `list_known` is called with what it answers, the cell and the slice, which is given up for good, and the answer is passed on.
 -- Assumes nothing.
 use mathlib.Core.Bool.{Bool}
-use lib.Dec.{lit<}
 use lib.ListN.{length}
 use mir.Val.{vbool}
+use mir.Syntax.{tyBool}
 use types.Kit.{use2}
 use denote.Builtin.{bool}
-use denote.Plain.{bool-makes}
-use denote.Struct.Laws as LL
+use denote.Plain.{bool-makes, bool-lawful}
 use Rattle.table.specs.declared.Cell.{Cell}
 use Rattle.table.specs.Cell.{cellOf}
-use Rattle.soundness.specs.declared.sound.Seen.{Seen}
-use Rattle.soundness.proofs.sound.Seen as Seen′
-use Rattle.soundness.proofs.sound.Seen.Laws as seen-laws
 use Rattle.meaning.specs.Listing.{listAnswer, listBuffer}
 use Rattle.meaning.specs.Codes.{listNumber}
 use Rattle.listing.specs.Known.{knownAnswer, knownBuffer}
 use Rattle.listing.specs.CallLaws.{list-told}
-use Rattle.lent.proofs.Walk.{_≡_, refl, ap, _∙_, ℕ, List, [], _∷_, URA, fullShare, named, w64, Val, vptr, SProp, ent, id⊢, GName, Lft, Share, Fml, ftrue, fat, flft, fres, fshr-bor, Memory, Routine, Heap, Calls, Loops, WpFn, Atoms, Fun, AllOutlive, givenOf, tables, Given, ‵, raw, _⊛_, ⋆, _$_, _∵_, !, qed, by, move, keep, drop, split, join, rewrite, fsplit, fsplit3, fjoin, fjoin3, feqI, feqL, suffices, frame, done, look, look-raw, init, forget, stop, hop, fld, from, load, lit, addr, of-opd, and-then, no-more, assigns, land, returns, enter, alloc1, alloc0, params1, pass1, pass0, agg, whole, sub, look-in, FmC, owns, Is, partAt, uint-lawful, u8, u64, RefT, ShrRef, ptr-vals, shr-tells, MutSlice, Room, finally, slice-vals, mut-slice-tells, plain, only, owned, nothing, Contract, Triple, onEntry, tripleOf, cited, says, Stays, stay-none-ref, gave-slice, walkOf, goes-none-ref, goes-gave-slice, ends-at, yes, exported}
+use Rattle.lent.proofs.Walk.{_≡_, refl, ap, _∙_, ℕ, List, [], _∷_, URA, fullShare, named, w64, Val, vptr, SProp, ent, id⊢, GName, Lft, Share, Fml, ftrue, fat, flft, fres, fshr-bor, Memory, Routine, Heap, Calls, Loops, WpFn, Atoms, Fun, AllOutlive, givenOf, tables, Given, ‵, raw, _⊛_, ⋆, _$_, _∵_, !, qed, by, move, keep, drop, split, join, rewrite, fsplit, fsplit3, fjoin, fjoin3, feqI, feqL, suffices, frame, done, look, look-raw, init, forget, stop, hop, fld, from, load, addr, of-opd, and-then, no-more, assigns, land, returns, enter, alloc1, alloc0, params1, pass1, pass0, agg, whole, sub, look-in, FmC, owns, Is, partAt, uint-lawful, u8, u64, RefT, ShrRef, ptr-vals, shr-tells, MutSlice, Room, finally, slice-vals, mut-slice-tells, plain, only, owned, nothing, Contract, Triple, onEntry, tripleOf, cited, says, Stays, stay-none-ref, gave-slice, walkOf, goes-none-ref, goes-gave-slice, ends-at, yes, exported}
 use Rattle.lent.proofs.Lent.{R, mach, is-typed, had, looked, shut, called}
 use Rattle.lent.proofs.Freed.{freed}
-use Rattle.soundness.proofs.Seeing.{Sees, seeing-lent}
+use Rattle.lending.proofs.Passing.{Over, over-lent}
+use Rattle.lending.proofs.Sounding.{Sounds, alone}
 use Rattle.keeper.proofs.numbered_list as lists
 use Rattle.keeper.proofs.numbered_list.Symbol as list-def
 use Rattle.keeper.proofs.numbered_list.Met as list-thm
-use Rattle.soundness.proofs.see_lent.Symbol as seen-def
-use Rattle.soundness.proofs.see_lent.Met as seen-thm
+use Rattle.soundness.proofs.sound_lent.Symbol as sound-def
+use Rattle.soundness.proofs.sound_lent.Met as sound-thm
 use Rattle.keeper.proofs.exports.keeper_list.Key.{name}
 use Rattle.keeper.proofs.exports.keeper_list as f
 use Rattle.keeper.proofs.exports.keeper_list.Statement.{statement}
@@ -69,15 +66,15 @@ module _ {M : Type 1} (𝓤 : URA M) (H : Heap 𝓤) (A : Atoms 𝓤) (W : Given
     abbrev Says : Bool → ℕ → List ℕ → Type 0
     Says z y zs = (zs ≡ knownBuffer z (cellOf h) (s .now)) × (y ≡ listNumber (knownAnswer z (cellOf h) (s .now)))
 
-    module _ (C : Calls 𝓤 H) (Λ : Loops 𝓤 H) (fm : FmC 𝓤 H (W .laws) C) (known-seen : Triple 𝓤 (C seen-def.name) (Sees 𝓤 H A)) (known : Triple 𝓤 (C list-def.name) Lists) where
+    module _ (C : Calls 𝓤 H) (Λ : Loops 𝓤 H) (fm : FmC 𝓤 H (W .laws) C) (known-sound : Triple 𝓤 (C sound-def.name) (Over 𝓤 H A Sounds)) (known : Triple 𝓤 (C list-def.name) Lists) where
       walk : ent 𝓤 (onEntry 𝓤 H A f.signature (κ, (κ′, tt)) (q, (q′, tt)) x at) (WpFn 𝓤 H C Λ code.function (vptr b o ∷ only (slice-vals s) ∷ []) Post)
       walk =
           qed W ((‵ (flft κ q) ⊛ (‵ (flft κ′ q′) ⊛ ‵ ftrue)) ∷ ‵ (owns (ShrRef (named 0) κ R ∷ MutSlice (named 1) κ′ u8 ∷ []) x at) ∷ []) ∵ enter ! C Λ code.function (vptr b o ∷ only (slice-vals s) ∷ []) _ $
           alloc1 ! (λ l₀. alloc1 ! (λ l₁. alloc1 ! (λ l₂. alloc1 ! (λ l₃. alloc1 ! (λ l₄. alloc1 ! (λ l₅. alloc1 ! (λ l₆. alloc0 ! $ params1 ! $ pass1 ! (init ! 10 refl (tt, tt)) $ pass1 ! (init ! 8 refl (tt, (tt, (record { fits = room .0 }, tt)))) $ pass0 ! $
           move ! (15 ∷ []) $ fsplit ! $ fsplit3 ! $ drop ! $ move ! (2 ∷ []) $ fsplit ! $ move ! (18 ∷ []) $ split ! $ move ! (3 ∷ []) $ drop ! $ move ! (0 ∷ 3 ∷ 4 ∷ []) $
           -- [the token; res; the fractured borrow; the slice's token; the slice; _6 at 5; _5; _4; _3; _2; _1; _0 at 17]
-          seeing-lent ! fm known-seen h b o 0 (lit< tt) (λ y. and-then ! (load ! (from ! (stop !)) (look ! 15 refl)) (and-then ! (lit ! tt) (no-more !))) (λ w p e is.
-          land ! (from ! (stop !)) (init ! 11 refl (LL.lawful Seen′.the-type seen-laws.the-laws 𝓤 H A W .typed p _ is .0)) $ rewrite ! 11 (λ (z : Val). ‵ (fat fullShare seen-laws.mir l₃ 0 z)) (ap only (LL.tells Seen′.the-type seen-laws.the-laws p _ is)) refl $
+          over-lent ! fm Sounds known-sound (alone 𝓤 H A W) h b o (λ κs y. and-then ! (load ! (from ! (stop !)) (look ! 15 refl)) (no-more !)) (λ w p κs e is.
+          land ! (from ! (stop !)) (init ! 11 refl (bool-lawful 𝓤 H A W .typed p _ is .0)) $ rewrite ! 11 (λ (z : Val). ‵ (fat fullShare tyBool l₃ 0 z)) (ap only is) refl $
           move ! (2 ∷ 0 ∷ []) $ looked ! tt h b o (λ t was.
           -- [a share of the cell; the open borrow; the fractured borrow; res; the slice's token; the slice; _6 at 6; _5; _4; _3; _2; _1; _0 at 18]
           assigns ! (of-opd ! (load ! (from ! (hop ! (look ! 16 refl) (stop !))) (look-raw ! 0 refl))) (from ! (stop !)) (init ! 10 refl (is-typed 𝓤 H A W h was .0)) $
@@ -85,15 +82,15 @@ module _ {M : Type 1} (𝓤 : URA M) (H : Heap 𝓤) (A : Atoms 𝓤) (W : Given
           -- [the token; the fractured borrow; res; the slice's token; the slice; _6 at 5; _5; _4; _3; _2; _1; _0 at 17]
           assigns ! (addr ! (from ! (fld ! refl (hop ! (look-in ! 13 (sub ! 0 refl (whole !))) (stop !))))) (from ! (stop !)) (init ! 7 refl (tt, tt)) $
           assigns ! (agg ! (and-then ! (load ! (from ! (stop !)) (look ! 7 refl)) (and-then ! (load ! (from ! (fld ! refl (stop !))) (look-in ! 13 (sub ! 1 refl (whole !)))) (no-more !)))) (from ! (stop !)) (init ! 5 refl (tt, (tt, (record { fits = room .0 }, tt)))) $
-          move ! (3 ∷ 4 ∷ []) $ use2 W (raw (Lists .pre (to-list (p .sound)))) (goes-list (p .sound) was) $
-          called ! fm lists.ended (lists.clauses 𝓤 H A at-mem run) known (to-list (p .sound)) (λ y ws. Says (p .sound) y (ws .1 .1 .0)) (λ y ws. id⊢ 𝓤 _)
-          (and-then ! (load ! (from ! (fld ! refl (stop !))) (look-in ! 10 (sub ! 0 refl (whole !)))) (and-then ! (load ! (from ! (stop !)) (look ! 8 refl)) (and-then ! (load ! (from ! (stop !)) (look ! 4 refl)) (no-more !)))) (λ v y ws e′ is′.
+          move ! (3 ∷ 4 ∷ []) $ use2 W (raw (Lists .pre (to-list p))) (goes-list p was) $
+          called ! fm lists.ended (lists.clauses 𝓤 H A at-mem run) known (to-list p) (λ y ws. Says p y (ws .1 .1 .0)) (λ y ws. id⊢ 𝓤 _)
+          (and-then ! (load ! (from ! (stop !)) (look ! 10 refl)) (and-then ! (load ! (from ! (stop !)) (look ! 8 refl)) (and-then ! (load ! (from ! (stop !)) (look ! 4 refl)) (no-more !)))) (λ v y ws e′ is′.
           -- [what y owns; the slice's token; the last list; the token; the fractured borrow; res; _6 at 6; _5; _4; _3; _2; _1; _0 at 18]
           land ! (from ! (stop !)) (init ! 18 refl (uint-lawful 𝓤 H A W w64 .typed y _ is′ .0)) $ move ! (2 ∷ []) $ fsplit ! $ move ! (1 ∷ []) $ fsplit ! $ move ! (1 ∷ []) $ fsplit ! $ fsplit ! $ move ! (1 ∷ []) $ feqL ! (λ l.
           -- [the last list; …; …; …; what y owns; the slice's token; the token; the fractured borrow; res; _6 at 9; _5; _4; _3; _2; _1; _0 at 21]
           returns ! (look ! 21 refl) $ forget ! 9 refl $ forget ! 11 refl $ forget ! 13 refl $ forget ! 15 refl $ forget ! 17 refl $ forget ! 19 refl $ forget ! 21 refl $
           move ! (21 ∷ 22 ∷ 19 ∷ 20 ∷ 17 ∷ 18 ∷ 15 ∷ 16 ∷ 13 ∷ 14 ∷ 11 ∷ 12 ∷ 9 ∷ 10 ∷ []) $ freed ! $ keep ! (6 ∷ 5 ∷ 8 ∷ 7 ∷ 0 ∷ 4 ∷ []) $
-          by ! (let told = list-told (cellOf h) (s .now) (ws .1 .1 .0) _ (p .sound) (ap (λ (z : Seen). z .sound) e) (refl, e′ .0) in exits y v (ws .1 .1 .0) (told .1) (e′ .1 ∙ ap listNumber (told .0)) l))))))))))))
+          by ! (let told = list-told (cellOf h) (s .now) (ws .1 .1 .0) _ p e (refl, e′ .0) in exits y v (ws .1 .1 .0) (told .1) (e′ .1 ∙ ap listNumber (told .0)) l))))))))))))
 
 pub keeper-list-spec : {M : Type 1} → statement M
 unfolding code.routine
@@ -102,5 +99,5 @@ keeper-list-spec 𝓤 H 𝓜 𝓖 𝓡 =
     (goes-none-ref 𝓤 H (𝓖 .A) (givenOf 𝓤 H 𝓜 𝓖) 2 (0 ∷ []) tt (plain (λ _. R)) yes, (goes-gave-slice 𝓤 H (𝓖 .A) (givenOf 𝓤 H 𝓜 𝓖) 2 1 tt (plain (λ _. u8)), tt))
     (λ κs. (ptr-vals, (slice-vals, tt))) (λ κs. (shr-tells (named 0) (κs .0) R, (mut-slice-tells (named 1) (κs .1 .0) u8, tt)))
     (λ fm κs qs bounds a _ are. walk 𝓤 H (𝓖 .A) (givenOf 𝓤 H 𝓜 𝓖) (𝓜 .mem) (𝓡 .run) (κs .0) (κs .1 .0) bounds (qs .0) (qs .1 .0) (a .0 .ptr .0) (a .0 .ptr .1) (a .0 .name) (a .0 .now) (a .1 .0) (are .1 .0 .0 .1) (tables 𝓤 H 𝓜 𝓡 code.env .C) (tables 𝓤 H 𝓜 𝓡 code.env .Λ) fm
-    (cited 𝓤 H (Sees 𝓤 H (𝓖 .A)) 𝓜 𝓡 code.env seen-def.name seen-def.routine code.calls-soundness·see-lent (seen-thm.met 𝓤 H 𝓜 𝓖 𝓡))
+    (cited 𝓤 H (Over 𝓤 H (𝓖 .A) Sounds) 𝓜 𝓡 code.env sound-def.name sound-def.routine code.calls-soundness·sound-lent (sound-thm.met 𝓤 H 𝓜 𝓖 𝓡))
     (cited 𝓤 H (Lists 𝓤 H (𝓖 .A) (givenOf 𝓤 H 𝓜 𝓖) (𝓜 .mem) (𝓡 .run)) 𝓜 𝓡 code.env list-def.name list-def.routine code.calls-keeper·numbered-list (list-thm.met 𝓤 H 𝓜 𝓖 𝓡)))

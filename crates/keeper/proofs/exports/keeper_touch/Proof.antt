@@ -1,29 +1,26 @@
--- `keeper_touch` meets its contract: the borrow of the cell is opened, the cell is lent on to `see_lent`, `decided_touch` is called with what was seen and the cell, and the touches that it decided are stored in place.
+-- `keeper_touch` meets its contract: the borrow of the cell is opened, the cell is lent on to `sound_lent`, `decided_touch` is called with what it answers and the cell, and the touches that it decided are stored in place.
 -- Assumes nothing.
 use mathlib.Core.Bool.{Bool}
-use lib.Dec.{lit<}
 use denote.Struct.Laws as LL
 use Prim.Native.Nat.{_%_, _*_}
 use native.Mathlib.Omega.{arith}
-use mir.Syntax.{tyInt, w32}
+use mir.Syntax.{tyInt, w32, tyBool}
 use mir.Val.{vbool}
 use types.Kit.{use0}
-use denote.Plain.{bool-makes}
+use denote.Plain.{bool-makes, bool-lawful}
 use denote.Builtin.{bool, u32, usize}
 use types.Run.{bin}
+use Rattle.table.specs.Cell.{cellOf}
+use Rattle.table.specs.Sound.{sound}
 use Rattle.table.specs.declared.Cell.{Cell}
 use Rattle.meaning.specs.declared.Touched.{Touched}
 use Rattle.meaning.specs.Touch.{touchOf}
 use Rattle.meaning.specs.Codes.{touchNumber}
 use Rattle.meaning.proofs.Touching as Touching
-use Rattle.soundness.specs.declared.sound.Seen.{Seen}
-use Rattle.soundness.specs.Seen.{seenOf}
 use Rattle.touch.specs.declared.TouchDecision.{TouchDecision}
 use Rattle.touch.specs.Known.{knownTouch, tallied}
 use Rattle.touch.specs.KnownLaws.{touch-told}
 use Rattle.table.proofs.Facts.{sized}
-use Rattle.soundness.proofs.sound.Seen as Seen′
-use Rattle.soundness.proofs.sound.Seen.Laws as seen-laws
 use Rattle.touch.proofs.TouchDecision as Decision′
 use Rattle.touch.proofs.TouchDecision.Laws as decision-laws
 use Rattle.table.proofs.at.Symbol as at-def
@@ -31,17 +28,18 @@ use Rattle.table.proofs.at.Met as at-thm
 use Rattle.numbers.proofs.touch_number.Symbol as number
 use Rattle.numbers.proofs.touch_number.Met as number-thm
 use Rattle.lent.proofs.Offsets.{countSize}
-use Rattle.lent.proofs.Walk.{_≡_, refl, ap, _∙_, ℕ, _<_, _^_, List, [], _∷_, URA, fullShare, named, w8, w64, Val, vint, vptr, SProp, ent, emp, id⊢, GName, Lft, Share, ftrue, fat, flft, fobs, fbor, Memory, Routine, Heap, Calls, Loops, WpFn, Atoms, Fun, givenOf, tables, Given, ‵, raw, _⊛_, ⋆, _$_, _∵_, !, qed, by, move, drop, split, join, rewrite, fsplit, fsplit3, fjoin, fjoin3, feqI, suffices, frame, done, look, look-raw, init, forget, stop, hop, fld, from, load, lit, addr, of-opd, and-then, no-more, assigns, land, returns, enter, alloc1, alloc0, params1, pass1, pass0, whole, sub, look-in, Body, FmC, owns, Is, mem, uint-vals, uint-tells, uint-makes, uint-lawful, u8, u64, RefT, MutRef, ptr-vals, mut-tells, plain, only, owned, nothing, Contract, Triple, onEntry, tripleOf, cited, says, Stays, stay-ref, stay-none, walkOf, goes-ref, goes-none, ends-at, yes, exported}
+use Rattle.lent.proofs.Walk.{_≡_, refl, ap, _∙_, ℕ, _<_, _^_, List, [], _∷_, URA, fullShare, named, w8, w64, Val, vint, vptr, SProp, ent, emp, id⊢, GName, Lft, Share, ftrue, fat, flft, fobs, fbor, Memory, Routine, Heap, Calls, Loops, WpFn, Atoms, Fun, givenOf, tables, Given, ‵, raw, _⊛_, ⋆, _$_, _∵_, !, qed, by, move, drop, split, join, rewrite, fsplit, fsplit3, fjoin, fjoin3, feqI, suffices, frame, done, look, look-raw, init, forget, stop, hop, fld, from, load, lit, addr, of-opd, and-then, no-more, assigns, land, returns, enter, alloc1, alloc0, params1, pass1, pass0, Body, FmC, owns, Is, mem, uint-vals, uint-tells, uint-makes, uint-lawful, u8, u64, RefT, MutRef, ptr-vals, mut-tells, plain, only, owned, nothing, Contract, Triple, onEntry, tripleOf, cited, says, Stays, stay-ref, stay-none, walkOf, goes-ref, goes-none, ends-at, yes, exported}
 use Rattle.lending.proofs.Placed.{touched}
 use Rattle.lent.proofs.Lent.{R, mach, is-typed, had, opened, called, Equates, applied}
 use Rattle.lent.proofs.Freed.{freed}
 use Rattle.lending.proofs.Tallied as tally
-use Rattle.soundness.proofs.Seeing.{Sees, seeing}
+use Rattle.lending.proofs.Passing.{Over, over-open}
+use Rattle.lending.proofs.Sounding.{Sounds, alone}
 use Rattle.keeper.proofs.decided_touch as deciding
 use Rattle.keeper.proofs.decided_touch.Symbol as decide-def
 use Rattle.keeper.proofs.decided_touch.Met as decide-thm
-use Rattle.soundness.proofs.see_lent.Symbol as seen-def
-use Rattle.soundness.proofs.see_lent.Met as seen-thm
+use Rattle.soundness.proofs.sound_lent.Symbol as sound-def
+use Rattle.soundness.proofs.sound_lent.Met as sound-thm
 use Rattle.keeper.proofs.exports.keeper_touch.Key.{name}
 use Rattle.keeper.proofs.exports.keeper_touch as f
 use Rattle.keeper.proofs.exports.keeper_touch.Statement.{statement}
@@ -92,11 +90,11 @@ module _ {M : Type 1} (𝓤 : URA M) (H : Heap 𝓤) (A : Atoms 𝓤) (W : Given
     abbrev tallies : TouchDecision → ℕ → Touched
     tallies d k = record { cell = touched h k (d .count); answer = d .answer }
 
-    -- what was decided of what was seen is the touch call
-    tallies-is : (s : Seen) (d : TouchDecision) (k : ℕ) → Is R h (mach h) → s ≡ seenOf h 0 → d ≡ knownTouch (s .sound) h m n → k ≡ m % 64 → tallies d k ≡ touchOf h m n
-    tallies-is s d k was e e′ e″ = ap (tallies d) e″ ∙ ap (tallied h m) e′ ∙ touch-told h (sized h was) m n (s .sound) (ap (λ (z : Seen). z .sound) e)
+    -- what was decided is the touch call
+    tallies-is : (s : Bool) (d : TouchDecision) (k : ℕ) → Is R h (mach h) → s ≡ sound (cellOf h) → d ≡ knownTouch s h m n → k ≡ m % 64 → tallies d k ≡ touchOf h m n
+    tallies-is s d k was e e′ e″ = ap (tallies d) e″ ∙ ap (tallied h m) e′ ∙ touch-told h (sized h was) m n s e
 
-    module _ (C : Calls 𝓤 H) (Λ : Loops 𝓤 H) (fm : FmC 𝓤 H (W .laws) C) (known-seen : Triple 𝓤 (C seen-def.name) (Sees 𝓤 H A)) (known-decide : Triple 𝓤 (C decide-def.name) Decide) (known-at : Triple 𝓤 (C at-def.name) (Equates 𝓤 H A u8 usize (λ z. z % 64))) (known-number : Triple 𝓤 (C number.name) (Equates 𝓤 H A Touching.the-row u64 touchNumber)) where
+    module _ (C : Calls 𝓤 H) (Λ : Loops 𝓤 H) (fm : FmC 𝓤 H (W .laws) C) (known-sound : Triple 𝓤 (C sound-def.name) (Over 𝓤 H A Sounds)) (known-decide : Triple 𝓤 (C decide-def.name) Decide) (known-at : Triple 𝓤 (C at-def.name) (Equates 𝓤 H A u8 usize (λ z. z % 64))) (known-number : Triple 𝓤 (C number.name) (Equates 𝓤 H A Touching.the-row u64 touchNumber)) where
       walk : ent 𝓤 (onEntry 𝓤 H A f.signature (κ, tt) (q, tt) x at) (WpFn 𝓤 H C Λ code.function (vptr b o ∷ vint w8 m ∷ vint w32 n ∷ []) Post)
       walk =
           qed W ((‵ (flft κ q) ⊛ ‵ ftrue) ∷ ‵ (owns (MutRef (named 0) κ R ∷ u8 ∷ u32 ∷ []) x at) ∷ []) ∵ enter ! C Λ code.function (vptr b o ∷ vint w8 m ∷ vint w32 n ∷ []) _ $
@@ -105,13 +103,13 @@ module _ {M : Type 1} (𝓤 : URA M) (H : Heap 𝓤) (A : Atoms 𝓤) (W : Given
           move ! (25 ∷ []) $ fsplit ! $ fsplit3 ! $ drop ! $ move ! (27 ∷ []) $ split ! $ move ! (2 ∷ 3 ∷ 0 ∷ []) $ opened ! tt h b o (λ was. move ! (4 ∷ 5 ∷ []) $ drop ! $ drop ! $
           -- [the cell; the open borrow; obs; auth; _11 at 4; _10; …; _0 at 26]
           assigns ! (addr ! (from ! (hop ! (look ! 24 refl) (stop !)))) (from ! (stop !)) (init ! 12 refl (tt, tt)) $
-          seeing ! fm known-seen h was b o 0 (lit< tt) (λ y i. and-then ! (load ! (from ! (stop !)) (look ! 13 refl)) (and-then ! (lit ! tt) (no-more !))) (λ u s e is. drop ! $
-          land ! (from ! (stop !)) (init ! 18 refl (LL.lawful Seen′.the-type seen-laws.the-laws 𝓤 H A W .typed s _ is .0)) $
-          rewrite ! 18 (λ (z : Val). ‵ (fat fullShare seen-laws.mir l₄ 0 z)) (ap only (LL.tells Seen′.the-type seen-laws.the-laws s _ is)) refl $
+          over-open ! fm Sounds known-sound (alone 𝓤 H A W) h was b o (λ κs y i. and-then ! (load ! (from ! (stop !)) (look ! 13 refl)) (no-more !)) (λ u s κs e is.
+          land ! (from ! (stop !)) (init ! 18 refl (bool-lawful 𝓤 H A W .typed s _ is .0)) $
+          rewrite ! 18 (λ (z : Val). ‵ (fat fullShare tyBool l₄ 0 z)) (ap only is) refl $
           assigns ! (of-opd ! (load ! (from ! (hop ! (look ! 24 refl) (stop !))) (look-raw ! 0 refl))) (from ! (stop !)) (init ! 10 refl (is-typed 𝓤 H A W h was .0)) $
-          use0 W (raw (Decide .pre (to-decide (s .sound)))) (goes-decide (s .sound) was) $
-          called ! fm deciding.ended (deciding.clauses 𝓤 H A at-mem run) known-decide (to-decide (s .sound)) (λ d ws. d ≡ knownTouch (s .sound) h m n) (λ d ws. id⊢ 𝓤 _)
-          (and-then ! (load ! (from ! (fld ! refl (stop !))) (look-in ! 19 (sub ! 0 refl (whole !)))) (and-then ! (load ! (from ! (stop !)) (look ! 11 refl)) (and-then ! (load ! (from ! (stop !)) (look ! 23 refl)) (and-then ! (load ! (from ! (stop !)) (look ! 21 refl)) (no-more !))))) (λ w d ws e′ is′. drop ! $ drop ! $ drop ! $
+          use0 W (raw (Decide .pre (to-decide s))) (goes-decide s was) $
+          called ! fm deciding.ended (deciding.clauses 𝓤 H A at-mem run) known-decide (to-decide s) (λ d ws. d ≡ knownTouch s h m n) (λ d ws. id⊢ 𝓤 _)
+          (and-then ! (load ! (from ! (stop !)) (look ! 19 refl)) (and-then ! (load ! (from ! (stop !)) (look ! 11 refl)) (and-then ! (load ! (from ! (stop !)) (look ! 23 refl)) (and-then ! (load ! (from ! (stop !)) (look ! 21 refl)) (no-more !))))) (λ w d ws e′ is′. drop ! $ drop ! $ drop ! $
           land ! (from ! (stop !)) (init ! 16 refl (LL.lawful Decision′.the-type decision-laws.the-laws 𝓤 H A W .typed d _ is′ .0)) $
           rewrite ! 16 (λ (z : Val). ‵ (fat fullShare decision-laws.mir l₅ 0 z)) (ap only (LL.tells Decision′.the-type decision-laws.the-laws d _ is′)) refl $
           owned ! u8 (Is u8) (uint-makes 𝓤 H A W w8) m _ (refl, m-fits) $ applied ! fm u8 usize (λ z. z % 64) known-at m (vint w8 m) (and-then ! (load ! (from ! (stop !)) (look ! 23 refl)) (no-more !)) (λ v k e″ is″. drop ! $
@@ -132,7 +130,7 @@ keeper-touch-spec 𝓤 H 𝓜 𝓖 𝓡 =
     (goes-ref 𝓤 H (𝓖 .A) (givenOf 𝓤 H 𝓜 𝓖) 1 0 tt (plain (λ _. R)), (goes-none 𝓤 H (𝓖 .A) (givenOf 𝓤 H 𝓜 𝓖) 1 (λ _. u8) yes (λ κs x f. refl), (goes-none 𝓤 H (𝓖 .A) (givenOf 𝓤 H 𝓜 𝓖) 1 (λ _. u32) yes (λ κs x f. refl), tt)))
     (λ κs. (ptr-vals, (uint-vals w8, (uint-vals w32, tt)))) (λ κs. (mut-tells (named 0) (κs .0) R, (uint-tells w8, (uint-tells w32, tt))))
     (λ fm κs qs bounds a _ are. walk 𝓤 H (𝓖 .A) (givenOf 𝓤 H 𝓜 𝓖) (𝓜 .mem) (𝓡 .run) (κs .0) (qs .0) (a .0 .ptr .0) (a .0 .ptr .1) (a .0 .name) (a .0 .now) (a .1 .0) (a .1 .1 .0) (are .1 .0 .1) (are .1 .1 .0 .1) (tables 𝓤 H 𝓜 𝓡 code.env .C) (tables 𝓤 H 𝓜 𝓡 code.env .Λ) fm
-    (cited 𝓤 H (Sees 𝓤 H (𝓖 .A)) 𝓜 𝓡 code.env seen-def.name seen-def.routine code.calls-soundness·see-lent (seen-thm.met 𝓤 H 𝓜 𝓖 𝓡))
+    (cited 𝓤 H (Over 𝓤 H (𝓖 .A) Sounds) 𝓜 𝓡 code.env sound-def.name sound-def.routine code.calls-soundness·sound-lent (sound-thm.met 𝓤 H 𝓜 𝓖 𝓡))
     (cited 𝓤 H (Decide 𝓤 H (𝓖 .A) (givenOf 𝓤 H 𝓜 𝓖) (𝓜 .mem) (𝓡 .run)) 𝓜 𝓡 code.env decide-def.name decide-def.routine code.calls-keeper·decided-touch (decide-thm.met 𝓤 H 𝓜 𝓖 𝓡))
     (cited 𝓤 H (Equates 𝓤 H (𝓖 .A) u8 usize (λ z. z % 64)) 𝓜 𝓡 code.env at-def.name at-def.routine code.calls-table·at (at-thm.met 𝓤 H 𝓜 𝓖 𝓡))
     (cited 𝓤 H (Equates 𝓤 H (𝓖 .A) Touching.the-row u64 touchNumber) 𝓜 𝓡 code.env number.name number.routine code.calls-numbers·touch-number (number-thm.met 𝓤 H 𝓜 𝓖 𝓡)))

@@ -1,29 +1,26 @@
--- `keeper_touches` meets its contract: the reference is passed on to `see_lent`, the borrow of the cell is looked into, the cell is loaded whole, the borrow is shut, and `numbered_touches` is called with what was seen and the cell.
+-- `keeper_touches` meets its contract: the reference is passed on to `sound_lent`, the borrow of the cell is looked into, the cell is loaded whole, the borrow is shut, and `numbered_touches` is called with what it answers and the cell.
 -- Assumes nothing.
-use lib.Dec.{lit<}
 use mathlib.Core.Bool.{Bool}
 use mir.Val.{vbool}
+use mir.Syntax.{tyBool}
 use types.Kit.{use0}
-use denote.Plain.{bool-makes}
+use denote.Plain.{bool-makes, bool-lawful}
 use denote.Builtin.{bool}
-use denote.Struct.Laws as LL
 use Rattle.table.specs.declared.Cell.{Cell}
-use Rattle.soundness.specs.declared.sound.Seen.{Seen}
-use Rattle.soundness.proofs.sound.Seen as Seen′
-use Rattle.soundness.proofs.sound.Seen.Laws as seen-laws
 use Rattle.meaning.specs.Touch.{touchesOf}
 use Rattle.meaning.specs.Codes.{touchNumber}
 use Rattle.touch.specs.Known.{knownTouches}
 use Rattle.touch.specs.KnownLaws.{touches-told}
-use Rattle.lent.proofs.Walk.{_≡_, refl, ap, _∙_, ℕ, _<_, _^_, List, [], _∷_, URA, fullShare, named, w8, w64, Val, vint, vptr, SProp, ent, emp, id⊢, GName, Lft, Share, ftrue, fat, flft, fres, fshr-bor, Memory, Routine, Heap, Calls, Loops, WpFn, Atoms, Fun, givenOf, tables, Given, ‵, raw, _⊛_, ⋆, _$_, _∵_, !, qed, by, move, keep, drop, split, join, rewrite, fsplit, fsplit3, fjoin, fjoin3, feqI, suffices, frame, done, look, look-raw, init, forget, stop, hop, fld, from, load, lit, of-opd, and-then, no-more, assigns, land, returns, enter, alloc1, alloc0, params1, pass1, pass0, whole, sub, look-in, FmC, owns, Is, partAt, uint-vals, uint-tells, uint-makes, uint-lawful, u8, u64, RefT, ShrRef, ptr-vals, shr-tells, plain, only, owned, nothing, Contract, Triple, onEntry, tripleOf, cited, says, Stays, stay-none, stay-none-ref, walkOf, goes-none, goes-none-ref, ends-at, yes, exported}
+use Rattle.lent.proofs.Walk.{_≡_, refl, ap, _∙_, ℕ, _<_, _^_, List, [], _∷_, URA, fullShare, named, w8, w64, Val, vint, vptr, SProp, ent, emp, id⊢, GName, Lft, Share, ftrue, fat, flft, fres, fshr-bor, Memory, Routine, Heap, Calls, Loops, WpFn, Atoms, Fun, givenOf, tables, Given, ‵, raw, _⊛_, ⋆, _$_, _∵_, !, qed, by, move, keep, drop, split, join, rewrite, fsplit, fsplit3, fjoin, fjoin3, feqI, suffices, frame, done, look, look-raw, init, forget, stop, hop, from, load, of-opd, and-then, no-more, assigns, land, returns, enter, alloc1, alloc0, params1, pass1, pass0, FmC, owns, Is, partAt, uint-vals, uint-tells, uint-makes, uint-lawful, u8, u64, RefT, ShrRef, ptr-vals, shr-tells, plain, only, owned, nothing, Contract, Triple, onEntry, tripleOf, cited, says, Stays, stay-none, stay-none-ref, walkOf, goes-none, goes-none-ref, ends-at, yes, exported}
 use Rattle.lent.proofs.Lent.{R, mach, is-typed, had, looked, shut, called}
 use Rattle.lent.proofs.Freed.{freed}
-use Rattle.soundness.proofs.Seeing.{Sees, seeing-lent}
+use Rattle.lending.proofs.Passing.{Over, over-lent}
+use Rattle.lending.proofs.Sounding.{Sounds, alone}
 use Rattle.keeper.proofs.numbered_touches as numbers
 use Rattle.keeper.proofs.numbered_touches.Symbol as numbers-def
 use Rattle.keeper.proofs.numbered_touches.Met as numbers-thm
-use Rattle.soundness.proofs.see_lent.Symbol as seen-def
-use Rattle.soundness.proofs.see_lent.Met as seen-thm
+use Rattle.soundness.proofs.sound_lent.Symbol as sound-def
+use Rattle.soundness.proofs.sound_lent.Met as sound-thm
 use Rattle.keeper.proofs.exports.keeper_touches.Key.{name}
 use Rattle.keeper.proofs.exports.keeper_touches as f
 use Rattle.keeper.proofs.exports.keeper_touches.Statement.{statement}
@@ -62,25 +59,25 @@ module _ {M : Type 1} (𝓤 : URA M) (H : Heap 𝓤) (A : Atoms 𝓤) (W : Given
         nothing ! $ owned ! u8 (Is u8) (uint-makes 𝓤 H A W w8) m _ (refl, m-fits) $ fjoin ! $ had ! h was $ fjoin ! $ owned ! bool (Is bool) (bool-makes 𝓤 H A W) y (vbool y ∷ []) refl $ fjoin ! $
         nothing ! $ join ! $ nothing ! $ move ! (1 ∷ 0 ∷ []) $ join ! $ done !
 
-    module _ (C : Calls 𝓤 H) (Λ : Loops 𝓤 H) (fm : FmC 𝓤 H (W .laws) C) (known-seen : Triple 𝓤 (C seen-def.name) (Sees 𝓤 H A)) (known-numbers : Triple 𝓤 (C numbers-def.name) Numbers) where
+    module _ (C : Calls 𝓤 H) (Λ : Loops 𝓤 H) (fm : FmC 𝓤 H (W .laws) C) (known-sound : Triple 𝓤 (C sound-def.name) (Over 𝓤 H A Sounds)) (known-numbers : Triple 𝓤 (C numbers-def.name) Numbers) where
       walk : ent 𝓤 (onEntry 𝓤 H A f.signature (κ, tt) (q, tt) x at) (WpFn 𝓤 H C Λ code.function (vptr b o ∷ vint w8 m ∷ []) Post)
       walk =
           qed W ((‵ (flft κ q) ⊛ ‵ ftrue) ∷ ‵ (owns (ShrRef (named 0) κ R ∷ u8 ∷ []) x at) ∷ []) ∵ enter ! C Λ code.function (vptr b o ∷ vint w8 m ∷ []) _ $
           alloc1 ! (λ l₀. alloc1 ! (λ l₁. alloc1 ! (λ l₂. alloc1 ! (λ l₃. alloc1 ! (λ l₄. alloc0 ! $ params1 ! $ pass1 ! (init ! 6 refl (tt, tt)) $ pass1 ! (init ! 4 refl (tt, record { fits = m-fits })) $ pass0 ! $
           move ! (11 ∷ []) $ fsplit ! $ fsplit3 ! $ drop ! $ move ! (13 ∷ []) $ split ! $ move ! (1 ∷ 4 ∷ []) $ drop ! $ drop ! $
           -- [the token; res; the fractured borrow; _4 at 3; _3; …; _0 at 11]
-          seeing-lent ! fm known-seen h b o 0 (lit< tt) (λ y. and-then ! (load ! (from ! (stop !)) (look ! 9 refl)) (and-then ! (lit ! tt) (no-more !))) (λ v s e is.
-          land ! (from ! (stop !)) (init ! 5 refl (LL.lawful Seen′.the-type seen-laws.the-laws 𝓤 H A W .typed s _ is .0)) $ rewrite ! 5 (λ (z : Val). ‵ (fat fullShare seen-laws.mir l₃ 0 z)) (ap only (LL.tells Seen′.the-type seen-laws.the-laws s _ is)) refl $
+          over-lent ! fm Sounds known-sound (alone 𝓤 H A W) h b o (λ κs y. and-then ! (load ! (from ! (stop !)) (look ! 9 refl)) (no-more !)) (λ v s κs e is.
+          land ! (from ! (stop !)) (init ! 5 refl (bool-lawful 𝓤 H A W .typed s _ is .0)) $ rewrite ! 5 (λ (z : Val). ‵ (fat fullShare tyBool l₃ 0 z)) (ap only is) refl $
           move ! (2 ∷ 0 ∷ []) $ looked ! tt h b o (λ q′ was.
           -- [a share of the cell; the open borrow; the fractured borrow; res; _4 at 4; _3; …; _0 at 12]
           assigns ! (of-opd ! (load ! (from ! (hop ! (look ! 10 refl) (stop !))) (look-raw ! 0 refl))) (from ! (stop !)) (init ! 4 refl (is-typed 𝓤 H A W h was .0)) $
-          shut ! tt q′ h was b o $ use0 W (raw (Numbers .pre (to-numbers (s .sound)))) (goes-numbers (s .sound) was) $
-          called ! fm numbers.ended (numbers.clauses 𝓤 H A at-mem run) known-numbers (to-numbers (s .sound)) (λ y ws. y ≡ touchNumber (knownTouches (s .sound) h m)) (λ y ws. id⊢ 𝓤 _)
-          (and-then ! (load ! (from ! (fld ! refl (stop !))) (look-in ! 6 (sub ! 0 refl (whole !)))) (and-then ! (load ! (from ! (stop !)) (look ! 4 refl)) (and-then ! (load ! (from ! (stop !)) (look ! 8 refl)) (no-more !)))) (λ u y ws e′ is′.
+          shut ! tt q′ h was b o $ use0 W (raw (Numbers .pre (to-numbers s))) (goes-numbers s was) $
+          called ! fm numbers.ended (numbers.clauses 𝓤 H A at-mem run) known-numbers (to-numbers s) (λ y ws. y ≡ touchNumber (knownTouches s h m)) (λ y ws. id⊢ 𝓤 _)
+          (and-then ! (load ! (from ! (stop !)) (look ! 6 refl)) (and-then ! (load ! (from ! (stop !)) (look ! 4 refl)) (and-then ! (load ! (from ! (stop !)) (look ! 8 refl)) (no-more !)))) (λ u y ws e′ is′.
           -- [what y owns; …; …; the token; the fractured borrow; res; _4 at 6; _3; …; _0 at 14]
           land ! (from ! (stop !)) (init ! 14 refl (uint-lawful 𝓤 H A W w64 .typed y _ is′ .0)) $ returns ! (look ! 14 refl) $ forget ! 6 refl $ forget ! 8 refl $ forget ! 10 refl $ forget ! 12 refl $ forget ! 14 refl $
           move ! (14 ∷ 15 ∷ 12 ∷ 13 ∷ 10 ∷ 11 ∷ 8 ∷ 9 ∷ 6 ∷ 7 ∷ []) $ freed ! $ keep ! (3 ∷ 5 ∷ 4 ∷ 0 ∷ []) $
-          by ! (exits y u (e′ ∙ ap touchNumber (touches-told h m (s .sound) (ap (λ (z : Seen). z .sound) e))))))))))))
+          by ! (exits y u (e′ ∙ ap touchNumber (touches-told h m s e)))))))))))
 
 pub keeper-touches-spec : {M : Type 1} → statement M
 unfolding code.routine
@@ -89,5 +86,5 @@ keeper-touches-spec 𝓤 H 𝓜 𝓖 𝓡 =
     (goes-none-ref 𝓤 H (𝓖 .A) (givenOf 𝓤 H 𝓜 𝓖) 1 (0 ∷ []) tt (plain (λ _. R)) yes, (goes-none 𝓤 H (𝓖 .A) (givenOf 𝓤 H 𝓜 𝓖) 1 (λ _. u8) yes (λ κs x f. refl), tt))
     (λ κs. (ptr-vals, (uint-vals w8, tt))) (λ κs. (shr-tells (named 0) (κs .0) R, (uint-tells w8, tt)))
     (λ fm κs qs bounds a _ are. walk 𝓤 H (𝓖 .A) (givenOf 𝓤 H 𝓜 𝓖) (𝓜 .mem) (𝓡 .run) (κs .0) (qs .0) (a .0 .ptr .0) (a .0 .ptr .1) (a .0 .name) (a .0 .now) (a .1 .0) (are .1 .0 .1) (tables 𝓤 H 𝓜 𝓡 code.env .C) (tables 𝓤 H 𝓜 𝓡 code.env .Λ) fm
-    (cited 𝓤 H (Sees 𝓤 H (𝓖 .A)) 𝓜 𝓡 code.env seen-def.name seen-def.routine code.calls-soundness·see-lent (seen-thm.met 𝓤 H 𝓜 𝓖 𝓡))
+    (cited 𝓤 H (Over 𝓤 H (𝓖 .A) Sounds) 𝓜 𝓡 code.env sound-def.name sound-def.routine code.calls-soundness·sound-lent (sound-thm.met 𝓤 H 𝓜 𝓖 𝓡))
     (cited 𝓤 H (Numbers 𝓤 H (𝓖 .A) (givenOf 𝓤 H 𝓜 𝓖) (𝓜 .mem) (𝓡 .run)) 𝓜 𝓡 code.env numbers-def.name numbers-def.routine code.calls-keeper·numbered-touches (numbers-thm.met 𝓤 H 𝓜 𝓖 𝓡)))

@@ -16,20 +16,18 @@ look-spec =
     (tie.spec
     (λ c κs. search needs)
     (λ c. rw (kind-tested looksHome _ _ true (c .before .before .next-action .ensures) (le-leb 3 _ (c .if1 .taken))))
-    (λ c κs. search needs) (λ c κs. search needs) (λ c κs. search needs)
+    (λ c κs. search needs) (λ c κs. search needs)
     (λ c.
-    let t = c .before .before .before .before in
+    let t = c .before .before .before in
     rw (
       kind-tested looksHome _ _ false (t .before .before .next-action .ensures) (lt-leb 3 _ (t .if1 .left)),
-      ← c .before .before .before .place-at .ensures,
       ← c .before .before .has .ensures,
       sym (c .before .linked .ensures) ∙ c .if2 .taken,
     ))
     (λ c.
-    let t = c .before .before .before .before in
+    let t = c .before .before .before in
     rw (
       kind-tested looksHome _ _ false (t .before .before .next-action .ensures) (lt-leb 3 _ (t .if1 .left)),
-      ← c .before .before .before .place-at .ensures,
       ← c .before .before .has .ensures,
       sym (c .before .linked .ensures) ∙ c .if2 .left,
     )))

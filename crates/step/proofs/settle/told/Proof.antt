@@ -3,8 +3,8 @@ use mathlib.Core.Bool.{true, false}
 use borrow.Author.Needs.{needs}
 use borrow.Author.Tests.{eq-eqb, ne-eqb}
 use Rattle.updates.specs.UpdateLaws.{kind-test}
-use Rattle.asking.proofs.told.Statement.{statement}
-use Rattle.asking.proofs.told.Tie as tie
+use Rattle.step.proofs.settle.told.Statement.{statement}
+use Rattle.step.proofs.settle.told.Tie as tie
 
 pub told-spec : {M : Type 1} → statement M
 told-spec =
