@@ -8,3 +8,5 @@ pub mod EventLaws
 pub mod ReadLaws
 pub mod Stretches
 pub mod StretchLaws
+pub mod Rows
+pub mod RowLaws

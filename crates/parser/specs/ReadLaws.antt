@@ -99,7 +99,7 @@ module _ (s : Text) (i : ℕ) (c : Control) (d : ℕ) (b : Cell) (x : Marks) (r 
     }
 
     -- a byte that adds something
-    rest-event : (v : Cell) (y : Marks) → v ≡ writtenIn b x e → y ≡ marksIn b x e → Rest s (i + 1) k n v y
+    pub rest-event : (v : Cell) (y : Marks) → v ≡ writtenIn b x e → y ≡ marksIn b x e → Rest s (i + 1) k n v y
     rest-event v y g h =
         let w = makes (r .plain) (r .small) e in
         record {

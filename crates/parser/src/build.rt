@@ -12,7 +12,7 @@ ghost use Prim.Native.Nat.{_-_};
 ghost use Rattle.parser.specs.Site.{agentWritten, agentAfter, placeAfter, marksAfter, givesAgent, givesPlace};
 
 // The number before n; 0 before 0.
-fn before(n: u8) -> u8
+pub(super) fn before(n: u8) -> u8
     ensures { λ r. ⌜ r ≡ n - 1 ⌝ }
 {
     if n == 0 { 0 } else { n - 1 }

@@ -2,11 +2,13 @@
 mod build;
 mod finish;
 mod machine;
+mod rows;
 mod stretch;
 mod words;
 
 use build::agent_after;
 use build::agent_written;
+use build::before;
 use build::gives_agent;
 use build::gives_place;
 use build::marks_after;
@@ -19,6 +21,7 @@ use language::Moved;
 use machine::next_by;
 use meaning::Loaded;
 use meaning::Verdict;
+use rows::with_row;
 use stretch::stretch;
 use table::Cell;
 ghost use mathlib.Core.Path.{_≡_};
@@ -48,7 +51,8 @@ fn moved(s: &[u8], i: usize, at: Control, d: usize) -> Moved
 }
 
 // The cell of the text s; where it is refused, the cell c that was there. Each byte moves the machine once and changes the
-// cell in place, and the end of the text is one turn more. b: the cell so far, but for its row of places, which is made at the end;
+// cell in place, and the end of the text is one turn more; the actions that follow a full stop are put into their agent's row at once.
+// b: the cell so far, but for its row of places, which is made at the end;
 // at: what was read last; d: how many places are open.
 pub fn read(c: Cell, s: &[u8]) -> Loaded
     ensures { λ r. ⌜ r ≡ readOf c (now (s .entry)) ⌝ }
@@ -94,6 +98,16 @@ pub fn read(c: Cell, s: &[u8]) -> Loaded
             let used = b.used;
             b.used = used.insert_if(x.places + 1, gives_place(x, e));
             x = marks_after(x, e, g.count, around);
+            let Control::Dot = k else {
+                continue;
+            };
+            let z = table::at(before(x.agents));
+            let latest = b.agents[z];
+            let row = with_row(s, i, latest);
+            let more = row.agent;
+            b.agents[z] = more;
+            at = row.at;
+            i = row.i;
             continue;
         };
     }

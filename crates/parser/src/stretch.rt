@@ -77,7 +77,7 @@ fn number(s: &[u8], i: usize, k: u8) -> Reached
 }
 
 // An action after a full stop: its word and its number, as far as they are there.
-fn action(s: &[u8], i: usize) -> Reached
+pub(super) fn action(s: &[u8], i: usize) -> Reached
     ensures { λ r. ⌜ Stretch (now (s .entry)) i Dot (r .i) (r .at) ⌝ }
 {
     if stands(s, i, b"enter ") {
@@ -98,13 +98,10 @@ fn action(s: &[u8], i: usize) -> Reached
     }
 }
 
-// As far as the bytes from i on spell an action or continue a number, after what was read last.
+// As far as the bytes from i on continue a number, after what was read last.
 pub(super) fn stretch(s: &[u8], i: usize, at: Control) -> Reached
     ensures { λ r. ⌜ Stretch (now (s .entry)) i at (r .i) (r .at) ⌝ }
 {
-    if let Control::Dot = at {
-        return action(s, i);
-    }
     if let Control::Digits(f, v) = at {
         return digits(s, i, f, v);
     }

@@ -1,11 +1,13 @@
 -- Before each turn the machine is where the bytes so far bring it, and the table is that of the cell so far; one event is written by its law.
 use native.Mathlib.Omega.{arith}
 use borrow.Author.Needs.{needs}
-use mathlib.Core.Path.{refl, _∙_}
-use Prim.Native.Nat.{suc, _-_, _≤_}
-use lib.ListN.{length}
+use mathlib.Core.Path.{refl, ap, _∙_}
+use Prim.Native.Nat.{suc, _+_, _-_, _%_, _≤_}
+use lib.ListN.{length, set}
+use Rattle.table.specs.Cell.{putPlaces, putAgents, putUsed, putGiven}
 use Rattle.parser.specs.ReadLaws.{Rest, rest-start, rest-off, rest-nothing, rest-written, rest-places, rest-end}
 use Rattle.parser.specs.StretchLaws.{stretch-up, stretch-within, rest-stretch}
+use Rattle.parser.specs.RowLaws.{row-up, rest-row}
 use Rattle.parser.proofs.read.Statement.{statement}
 use Rattle.parser.proofs.read.Tie as tie
 
@@ -75,14 +77,19 @@ add-insert-if c =
     let l = m .before .before .before .loop in
     omega (arith, rest-places _ (l .i) (l .at) (l .d) (l .b) (l .x) (l .inv))
 
-loop-less-2 : tie.Need-loop-less-2 Inv-loop μ-loop
-loop-less-2 c =
-    let q = c .before .before .before .before .before .before .before .before in
-    let m = q .before .before .before .before .before .before .before .before .before .before .before .before .before in
-    omega (arith, within (m .before), stretch-up (m .before .stretch .ensures), m .before .before .loop-test .taken)
-
-loop-again-2 : tie.Need-loop-again-2 Inv-loop μ-loop
-loop-again-2 c =
+-- what an event leaves: the table and the marks as it writes them
+written : (c : tie.After-marks-after Inv-loop μ-loop) →
+    let p = c .before .before .before .before .before in
+    let g = p .before .before .before .before .before in
+    let j = g .before .before .before .before in
+    let k = j .before .before .before .before .before in
+    let m = k .before .before in
+    let b = m .before .before .before .loop .b in
+    Rest (m .before .before .before .before .before .before .args .s .now) (m .before .stretch .result .i + 1) (k .m .given .0 .0) (k .m .given .0 .1 .0)
+    (putUsed (putPlaces (putGiven (putAgents b (set (b .agents) (j .at2 .result) (g .before .before .agent-after .result)))
+    (p .before .before .before .before .insert-if .result)) (set (b .places) (p .before .before .at3 .result) (p .place-after .result)))
+    (c .before .insert-if2 .result)) (c .marks-after .result)
+written c =
     let p = c .before .before .before .before .before in
     let g = p .before .before .before .before .before in
     let j = g .before .before .before .before in
@@ -97,6 +104,29 @@ loop-again-2 c =
     (p .before .before .at3 .ensures) (p .place-after .ensures) (c .before .before .gives-place .ensures) (c .before .insert-if2 .ensures)
     (c .marks-after .ensures)
 
+loop-less-2 : tie.Need-loop-less-2 Inv-loop μ-loop
+loop-less-2 c =
+    let q = c .before .before .before .before .before .before .before .before .before in
+    let m = q .before .before .before .before .before .before .before .before .before .before .before .before .before in
+    omega (arith, within (m .before), stretch-up (m .before .stretch .ensures), m .before .before .loop-test .taken)
+
+loop-again-2 : tie.Need-loop-again-2 Inv-loop μ-loop
+loop-again-2 c = written (c .before)
+
+loop-less-3 : tie.Need-loop-less-3 Inv-loop μ-loop
+loop-less-3 c =
+    let q = c .before .before .before .before .before .before .before .before .before .before .before .before .before .before .before in
+    let m = q .before .before .before .before .before .before .before .before .before .before .before .before .before in
+    omega (arith, within (m .before), stretch-up (m .before .stretch .ensures), m .before .before .loop-test .taken, row-up (c .before .with-row .ensures))
+
+loop-again-3 : tie.Need-loop-again-3 Inv-loop μ-loop
+loop-again-3 c =
+    let w = c .before in
+    let z = w .before .before in
+    let o = z .before .before in
+    rest-row _ _ _ _ _ _ (written (o .before .before)) (o .enum-told3 .given .1) _ _ (z .at4 .ensures ∙ ap (λ n. n % 64) (z .before .before2 .ensures)) refl
+    (w .with-row .ensures)
+
 returns-2 : tie.Need-returns-2 Inv-loop μ-loop
 returns-2 c =
     let l = c .before .before .loop in
@@ -110,4 +140,7 @@ read-spec =
     loop-again (λ c κs. search needs) (λ c. search needs) (λ c. search needs) (λ c κs. search needs) (λ c κs. search needs) (λ c. search needs)
     (λ c. search needs) (λ c κs. search needs) (λ c. search needs) (λ c. search needs) (λ c κs. search needs) (λ c κs. search needs) add-at
     (λ c κs. search needs) (λ c. search needs) (λ c. search needs) (λ c κs. search needs) (λ c. search needs) (λ c. search needs) add-insert-if
-    (λ c κs. search needs) (λ c κs. search needs) (λ c κs. search needs) loop-less-2 loop-again-2 (λ c κs. search needs) returns-2)
+    (λ c κs. search needs) (λ c κs. search needs) (λ c κs. search needs) (λ c. c .match3 .keys1) loop-less-2 loop-again-2
+    -- a row of actions
+    (λ c κs. search needs) (λ c κs. search needs) (λ c. search needs) (λ c. search needs) (λ c κs. search needs) (λ c. search needs) (λ c. search needs)
+    loop-less-3 loop-again-3 (λ c κs. search needs) returns-2)
