@@ -16,6 +16,7 @@ use Rattle.table.specs.Sound.{sound}
 use Rattle.table.specs.declared.Agent.{Agent}
 use Rattle.table.specs.declared.Cell.{Cell}
 use Rattle.soundness.specs.Seen.{seenOf}
+use Rattle.meaning.specs.declared.Answer.the-variants.{Did}
 use Rattle.meaning.specs.declared.Asked.{Asked}
 use Rattle.meaning.specs.declared.Asked.the-variants.{Would}
 use Rattle.meaning.specs.declared.Stepped.{Stepped}
@@ -152,6 +153,14 @@ motion-told c x a (Arrive d) place = refl
 motion-told c x a Dissolve place = refl
 motion-told c x a (Put q) place = refl
 
+-- what a motion answers
+pub motion-answer : (c : State) (x : ℕ) (a : Agent) (m : Motion) → made (shifted c x a m) .answer ≡ Did (motionWord m) (wokenIn c a m)
+unfolding made leave arrive dissolve put
+motion-answer c x a (Leave d) = refl
+motion-answer c x a (Arrive d) = refl
+motion-answer c x a Dissolve = refl
+motion-answer c x a (Put q) = refl
+
 -- word and number woken of the decision are those of the change, carried out
 change-answered : (k : Change) (t : Cell) → Sized t → (x : ℕ) (a : Agent) (place : ℕ)
     → tellOf (settlingIn t x a k .answer) (wokenBy (cellOf t) a (settlingIn t x a k)) place ≡ would (carried (cellOf t) x a k) place
@@ -169,6 +178,11 @@ change-answered (Release p q stage remembered w) t z x a place = refl
 change-answered (Move m) t z x a place = motion-told (cellOf t) x a m place
 
 -- ---- ask and commit
+
+-- what is told with the number woken is told of the decision
+pub told-of : (t : Cell) (a : Agent) (d : Decision) (n : ℕ) (r : Asked) → r ≡ tellOf (d .answer) n (d .chosen) → n ≡ wokenBy (cellOf t) a d → r ≡ askedOf t a d
+unfolding askedOf
+told-of t a d n r e f = e ∙ ap (λ (k : ℕ). tellOf (d .answer) k (d .chosen)) f
 
 module _ (t : Cell) (z : Sized t) (x wish : ℕ) where
   abbrev a : Agent

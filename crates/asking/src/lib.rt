@@ -10,12 +10,13 @@ use table::Cell;
 ghost use mathlib.Core.Path.{_≡_};
 ghost use Rattle.table.specs.Cell.{cellOf};
 ghost use Rattle.meaning.specs.Ask.{askOf, agrees as agreesWith, commitOf};
-ghost use Rattle.asking.specs.Asked.{wokenBy, askedOf, madeIf};
+ghost use Rattle.asking.specs.Asked.{wokenBy, tellOf, madeIf};
 
 // A commit of the very number that an ask gave.
 pub use number::goes_on;
 pub use number::handed;
 pub use number::hands_back;
+pub use number::move_goes_on;
 
 // How many agents the step that was decided for agent a would wake.
 fn waking(c: Cell, a: Agent, d: Decision) -> u8
@@ -28,17 +29,14 @@ fn waking(c: Cell, a: Agent, d: Decision) -> u8
     0
 }
 
-// What an ask tells of the step that was decided for agent a.
-pub fn asked(c: Cell, a: Agent, d: Decision) -> Asked
-    ensures { λ r. ⌜ r ≡ askedOf c a d ⌝ }
+// What an ask tells of the step that was decided and would wake so many.
+pub fn asked(d: Decision, woken: u8) -> Asked
+    ensures { λ r. ⌜ r ≡ tellOf (d .answer) woken (d .chosen) ⌝ }
 {
     let q = d.chosen;
     let answer = d.answer;
     match answer {
-        Answer::Did(word, _) => {
-            let n = waking(c, a, d);
-            Asked::Would(word, n, q)
-        }
+        Answer::Did(word, _) => Asked::Would(word, woken, q),
         Answer::Refused(number) => Asked::Unasked(number),
     }
 }
@@ -66,7 +64,8 @@ pub fn ask(c: Cell, agent: u8, wish: u8) -> Asked
     let s = soundness::see(c, agent);
     let a = s.agent;
     let d = step::decide(s, c, agent, wish);
-    asked(c, a, d)
+    let n = waking(c, a, d);
+    asked(d, n)
 }
 
 // The decision carried out if what was told is still so: 18 otherwise.
@@ -89,7 +88,8 @@ pub fn commit(c: Cell, agent: u8, wish: u8, word: u8, woken: u8, place: u8) -> S
     let s = soundness::see(c, agent);
     let a = s.agent;
     let d = step::decide(s, c, agent, wish);
-    let t = asked(c, a, d);
+    let n = waking(c, a, d);
+    let t = asked(d, n);
     let same = agrees(t, word, woken, place);
     made_if(same, c, agent, d)
 }

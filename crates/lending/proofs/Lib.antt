@@ -8,3 +8,4 @@ pub mod Wholes
 pub mod Deciding
 pub mod Altering
 pub mod Locking
+pub mod Moves

@@ -34,7 +34,7 @@ touchesField = 5
 abbrev pub orderField : ℕ
 orderField = 6
 
--- where the arrays start, and how long a place, an agent and a count of touches are
+-- where the arrays and the set of places in use start, and how long a place, an agent and a count of touches are
 abbrev pub placesAt : ℕ
 placesAt = startOf (fieldOf T′.mir placesField)
 
@@ -50,8 +50,14 @@ agentsAt = startOf (fieldOf T′.mir agentsField)
 abbrev pub agentSize : ℕ
 agentSize = size agent-laws.mir
 
+abbrev pub usedAt : ℕ
+usedAt = startOf (fieldOf T′.mir usedField)
+
 abbrev pub touchesAt : ℕ
 touchesAt = startOf (fieldOf T′.mir touchesField)
+
+abbrev pub orderAt : ℕ
+orderAt = startOf (fieldOf T′.mir orderField)
 
 abbrev pub countSize : ℕ
 countSize = size (tyInt w64)

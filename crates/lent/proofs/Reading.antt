@@ -1,8 +1,9 @@
--- One element of an array of a lent cell is read where it lies: an agent, a place, a lock.
+-- One element of an array of a lent cell is read where it lies: an agent, a place, a lock, a count of touches.
 --     element-val, element-is    the value read is that of the element, and it is a value of its type, since the array's elements are
---     agent-is, place-is, lock-is     the same of a cell's agent, place and lock
---     read-agent, read-place, read-lock     the reads, of any share of the cell
---     bytes-are, order-are     an array of bytes, and the cell's row of places, as a value by itself
+--     agent-is, place-is, lock-is, count-is     the same of a cell's agent, place, lock and count
+--     read-agent, read-place, read-lock, read-count     the reads, of any share of the cell
+--     bytes-are, counts-are, row-are     an array of bytes, of counts, of places as a value by itself
+--     places-are, locks-are, touches-are, order-are     and those of a cell
 -- Assumes nothing.
 use mathlib.Core.List.{map}
 use Prim.Native.Nat.{zero, suc, _+_, _*_}
@@ -17,7 +18,7 @@ use denote.Shadow.{shadow}
 use base.Fml.{Fml}
 use denote.Array.{Array, arrayVal, each as each-of}
 use denote.Memory.{cellAt}
-use denote.Struct.Field.{Field, u8-field}
+use denote.Struct.Field.{Field, u8-field, u64-field}
 use denote.Struct.Laws.{FLaws}
 use denote.Struct.Laws as LL
 use Rattle.table.specs.Cell.{noAgent, noPlace}
@@ -31,10 +32,10 @@ use Rattle.table.proofs.Place.Laws as place-laws
 use Rattle.table.proofs.Facts.{sized}
 use Rattle.table.proofs.Cell as T
 use Rattle.table.proofs.Cell.Laws as T′
-use Rattle.lent.proofs.Walk.{_≡_, refl, sym, subst, _∙_, ℕ, _<_, List, [], _∷_, URA, w8, Val, vint, Share, Heap, Atoms, Given, ‵, whole, sub, look-in, Is, u8}
+use Rattle.lent.proofs.Walk.{_≡_, refl, sym, subst, _∙_, ℕ, _<_, List, [], _∷_, URA, w8, w64, Val, vint, Share, Heap, Atoms, Given, ‵, whole, sub, look-in, Is, u8, u64}
 use Rattle.lent.proofs.Lent.{R, mach}
 use Rattle.lent.proofs.Element.{one-val, all-vals, vals-length, Elements, Element, unraw, elem}
-use Rattle.lent.proofs.Offsets.{placesField, locksField, agentsField, placesAt, locksAt, agentsAt, placeSize, agentSize}
+use Rattle.lent.proofs.Offsets.{placesField, locksField, agentsField, touchesField, placesAt, locksAt, agentsAt, touchesAt, placeSize, agentSize, countSize}
 
 module _ (F : Field) (L : FLaws F) where
   pub element-val : (d : F .Value) (xs : List (F .Value)) (k : ℕ) → k < length xs → getD (all-vals F L xs) k vunit ≡ one-val F L (getD xs k d)
@@ -69,6 +70,9 @@ place-vals l = all-vals Place′.the-field place-laws.the-field-laws l
 abbrev lock-vals : List ℕ → List Val
 lock-vals l = all-vals u8-field LL.u8-laws l
 
+abbrev pub count-vals : List ℕ → List Val
+count-vals l = all-vals u64-field LL.u64-laws l
+
 -- they are values of their types
 abbrev pub Agent-is : Agent → Type 0
 Agent-is a = Element Agent′.the-field agent-laws.the-field-laws a
@@ -86,6 +90,9 @@ module _ (c : Cell) (was : Is R c (mach c)) (k : ℕ) (h : k < 64) where
 
   pub place-is : Place-is (getD (c .places) k noPlace)
   place-is = element-is Place′.the-field place-laws.the-field-laws 64 noPlace (c .places) k (within (c .places) k (sized c was .places) h) (LL.owed T.the-type T′.the-laws c _ was .0)
+
+  pub count-is : Element u64-field LL.u64-laws (getD (c .touches) k 0)
+  count-is = element-is u64-field LL.u64-laws 64 0 (c .touches) k (within (c .touches) k (sized c was .touches) h) (LL.owed T.the-type T′.the-laws c _ was .1 .1 .1 .1 .1 .0)
 
   pub lock-is : Element u8-field LL.u8-laws (getD (c .locks) k 0)
   lock-is = element-is u8-field LL.u8-laws 64 0 (c .locks) k (within (c .locks) k (sized c was .locks) h) (LL.owed T.the-type T′.the-laws c _ was .1 .0)
@@ -106,6 +113,14 @@ module _ {M : Type 1} {𝓤 : URA M} {H : Heap 𝓤} {A : Atoms 𝓤} {K : Type 
       subst (λ (v : Val). Reads K W (‵ (cellAt q (R .mir) (mach c) b o) ∷ Γ) place-laws.mir b (k * placeSize + (o + placesAt)) v) (element-val Place′.the-field place-laws.the-field-laws noPlace (c .places) k (within (c .places) k (sized c was .places) h))
       (subst (λ (p : ℕ). Reads K W (‵ (cellAt q (R .mir) (mach c) b o) ∷ Γ) place-laws.mir b p (getD (place-vals (c .places)) k vunit)) (add-comm (o + placesAt) (k * placeSize))
       (look-in t 0 (elem t (place-vals (c .places)) k (vals-length Place′.the-field place-laws.the-field-laws (c .places) ∙ sized c was .places) h (sub t placesField refl (unraw t {τ = T′.mir} (whole t))))))
+
+  -- the touches of place k
+  pub read-count : K → (c : Cell) (k : ℕ) → Is R c (mach c) → k < 64
+      → Reads K W (‵ (cellAt q (R .mir) (mach c) b o) ∷ Γ) (tyInt w64) b (k * countSize + (o + touchesAt)) (vint w64 (getD (c .touches) k 0))
+  read-count t c k was h =
+      subst (λ (v : Val). Reads K W (‵ (cellAt q (R .mir) (mach c) b o) ∷ Γ) (tyInt w64) b (k * countSize + (o + touchesAt)) v) (element-val u64-field LL.u64-laws 0 (c .touches) k (within (c .touches) k (sized c was .touches) h))
+      (subst (λ (p : ℕ). Reads K W (‵ (cellAt q (R .mir) (mach c) b o) ∷ Γ) (tyInt w64) b p (getD (count-vals (c .touches)) k vunit)) (add-comm (o + touchesAt) (k * countSize))
+      (look-in t 0 (elem t (count-vals (c .touches)) k (vals-length u64-field LL.u64-laws (c .touches) ∙ sized c was .touches) h (sub t touchesField refl (unraw t {τ = T′.mir} (whole t))))))
 
   -- the lock of place k
   pub read-lock : K → (c : Cell) (k : ℕ) → Is R c (mach c) → k < 64
@@ -134,6 +149,30 @@ bytes-val l = arrayVal (lock-vals l)
 pub bytes-are : (l : List ℕ) → Elements u8-field LL.u8-laws 64 l → Is (Array u8 64) l (bytes-val l ∷ [])
 bytes-are l p = (p .0, ((p .1 .0 .0, sym (length-map l (λ z. z)) ∙ p .1 .0 .1), each-plain u8-field (u8 .own) (λ x u s. s) l (p .0) (p .1 .1)))
 
+-- the touches of places
+abbrev pub counts-val : List ℕ → Val
+counts-val l = arrayVal (count-vals l)
+
+pub counts-are : (l : List ℕ) → Elements u64-field LL.u64-laws 64 l → Is (Array u64 64) l (counts-val l ∷ [])
+counts-are l p = (p .0, ((p .1 .0 .0, sym (length-map l (λ z. z)) ∙ p .1 .0 .1), each-plain u64-field (u64 .own) (λ x u s. s) l (p .0) (p .1 .1)))
+
+-- places
+abbrev pub row-val : List Place → Val
+row-val l = arrayVal (place-vals l)
+
+pub row-are : (l : List Place) → Elements Place′.the-field place-laws.the-field-laws 64 l → Is (Array Place′.the-row 64) l (row-val l ∷ [])
+row-are l p = (p .0, ((p .1 .0 .0, sym (length-map l (Place′.the-type .to)) ∙ p .1 .0 .1), each-plain Place′.the-field (Place′.the-row .own) (λ x u s. s) l (p .0) (p .1 .1)))
+
+-- those of a cell
 module _ (c : Cell) (was : Is R c (mach c)) where
+  pub places-are : Is (Array Place′.the-row 64) (c .places) (row-val (c .places) ∷ [])
+  places-are = row-are (c .places) (LL.owed T.the-type T′.the-laws c _ was .0)
+
+  pub locks-are : Is (Array u8 64) (c .locks) (bytes-val (c .locks) ∷ [])
+  locks-are = bytes-are (c .locks) (LL.owed T.the-type T′.the-laws c _ was .1 .0)
+
+  pub touches-are : Is (Array u64 64) (c .touches) (counts-val (c .touches) ∷ [])
+  touches-are = counts-are (c .touches) (LL.owed T.the-type T′.the-laws c _ was .1 .1 .1 .1 .1 .0)
+
   pub order-are : Is (Array u8 64) (c .order) (bytes-val (c .order) ∷ [])
   order-are = bytes-are (c .order) (LL.owed T.the-type T′.the-laws c _ was .1 .1 .1 .1 .1 .1 .0)

@@ -8,7 +8,7 @@ use lib.Dec.{eqb}
 use lib.ListN.{getD, set}
 use Rattle.sets.specs.Word.{countOf}
 use Rattle.sets.specs.WordLaws.{count-ext}
-use Rattle.sets.specs.Set.{member, insertedIf, removed}
+use Rattle.sets.specs.Set.{member, setOf, insertedIf, removed}
 use Rattle.sets.specs.SetLaws.{emptySet}
 use Rattle.sets.specs.WalkLaws.{lowestIn}
 use Rattle.sets.specs.declared.Set.{Set}
@@ -85,7 +85,7 @@ module _ (t : Cell) (p o : ℕ) where
     }
 
   -- two locks released in a table that was made
-  release-tab : (f : ℕ → ℕ) (ls : List ℕ) → ls ≡ tab f 64 0 → tab (released (λ j. getD ls j 0) p o) 64 0 ≡ tab (released f p o) 64 0
+  pub release-tab : (f : ℕ → ℕ) (ls : List ℕ) → ls ≡ tab f 64 0 → tab (released (λ j. getD ls j 0) p o) 64 0 ≡ tab (released f p o) 64 0
   unfolding upd
   release-tab f ls e = tab-ext 0 64 _ _ (λ j k. ap (λ (n : ℕ). cond (eqb j o) none (cond (eqb j p) none n)) (ap (λ (s : List ℕ). getD s j 0) e ∙ getD-tab f 64 j 0 k))
 
@@ -94,21 +94,21 @@ module _ (t : Cell) (p o : ℕ) where
   both true b l = refl
   both false b l = refl
 
+  -- the lock of a place in use, and of one that is not, once those of the holders are let go
+  pub held-freed : Sized t → (holders : Set) → holders ≡ setOf (λ y. member (t .given) y && (eqb (getD (t .agents) y noAgent .home) o && eqb (getD (t .agents) y noAgent .stage) 2)) → (q : ℕ)
+      → cond (member (t .used) q) (cond (member holders (getD (t .locks) q 0)) none (getD (t .locks) q 0)) (getD (t .locks) q 0) ≡ dissolveLock (cellOf t) o q
+  unfolding cellOf dissolveLock
+  held-freed z holders e q = ap (λ (b : Bool). cond (member (t .used) q) (cond b none lock) lock)
+      (ap (λ (s : Set). member s lock) e ∙ member-among (t .given) (z .given) holds lock)
+      ∙ both (member (t .used) q) _ lock
+    where
+      lock : ℕ
+      lock = getD (t .locks) q 0
+
   -- once the walk is over
   module _ (z : Sized t) {d : Cell} {holders sleepers rest : Set} (w : Opening d holders sleepers rest) (end : rest .bits ≡ 0) where
     pub opening-all : d .agents ≡ tab after 64 0
     opening-all = storing-end noAgent (t .given) was gone (w .row) end
-
-    -- the lock of a place in use, and of one that is not
-    freed : (q : ℕ) → cond (member (t .used) q) (cond (member holders (getD (t .locks) q 0)) none (getD (t .locks) q 0)) (getD (t .locks) q 0)
-        ≡ dissolveLock (cellOf t) o q
-    unfolding cellOf dissolveLock
-    freed q = ap (λ (b : Bool). cond (member (t .used) q) (cond b none lock) lock)
-        (ap (λ (s : Set). member s lock) (gathered-end (w .held) end) ∙ member-among (t .given) (z .given) holds lock)
-        ∙ both (member (t .used) q) _ lock
-      where
-        lock : ℕ
-        lock = getD (t .locks) q 0
 
     -- the table and the answer
     pub opening-end : (x : ℕ) (a b : Agent) (n : ℕ) (ps : List Place) (ms ls : List ℕ) (es : List Agent) (us : Set) (ts row : List ℕ)
@@ -124,7 +124,7 @@ module _ (t : Cell) (p o : ℕ) where
         (λ i. putOrder (putTouches (putUsed (putLocks (putPlaces (putAgents ((w .others ∙ ap (λ (c : Cell). putAgents c (d .agents)) (sym (back t z))) i)
         ((v ∙ ap (λ (c : Agent). tab (upd after x c) 64 0) r) i))
         (e i))
-        ((g ∙ release-tab _ ms (f ∙ tab-ext 0 64 _ _ (λ q _. freed q))) i))
+        ((g ∙ release-tab _ ms (f ∙ tab-ext 0 64 _ _ (λ q _. held-freed z holders (gathered-end (w .held) end) q))) i))
         (u i))
         (k i))
         (y i))

@@ -38,7 +38,7 @@ fn adopt_one(q: u8, x: Place, p: u8, t: u8) -> Place
 }
 
 // The places once t is dissolved into p; only those in use change.
-fn adopt(ps: [Place; 64], used: Set, p: u8, t: u8) -> [Place; 64]
+pub fn adopt(ps: [Place; 64], used: Set, p: u8, t: u8) -> [Place; 64]
     ensures { λ r. ⌜ r ≡ tab (λ q. cond (member used q) (dissolvePlace p t q (getD ps q noPlace)) (getD ps q noPlace)) 64 0 ⌝ }
 {
     let mut qs = ps;
@@ -71,7 +71,7 @@ fn children(ps: [Place; 64], used: Set, t: u8) -> Set
 }
 
 // The row once the places in t are the latest, in their order among themselves.
-fn freed(row: [u8; 64], ps: [Place; 64], used: Set, t: u8) -> [u8; 64]
+pub fn freed(row: [u8; 64], ps: [Place; 64], used: Set, t: u8) -> [u8; 64]
     ensures { λ r. ⌜ r ≡ later (childOf (landOf ps used row) t) row ⌝ }
 {
     let s = children(ps, used, t);
@@ -86,7 +86,7 @@ fn free_one(l: u8, s: Set) -> u8
 }
 
 // The locks once those of the agents in s are released; only those of places in use change.
-fn free_held(ls: [u8; 64], used: Set, s: Set) -> [u8; 64]
+pub fn free_held(ls: [u8; 64], used: Set, s: Set) -> [u8; 64]
     ensures { λ r. ⌜ r ≡ tab (λ q. cond (member used q) (cond (member s (getD ls q 0)) none (getD ls q 0)) (getD ls q 0)) 64 0 ⌝ }
 {
     let mut ms = ls;
@@ -127,7 +127,7 @@ pub(super) fn with_touches(ts: [u64; 64], q: u8, n: u64) -> [u64; 64]
 }
 
 // The touches once t is dissolved into p: p has those of both, and t none.
-fn pool(ts: [u64; 64], p: u8, t: u8) -> [u64; 64]
+pub fn pool(ts: [u64; 64], p: u8, t: u8) -> [u64; 64]
     ensures { λ r. ⌜ r ≡ tab (pooled (λ q. getD ts q 0) p t) 64 0 ⌝ }
 {
     let a = touches_of(ts, p);
@@ -156,7 +156,7 @@ fn found(a: Agent, t: u8) -> bool
 }
 
 // An agent that is given, once t is dissolved into p.
-fn dissolve_agent(a: Agent, p: u8, t: u8) -> Agent
+pub fn dissolve_agent(a: Agent, p: u8, t: u8) -> Agent
     ensures { λ r. ⌜ r ≡ dissolveAgent p t a ⌝ }
 {
     if a.home == t {
@@ -174,7 +174,7 @@ fn dissolve_agent(a: Agent, p: u8, t: u8) -> Agent
 }
 
 // Whether an agent that is given is woken when t is dissolved into p: one that sleeps on no place (64) is, too.
-pub(super) fn woken_by(a: Agent, p: u8, t: u8) -> bool
+pub fn woken_by(a: Agent, p: u8, t: u8) -> bool
     ensures { λ r. ⌜ r ≡ wokenBy p t a ⌝ }
 {
     if a.stage == 7 {
@@ -193,7 +193,7 @@ pub(super) fn woken_by(a: Agent, p: u8, t: u8) -> bool
 }
 
 // Whether an agent that moves from t holds a lock at stage 2.
-fn lets_go(a: Agent, t: u8) -> bool
+pub fn lets_go(a: Agent, t: u8) -> bool
     ensures { λ r. ⌜ r ≡ (eqb (a .home) t && eqb (a .stage) 2) ⌝ }
 {
     if a.home == t { a.stage == 2 } else { false }

@@ -20,7 +20,7 @@ ghost use Rattle.meaning.specs.Run.{made};
 ghost use Rattle.moves.specs.Motions.{movePlace};
 
 // The agent once its next action, if one is left, is used up.
-pub(super) fn use_up(a: Agent) -> Agent
+pub fn use_up(a: Agent) -> Agent
     ensures { λ r. ⌜ r ≡ useUp a ⌝ }
 {
     let mut b = a;
@@ -31,14 +31,14 @@ pub(super) fn use_up(a: Agent) -> Agent
 }
 
 // The stage after opened, put or came: 0, or 8 if no action is left.
-pub(super) fn rest_stage(next: u8, count: u8) -> u8
+pub fn rest_stage(next: u8, count: u8) -> u8
     ensures { λ r. ⌜ r ≡ cond (ltb next count) 0 8 ⌝ }
 {
     if next < count { 0 } else { 8 }
 }
 
 // The place, on its way to d.
-fn sent(x: Place, d: u8) -> Place
+pub fn sent(x: Place, d: u8) -> Place
     ensures { λ r. ⌜ r ≡ withWay (withParent x d) 1 ⌝ }
 {
     let mut y = x;
@@ -48,7 +48,7 @@ fn sent(x: Place, d: u8) -> Place
 }
 
 // The place, linked to where it was on its way to.
-fn linked_up(x: Place) -> Place
+pub fn linked_up(x: Place) -> Place
     ensures { λ r. ⌜ r ≡ withWay x 0 ⌝ }
 {
     let mut y = x;
@@ -57,7 +57,7 @@ fn linked_up(x: Place) -> Place
 }
 
 // Whether an agent is asleep on p, q or r.
-pub(super) fn asleep_on(a: Agent, p: u8, q: u8, r: u8) -> bool
+pub fn asleep_on(a: Agent, p: u8, q: u8, r: u8) -> bool
     ensures { λ z. ⌜ z ≡ asleepOn p q r a ⌝ }
 {
     if a.stage == 7 {
@@ -130,7 +130,7 @@ pub(super) fn leave(c: Cell, x: u8, a: Agent, d: u8) -> Stepped
 }
 
 // The place that the destination d, in use or not, is linked to, or d.
-fn beyond(known: bool, x: Place, d: u8) -> u8
+pub fn beyond(known: bool, x: Place, d: u8) -> u8
     ensures { λ r. ⌜ r ≡ cond (known && eqb (x .way) 0) (x .parent) d ⌝ }
 {
     if linked(known, x) { x.parent } else { d }

@@ -17,7 +17,7 @@ ghost use Rattle.meaning.specs.Update.{linkedPlace};
 ghost use Rattle.meaning.specs.Run.{made};
 
 // A place named n, all its keys n, linked to p.
-fn new_place(n: u16, p: u8) -> Place
+pub fn new_place(n: u16, p: u8) -> Place
     ensures { λ r. ⌜ r ≡ linkedPlace (plainName n) p ⌝ }
 {
     let name = Name {

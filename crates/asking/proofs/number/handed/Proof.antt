@@ -10,13 +10,14 @@ use Rattle.soundness.specs.declared.sound.Seen.{Seen}
 use Rattle.step.specs.Decided.{decided}
 use Rattle.step.specs.declared.Decision.{Decision}
 use Rattle.asking.specs.Asked.{askedOf, madeIf}
-use Rattle.asking.specs.AskedLaws.{made-handed}
+use Rattle.asking.specs.AskedLaws.{told-of, made-handed}
 use Rattle.asking.proofs.number.handed.Statement.{statement}
 use Rattle.asking.proofs.number.handed.Tie as tie
 
 returns : tie.Need-returns
 returns c =
-    let d = c .before .before .before in
+    let woke = c .before .before .before in
+    let d = woke .before in
     let sees = d .before .before in
     let v = sees .before in
     let s = v .args in
@@ -24,8 +25,8 @@ returns c =
     d .decide .ensures ∙ ap (λ (w : Seen). decided w (s .c) (s .agent) (s .wish)) (sees .see .ensures) in
     c .made-if .ensures
     ∙ ap₂ (λ (y : Bool) (e : Decision). madeIf y (s .c) (s .agent) e)
-    (c .before .hands-back .ensures ∙ ap (λ (b : Asked). handsBack b (s .answer)) (c .before .before .asked .ensures ∙ ap₂ (askedOf (s .c)) (ap (λ (w : Seen). w .agent) (sees .see .ensures)) is)) is
+    (c .before .hands-back .ensures ∙ ap (λ (b : Asked). handsBack b (s .answer)) (told-of (s .c) _ _ _ _ (c .before .before .asked .ensures) (woke .waking .ensures) ∙ ap₂ (askedOf (s .c)) (ap (λ (w : Seen). w .agent) (sees .see .ensures)) is)) is
     ∙ made-handed (s .c) (sized (s .c) (v .good .0)) (s .agent) (s .wish) (s .answer)
 
 pub handed-spec : {M : Type 1} → statement M
-handed-spec = tie.close (tie.spec (λ c κs. search needs) (λ c κs. search needs) (λ c κs. search needs) (λ c κs. search needs) (λ c κs. search needs) returns)
+handed-spec = tie.close (tie.spec (λ c κs. search needs) (λ c κs. search needs) (λ c κs. search needs) (λ c κs. search needs) (λ c κs. search needs) (λ c κs. search needs) returns)
