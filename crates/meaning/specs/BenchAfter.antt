@@ -46,6 +46,8 @@ afterRows =
     ∷ bytes (1 ∷ 1 ∷ 0 ∷ 0 ∷ []) (agentIn (after 0 sample) 0)
     ∷ bytes (1 ∷ 1 ∷ 1 ∷ 0 ∷ []) (agentIn (after 1 sample) 1)
     ∷ bytes (64 ∷ 64 ∷ 64 ∷ 64 ∷ []) (locksIn (after 1 sample))
+    -- "With no linked parent: slept, stage 7 on its own place"
+    ∷ bytes (1 ∷ 7 ∷ 1 ∷ 0 ∷ []) (agentIn (after 1 (acting 1 0 2 5 going)) 1)
     -- 1: "Lock the remembered place p: took, stage 2"
     ∷ bytes (1 ∷ 2 ∷ 0 ∷ 0 ∷ []) (agentIn (after 0 found) 0)
     ∷ bytes (0 ∷ 64 ∷ 64 ∷ 64 ∷ []) (locksIn (after 0 found))
