@@ -1,9 +1,10 @@
 -- What the walks of a card's calls share: a lent window is opened and closed; and the functions that they call over the lent cell.
 --     R, val, typed, opened, closed    the row of `Window`; its machine value, which has its MIR type; a `&mut Window` is opened, and closed at another
 --     stored-is, flags-is    a window with some bytes of another is one
---     Steps, Rests, Commands    `keeper_step`, `at_rest` and `commanded`, in the words of `Altering` and `Passing`
---     numbers, none, one        the values that they are passed: agent and wish, none, a window
+--     Steps, Rests, Commands    `keeper_step`, `at_rest`, which is the test `rests`, and `commanded`, in the words of `Altering` and `Passing`
+--     numbers, one        the values that they are passed: agent and wish, a window
 -- Assumes `Given`.
+use mathlib.Core.Bool.{Bool}
 use lib.Dec.{T as True}
 use mir.Val.{WT, hasTy}
 use base.Stored.{Gv}
@@ -14,6 +15,7 @@ use denote.Memory.{cellAt}
 use denote.Struct.Laws as LL
 use Rattle.table.specs.Cell.{cellOf}
 use Rattle.table.specs.Idle.{idle}
+use Rattle.table.specs.declared.Cell.{Cell}
 use Rattle.meaning.specs.Run.{stepOf}
 use Rattle.meaning.specs.Codes.{stepNumber}
 use Rattle.window.specs.declared.Window.{Window}
@@ -21,9 +23,10 @@ use Rattle.window.specs.Window.{commandOf}
 use Rattle.window.specs.StoredLaws.{stored, storedFlags}
 use Rattle.window.proofs.Window as T
 use Rattle.window.proofs.Window.Laws as T′
-use Rattle.lent.proofs.Walk.{refl, ℕ, _<_, _^_, List, [], _∷_, URA, fullShare, w8, Val, vint, GName, Lft, Share, flft, fobs, fbor, Heap, Atoms, Given, ‵, _$_, _∵_, !, qed, fjoin, done, Body, RattleType, Is, mem, u8, u64, uint-makes, plain, owned, nothing, yes}
+use Rattle.lent.proofs.Walk.{refl, ℕ, _<_, _^_, List, [], _∷_, URA, fullShare, w8, Val, vint, GName, Lft, Share, flft, fobs, fbor, Heap, Atoms, Given, ‵, _$_, _∵_, !, qed, fjoin, done, Body, RattleType, Is, mem, uint-makes, u8, u64, plain, owned, nothing, yes}
 use Rattle.lent.proofs.Declared as D
 use Rattle.lending.proofs.Passing.{Lends, Passed}
+use Rattle.lending.proofs.Sounding.{Alone}
 use Rattle.lending.proofs.Altering.{Alters, leaving}
 
 -- ---- the window
@@ -68,8 +71,11 @@ Steps = leaving
     (record { slots = plain (λ _. u8) ∷ plain (λ _. u8) ∷ []; kept = (yes, (yes, tt)); result = u64; of = λ κs c a. stepNumber (stepOf c (a .0) (a .1 .0) .answer) })
     (λ κs c a. stepOf c (a .0) (a .1 .0) .cell)
 
+abbrev pub rests : Cell → Bool
+rests c = idle (cellOf c)
+
 abbrev pub Rests : Lends
-Rests = record { slots = []; kept = tt; result = bool; of = λ κs c a. idle (cellOf c) }
+Rests = Alone bool rests
 
 abbrev pub Commands : Alters
 Commands = leaving
@@ -87,9 +93,6 @@ module _ {M : Type 1} (𝓤 : URA M) (H : Heap 𝓤) (A : Atoms 𝓤) (W : Given
     vs = λ κs. (vint w8 m ∷ [], (vint w8 n ∷ [], tt));
     free = λ κs. qed W [] ∵ nothing ! $ owned ! u8 (Is u8) (uint-makes 𝓤 H A W w8) n _ (refl, n-fits) $ fjoin ! $ owned ! u8 (Is u8) (uint-makes 𝓤 H A W w8) m _ (refl, m-fits) $ fjoin ! $ done !;
   }
-
-  abbrev pub none : Passed 𝓤 H A Rests
-  none = record { xs = λ κs. tt; vs = λ κs. tt; free = λ κs. qed W [] ∵ nothing ! $ done ! }
 
   abbrev pub one : (w : Window) → Is R w (val w ∷ []) → Passed 𝓤 H A (Commands .tells)
   one w is = record {

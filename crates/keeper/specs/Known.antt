@@ -1,5 +1,5 @@
--- Whether all agents are asleep or done, told whether the table is sound: `idleOf` is the case where it was told the truth.
-use mathlib.Core.Path.{_≡_, ap}
+-- What a call whether all agents are asleep or done answers, told whether the table is sound and whether they are: `idleOf` is the case where it was told the truth.
+use mathlib.Core.Path.{_≡_, ap₂}
 use mathlib.Core.Bool.{Bool, cond}
 use Rattle.table.specs.Cell.{cellOf}
 use Rattle.table.specs.Sound.{sound}
@@ -11,10 +11,10 @@ use Rattle.meaning.specs.declared.Idled.{Idled}
 use Rattle.meaning.specs.declared.Idled.the-variants.{Idle, Busy, Unknown}
 
 -- refused by 10, else whether they are
-unfoldable pub knownIdle : Bool → Cell → Idled
-knownIdle known t = cond known (cond (idle (cellOf t)) Idle Busy) (Unknown unsoundTable)
+unfoldable pub knownIdle : Bool → Bool → Idled
+knownIdle known rest = cond known (cond rest Idle Busy) (Unknown unsoundTable)
 
 -- told the truth of the table, it is the call
-pub idle-told : (t : Cell) (known : Bool) → known ≡ sound (cellOf t) → knownIdle known t ≡ idleOf t
+pub idle-told : (t : Cell) (known rest : Bool) → known ≡ sound (cellOf t) → rest ≡ idle (cellOf t) → knownIdle known rest ≡ idleOf t
 unfolding knownIdle idleOf
-idle-told t known e = ap (λ (z : Bool). knownIdle z t) e
+idle-told t known rest e r = ap₂ knownIdle e r

@@ -7,13 +7,13 @@ mod written;
 use meaning::Checked;
 use meaning::Idled;
 use meaning::Verdict;
+use sets::Set;
 use table::Cell;
-use touch::TouchDecision;
 ghost use mathlib.Core.Path.{_≡_};
 ghost use mathlib.Core.Bool.{cond};
 ghost use Rattle.table.specs.Cell.{cellOf};
 ghost use Rattle.meaning.specs.Codes.{checkOf, idleOf, loadNumber, touchNumber, foundNumber, limitNumber, listNumber};
-ghost use Rattle.touch.specs.Known.{knownTouch, knownTouches};
+ghost use Rattle.touch.specs.Known.{knownTouches};
 ghost use Rattle.locating.specs.Known.{knownNearest, knownCommon};
 ghost use Rattle.limit.specs.Known.{knownCeiling};
 ghost use Rattle.listing.specs.Known.{knownAnswer, knownBuffer};
@@ -81,18 +81,11 @@ fn numbered_list(known: bool, c: Cell, text: &mut [u8]) -> u64
     list_number(listing::list_known(known, c, text))
 }
 
-// What a touch call does, told whether the cell is sound.
-fn decided_touch(known: bool, c: Cell, place: u8, number: u32) -> TouchDecision
-    ensures { λ r. ⌜ r ≡ knownTouch known c place number ⌝ }
-{
-    touch::decide_touch(known, c, place, number)
-}
-
 // The number that a call for the touches of a place answers, told whether the cell is sound.
-fn numbered_touches(known: bool, c: Cell, place: u8) -> u64
-    ensures { λ r. ⌜ r ≡ touchNumber (knownTouches known c place) ⌝ }
+fn numbered_touches(known: bool, used: Set, touches: &[u64; 64], place: u8) -> u64
+    ensures { λ r. ⌜ r ≡ touchNumber (knownTouches known used (now (touches .entry)) place) ⌝ }
 {
-    touch_number(touch::touches_known(known, c, place))
+    touch_number(touch::touches_known(known, used, touches, place))
 }
 
 // The number that a question for the nearest enclosing place of a name answers, told whether the cell is sound.
@@ -110,10 +103,10 @@ fn numbered_common(known: bool, c: Cell, place: u8, other: u8) -> u64
 }
 
 // The number that a call for the ceiling answers, told whether the cell is sound.
-fn numbered_ceiling(known: bool, c: Cell) -> u64
-    ensures { λ r. ⌜ r ≡ limitNumber (knownCeiling known c) ⌝ }
+fn numbered_ceiling(known: bool, given: Set, moves: u16) -> u64
+    ensures { λ r. ⌜ r ≡ limitNumber (knownCeiling known given moves) ⌝ }
 {
-    limit_number(limit::ceiling_known(known, c))
+    limit_number(limit::ceiling_known(known, given, moves))
 }
 
 // What a check answers: 10 is its one refusal.
@@ -127,16 +120,12 @@ fn checked(sound: bool) -> Checked
     }
 }
 
-// Whether all agents are asleep or done, told whether the cell is sound: 10 is its one refusal.
-fn idled(known: bool, c: Cell) -> Idled
-    ensures { λ r. ⌜ r ≡ knownIdle known c ⌝ }
+// What a call whether all agents are asleep or done answers, told whether the cell is sound and whether they are: 10 is its one refusal.
+fn idled(known: bool, rest: bool) -> Idled
+    ensures { λ r. ⌜ r ≡ knownIdle known rest ⌝ }
 {
     if known {
-        if table::is_idle(c) {
-            Idled::Idle
-        } else {
-            Idled::Busy
-        }
+        if rest { Idled::Idle } else { Idled::Busy }
     } else {
         Idled::Unknown(10)
     }
@@ -153,5 +142,5 @@ pub fn check(c: Cell) -> Checked
 pub fn idle(c: Cell) -> Idled
     ensures { λ r. ⌜ r ≡ idleOf c ⌝ }
 {
-    idled(soundness::is_sound(c), c)
+    idled(soundness::is_sound(c), table::is_idle(c))
 }

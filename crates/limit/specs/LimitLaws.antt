@@ -1,6 +1,6 @@
 -- How large the ceiling of a cell can be; what the code counts is what is defined; told the truth of the cell, the call is answered as it is
 -- defined. Assumes nothing.
-use mathlib.Core.Path.{_≡_, refl, sym, ap, _∙_}
+use mathlib.Core.Path.{_≡_, refl, sym, ap, ap₂, _∙_}
 use mathlib.Core.Bool.{Bool, true, false, cond}
 use Prim.Native.Nat.{ℕ, zero, suc, _+_, _*_, _-_, _≤_, _<_}
 use native.Mathlib.Nat.{mul-le-mul}
@@ -16,6 +16,8 @@ use Rattle.table.specs.Sound.{sound}
 use Rattle.table.specs.declared.Agent.{Agent}
 use Rattle.table.specs.declared.Cell.{Cell}
 use Rattle.meaning.specs.Codes.{limitNumber}
+use Rattle.meaning.specs.Refusals.{unsoundTable}
+use Rattle.meaning.specs.declared.Limit.the-variants.{AtMost, Uncounted}
 use Rattle.meaning.specs.Limit.{agentsOf, isAway, movesOf, movesLeft, changesLeft, ceilingOf}
 use Rattle.limit.specs.Known.{movesAt, knownCeiling}
 
@@ -60,16 +62,16 @@ unfolding movesLeft
 moves-most c = omega (arith, sum-most _ 64 33 (λ x _. moves-part (c .given x) (c .agent x)))
 
 -- so the number is small
-pub number-most : (agents moves : ℕ) → agents ≤ 64 → moves ≤ 2112 → 5 * agents * (moves + 1) + moves ≤ 678272
-number-most agents moves a m =
+pub number-most : (agents moves most : ℕ) → agents ≤ 64 → moves ≤ most → 5 * agents * (moves + 1) + moves ≤ 320 * (most + 1) + most
+number-most agents moves most a m =
     let p : 5 * agents ≤ 320 = omega arith in
-    let q : moves + 1 ≤ 2113 = omega arith in
+    let q : moves + 1 ≤ most + 1 = omega arith in
     omega (arith, mul-le-mul p q)
 
 -- of every cell, sound or not: it has 20 bits, and an answer's number has 56 for it
 pub changes-most : (c : State) → changesLeft c ≤ 678272
 unfolding changesLeft
-changes-most c = number-most (agentsOf c) (movesLeft c) (agents-most (c .given) 64) (moves-most c)
+changes-most c = number-most (agentsOf c) (movesLeft c) 2112 (agents-most (c .given) 64) (moves-most c)
 
 -- so the answer's number holds it whole
 pub number-whole : (t : Cell) → sound (cellOf t) ≡ true → limitNumber (ceilingOf t) ≡ changesLeft (cellOf t) * 256
@@ -99,14 +101,10 @@ unfolding countOf countBelow
 count-same zero f = refl
 count-same (suc n) f = ap (λ (m : ℕ). bit (f 0) + m) (count-same n (λ i. f (suc i))) ∙ sym (first-apart f n)
 
--- the number of an answer from what was counted
-pub told-number : (t : Cell) (agents moves : ℕ) → agents ≡ countOf 64 (has (t .given .bits)) → moves ≡ movesLeft (cellOf t)
-    → 5 * agents * (moves + 1) + moves ≡ changesLeft (cellOf t)
-unfolding changesLeft cellOf
-told-number t agents moves a m = rw (a ∙ count-same 64 (has (t .given .bits)), m) refl
+-- ---- told the truth of the cell and the moves that are left
 
--- ---- told the truth of the cell
-
-pub ceiling-told : (t : Cell) (b : Bool) → b ≡ sound (cellOf t) → knownCeiling b t ≡ ceilingOf t
-unfolding knownCeiling ceilingOf
-ceiling-told t b h = ap (λ (k : Bool). knownCeiling k t) h
+pub ceiling-told : (t : Cell) (b : Bool) (moves : ℕ) → b ≡ sound (cellOf t) → moves ≡ movesLeft (cellOf t) → knownCeiling b (t .given) moves ≡ ceilingOf t
+unfolding knownCeiling ceilingOf changesLeft cellOf
+ceiling-told t b moves h m =
+    ap₂ (λ (k : Bool) (n : ℕ). cond k (AtMost (5 * countOf 64 (has (t .given .bits)) * (n + 1) + n)) (Uncounted unsoundTable)) h m
+    ∙ ap (λ (n : ℕ). cond (sound (cellOf t)) (AtMost (5 * n * (movesLeft (cellOf t) + 1) + movesLeft (cellOf t))) (Uncounted unsoundTable)) (count-same 64 (has (t .given .bits)))

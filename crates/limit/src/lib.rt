@@ -1,5 +1,6 @@
 // How many step calls can still change a cell, at most.
 use meaning::Limit;
+use sets::Set;
 use table::Cell;
 ghost use mathlib.Core.Path.{_≡_};
 ghost use Prim.Native.Nat.{_-_};
@@ -33,42 +34,47 @@ fn away(stage: u8) -> u8
 }
 
 // The moves before an agent: two for each unused action, and one more while its place is on its way.
-fn moves_at(stage: u8, next: u8, count: u8) -> u64
+fn moves_at(stage: u8, next: u8, count: u8) -> u16
     ensures { λ r. ⌜ r ≡ movesAt stage next count ⌝ }
 {
     let end = row_end(count);
     let left = unused(end, next);
     let way = away(stage);
-    2 * (left as u64) + (way as u64)
+    2 * (left as u16) + (way as u16)
 }
 
-// The moves before all agents that are given.
-fn moves_left(c: Cell) -> u64
-    ensures { λ r. ⌜ r ≡ movesLeft (cellOf c) ⌝ }
+// The moves before all agents that are given, of a lent cell.
+pub fn moves_left(cell: &Cell) -> u16
+    ensures { λ r. ⌜ r ≡ movesLeft (cellOf (now (cell .entry))) ⌝ }
 {
-    let mut moves: u64 = 0;
-    let mut rest = c.given;
+    let mut moves: u16 = 0;
+    let mut rest = cell.given;
     while rest.bits != 0 {
         let i = rest.first();
-        rest = rest.rest();
         let k = i as usize;
-        let stage = c.agents[k].stage;
-        let next = c.agents[k].next;
-        let count = c.agents[k].count;
-        let n = moves_at(stage, next, count);
-        moves += n;
+        let a = cell.agents[k];
+        let n = moves_at(a.stage, a.next, a.count);
+        let others = rest.rest();
+        moves = moves + n;
+        rest = others;
     }
     moves
 }
 
-// How many step calls can still change the cell at most, told whether it is sound: 10 is its one refusal.
-pub fn ceiling_known(known: bool, c: Cell) -> Limit
-    ensures { λ r. ⌜ r ≡ knownCeiling known c ⌝ }
+// The same of a cell by value.
+fn moves_of(c: Cell) -> u16
+    ensures { λ r. ⌜ r ≡ movesLeft (cellOf c) ⌝ }
+{
+    moves_left(&c)
+}
+
+// How many step calls can still change a cell at most, told whether it is sound, by the agents given and the moves before them: 10 is its one refusal.
+pub fn ceiling_known(known: bool, given: Set, left: u16) -> Limit
+    ensures { λ r. ⌜ r ≡ knownCeiling known given left ⌝ }
 {
     if known {
-        let given = c.given;
         let agents = given.count() as u64;
-        let moves = moves_left(c);
+        let moves = left as u64;
         return Limit::AtMost(5 * agents * (moves + 1) + moves);
     }
     Limit::Uncounted(10)
@@ -79,5 +85,6 @@ pub fn ceiling(c: Cell) -> Limit
     ensures { λ r. ⌜ r ≡ ceilingOf c ⌝ }
 {
     let known = soundness::is_sound(c);
-    ceiling_known(known, c)
+    let moves = moves_of(c);
+    ceiling_known(known, c.given, moves)
 }

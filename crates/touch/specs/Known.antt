@@ -1,9 +1,11 @@
 -- Touch calls as they are made by a caller that was told whether the cell is sound.
 use Prim.Native.Nat.{ℕ, _+_, _%_}
 use mathlib.Core.Bool.{Bool, cond}
+use mathlib.Core.List.{List}
 use lib.Dec.{leb}
 use lib.ListN.{getD, set}
 use Rattle.sets.specs.Set.{member}
+use Rattle.sets.specs.declared.Set.{Set}
 use Rattle.table.specs.Cell.{putTouches}
 use Rattle.table.specs.Sound.{mostTouches}
 use Rattle.table.specs.declared.Cell.{Cell}
@@ -22,28 +24,28 @@ refusing count number = record { count = count; answer = Untouched number }
 abbrev pub counting : ℕ → TouchDecision
 counting count = record { count = count; answer = Count count }
 
--- the touches at a number, where numbers past 63 start from 0 again
-abbrev pub countAt : Cell → ℕ → ℕ
-countAt t q = getD (t .touches) (q % 64) 0
+-- the count at a number, where numbers past 63 start from 0 again
+abbrev pub countAt : List ℕ → ℕ → ℕ
+countAt ts q = getD ts (q % 64) 0
 
--- what a touch call does to a cell that is sound or not, as told
-unfoldable pub knownTouch : Bool → Cell → ℕ → ℕ → TouchDecision
-knownTouch known t q n =
+-- what a touch call does to a cell that is sound or not, as told, with these places in use and these counts
+unfoldable pub knownTouch : Bool → Set → List ℕ → ℕ → ℕ → TouchDecision
+knownTouch known used ts q n =
     cond known
-    (cond (leb 64 q) (refusing (countAt t q) placeTooLarge)
-    (cond (member (t .used) q)
-    (cond (leb (totalOf (t .touches) (t .used) + n) mostTouches) (counting (countAt t q + n)) (refusing (countAt t q) tooManyTouches))
-    (refusing (countAt t q) notYetGiven)))
-    (refusing (countAt t q) unsoundTable)
+    (cond (leb 64 q) (refusing (countAt ts q) placeTooLarge)
+    (cond (member used q)
+    (cond (leb (totalOf ts used + n) mostTouches) (counting (countAt ts q + n)) (refusing (countAt ts q) tooManyTouches))
+    (refusing (countAt ts q) notYetGiven)))
+    (refusing (countAt ts q) unsoundTable)
 
 -- the cell with these touches at a number, and the answer
 abbrev pub tallied : Cell → ℕ → TouchDecision → Touched
 tallied t q d = record { cell = putTouches t (set (t .touches) (q % 64) (d .count)); answer = d .answer }
 
--- the touches of a place of a cell that is sound or not, as told
-unfoldable pub knownTouches : Bool → Cell → ℕ → Touching
-knownTouches known t q =
+-- the touches of a place of a cell that is sound or not, as told, with these places in use and these counts
+unfoldable pub knownTouches : Bool → Set → List ℕ → ℕ → Touching
+knownTouches known used ts q =
     cond known
     (cond (leb 64 q) (Untouched placeTooLarge)
-    (cond (member (t .used) q) (Count (getD (t .touches) q 0)) (Untouched notYetGiven)))
+    (cond (member used q) (Count (getD ts q 0)) (Untouched notYetGiven)))
     (Untouched unsoundTable)

@@ -1,6 +1,7 @@
 // Touch calls: a number is added to the touches of a place, or they are asked for.
 use meaning::Touched;
 use meaning::Touching;
+use sets::Set;
 use table::Cell;
 ghost use mathlib.Core.Path.{_≡_};
 ghost use Rattle.meaning.specs.Touch.{touchOf, touchesOf};
@@ -32,19 +33,24 @@ fn counted(count: u64) -> TouchDecision
     }
 }
 
-// What a touch call does, told whether the cell is sound: refusal 10, then 3, 5 and 15, then the sum.
-pub fn decide_touch(known: bool, c: Cell, place: u8, number: u32) -> TouchDecision
-    ensures { λ r. ⌜ r ≡ knownTouch known c place number ⌝ }
+// What a touch call does, told whether the cell is sound, by the places in use and all counts: refusal 10, then 3, 5 and 15, then the sum.
+pub fn decide_touch(
+    known: bool,
+    used: Set,
+    touches: &[u64; 64],
+    place: u8,
+    number: u32,
+) -> TouchDecision
+    ensures { λ r. ⌜ r ≡ knownTouch known used (now (touches .entry)) place number ⌝ }
 {
     let k = table::at(place);
-    let count = c.touches[k];
+    let count = touches[k];
     if known {
         if 64 <= place {
             return refused(count, 3);
         }
-        let used = c.used;
         if used.has(place) {
-            let left = soundness::touches_left(&c.touches, used);
+            let left = soundness::touches_left(touches, used);
             if !left.fits {
                 return refused(count, 15);
             }
@@ -64,7 +70,7 @@ pub fn touch(c: Cell, place: u8, number: u32) -> Touched
     ensures { λ r. ⌜ r ≡ touchOf c place number ⌝ }
 {
     let known = soundness::is_sound(c);
-    let d = decide_touch(known, c, place, number);
+    let d = decide_touch(known, c.used, &c.touches, place, number);
     let answer = d.answer;
     let k = table::at(place);
     let mut e = c;
@@ -75,18 +81,17 @@ pub fn touch(c: Cell, place: u8, number: u32) -> Touched
     }
 }
 
-// The touches of a place, told whether the cell is sound: refusal 10, then 3 and 5, then the count.
-pub fn touches_known(known: bool, c: Cell, place: u8) -> Touching
-    ensures { λ r. ⌜ r ≡ knownTouches known c place ⌝ }
+// The touches of a place, told whether the cell is sound, by the places in use and all counts: refusal 10, then 3 and 5, then the count.
+pub fn touches_known(known: bool, used: Set, touches: &[u64; 64], place: u8) -> Touching
+    ensures { λ r. ⌜ r ≡ knownTouches known used (now (touches .entry)) place ⌝ }
 {
     if known {
         if 64 <= place {
             return Touching::Untouched(3);
         }
-        let used = c.used;
         if used.has(place) {
             let k = place as usize;
-            return Touching::Count(c.touches[k]);
+            return Touching::Count(touches[k]);
         }
         return Touching::Untouched(5);
     }
@@ -98,5 +103,5 @@ pub fn touches(c: Cell, place: u8) -> Touching
     ensures { λ r. ⌜ r ≡ touchesOf c place ⌝ }
 {
     let known = soundness::is_sound(c);
-    touches_known(known, c, place)
+    touches_known(known, c.used, &c.touches, place)
 }

@@ -24,8 +24,8 @@ kept true e = refl
 kept false e = sym e
 
 -- what is decided of the touches that were read is decided of those at the place
-read : (c : tie.After-at) (f : ℕ → TouchDecision) → f (getD (c .before .args .t2 .touches) (c .at .result) 0) ≡ f (countAt (c .before .args .t2) (c .before .args .place))
-read c f = ap (λ (i : ℕ). f (getD (c .before .args .t2 .touches) i 0)) (c .at .ensures)
+read : (c : tie.After-at) (f : ℕ → TouchDecision) → f (getD (c .before .args .touches .now) (c .at .result) 0) ≡ f (countAt (c .before .args .touches .now) (c .before .args .place))
+read c f = ap (λ (i : ℕ). f (getD (c .before .args .touches .now) i 0)) (c .at .ensures)
 
 returns : tie.Need-returns
 unfolding knownTouch
@@ -34,10 +34,10 @@ returns c = rw (c .before .before .if1 .taken, le-leb _ _ (c .before .if2 .taken
 -- the place is in use: all touches, and what they leave
 module _ (c : tie.After-touches-left) where
   abbrev used : tie.After-has
-  used = c .before .before .before .before
+  used = c .before .before
 
   abbrev at : tie.After-at
-  at = used .before .before .before .before .before
+  at = used .before .before .before .before
 
   abbrev place : ℕ
   place = at .before .args .place
@@ -46,7 +46,7 @@ module _ (c : tie.After-touches-left) where
   number = at .before .args .number
 
   abbrev total : ℕ
-  total = totalOf (at .before .args .t2 .touches) (at .before .args .t2 .used)
+  total = totalOf (at .before .args .touches .now) (at .before .args .used)
 
   fits-is : c .touches-left .result .fits ≡ leb total mostTouches
   unfolding leftOf
@@ -56,19 +56,19 @@ module _ (c : tie.After-touches-left) where
   unfolding leftOf
   room-is = ap (λ (l : Left). l .room) (c .touches-left .ensures)
 
-  in-use : member (at .before .args .t2 .used) place ≡ true
-  in-use = sym (used .has .ensures) ∙ c .before .before .before .if3 .taken
+  in-use : member (at .before .args .used) place ≡ true
+  in-use = sym (used .has .ensures) ∙ c .before .if3 .taken
 
-  part : getD (at .before .args .t2 .touches) (at .at .result) 0 ≤ total
+  part : getD (at .before .args .touches .now) (at .at .result) 0 ≤ total
   part =
-      let low = used .before .before .if2 .left in
+      let low = used .before .if2 .left in
       let same : at .at .result ≡ place = omega (arith, at .at .ensures, low) in
-      subst (λ (q : ℕ). getD (at .before .args .t2 .touches) q 0 ≤ total) (sym same) (count-most (at .before .args .t2 .touches) (at .before .args .t2 .used) place low in-use)
+      subst (λ (q : ℕ). getD (at .before .args .touches .now) q 0 ≤ total) (sym same) (count-most (at .before .args .touches .now) (at .before .args .used) place low in-use)
 
   -- the last test decides
   last : (b : Bool) → leb (total + number) mostTouches ≡ b
-      → cond b (counting (countAt (at .before .args .t2) place + number)) (refusing (countAt (at .before .args .t2) place) 15) ≡ knownTouch (at .before .args .known) (at .before .args .t2) place number
-  last b e = known-last (at .before .args .t2) place number (at .before .args .known) b (used .before .before .before .if1 .taken) (used .before .before .if2 .left) in-use e
+      → cond b (counting (countAt (at .before .args .touches .now) place + number)) (refusing (countAt (at .before .args .touches .now) place) 15) ≡ knownTouch (at .before .args .known) (at .before .args .used) (at .before .args .touches .now) place number
+  last b e = known-last (at .before .args .used) (at .before .args .touches .now) place number (at .before .args .known) b (used .before .before .if1 .taken) (used .before .if2 .left) in-use e
 
 returns-2 : tie.Need-returns-2
 returns-2 c =
@@ -100,8 +100,8 @@ returns-5 : tie.Need-returns-5
 unfolding knownTouch
 returns-5 c =
     let has = c .before .before in
-    rw (has .before .before .before .if1 .taken, lt-leb _ _ (has .before .before .if2 .left), sym (has .has .ensures) ∙ c .before .if3 .left)
-    (c .refused4 .ensures ∙ read (has .before .before .before .before .before) (λ n. refusing n 5))
+    rw (has .before .before .if1 .taken, lt-leb _ _ (has .before .if2 .left), sym (has .has .ensures) ∙ c .before .if3 .left)
+    (c .refused4 .ensures ∙ read (has .before .before .before .before) (λ n. refusing n 5))
 
 returns-6 : tie.Need-returns-6
 unfolding knownTouch

@@ -13,11 +13,11 @@ use Rattle.touch.proofs.touch.Tie as tie
 returns : tie.Need-returns
 returns c =
     let d = c .before in
-    let s = d .before .before in
+    let s = d .before .before .before .before .before in
     let a = s .args in
-    ap (λ (i : ℕ). record { cell = putTouches (a .c) (set (a .c .touches) i (d .decide-touch .result .count)); answer = d .decide-touch .result .answer }) (c .at .ensures)
-    ∙ ap (tallied (a .c) (a .place)) (d .decide-touch .ensures)
-    ∙ touch-told (a .c) (sized (a .c) (s .good .0)) (a .place) (a .number) _ (d .before .is-sound .ensures)
+    ap (λ (i : ℕ). record { cell = putTouches (a .t1) (set (a .t1 .touches) i (d .decide-touch .result .count)); answer = d .decide-touch .result .answer }) (c .at .ensures)
+    ∙ ap (tallied (a .t1) (a .place)) (d .decide-touch .ensures)
+    ∙ touch-told (a .t1) (sized (a .t1) (s .good .0)) (a .place) (a .number) _ (d .before .before .before .before .is-sound .ensures)
 
 pub touch-spec : {M : Type 1} → statement M
 touch-spec = tie.close (tie.spec (λ c κs. search needs) (λ c κs. search needs) (λ c κs. search needs) (λ c. search needs) (λ c. search needs) returns)

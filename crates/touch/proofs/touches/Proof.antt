@@ -6,4 +6,4 @@ use Rattle.touch.proofs.touches.Statement.{statement}
 use Rattle.touch.proofs.touches.Tie as tie
 
 pub touches-spec : {M : Type 1} → statement M
-touches-spec = tie.close (tie.spec (λ c κs. search needs) (λ c κs. search needs) (λ c. c .touches-known .ensures ∙ touches-told _ _ _ (c .before .is-sound .ensures)))
+touches-spec = tie.close (tie.spec (λ c κs. search needs) (λ c κs. search needs) (λ c. c .touches-known .ensures ∙ touches-told _ _ _ (c .before .before .before .before .is-sound .ensures)))

@@ -15,8 +15,8 @@ touches-known-spec =
     (λ c κs. search needs) (λ c. search needs) (λ c. search needs)
     (λ c.
     let has = c .before .before in
-    rw (has .before .before .before .if1 .taken, lt-leb _ _ (has .before .before .if2 .left), sym (has .has .ensures) ∙ c .before .if3 .taken) refl)
+    rw (has .before .before .if1 .taken, lt-leb _ _ (has .before .if2 .left), sym (has .has .ensures) ∙ c .before .if3 .taken) refl)
     (λ c.
     let has = c .before in
-    rw (has .before .before .before .if1 .taken, lt-leb _ _ (has .before .before .if2 .left), sym (has .has .ensures) ∙ c .if3 .left) refl)
+    rw (has .before .before .if1 .taken, lt-leb _ _ (has .before .if2 .left), sym (has .has .ensures) ∙ c .if3 .left) refl)
     (λ c. rw (c .if1 .left) refl))

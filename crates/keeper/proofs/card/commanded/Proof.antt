@@ -31,8 +31,9 @@ use Rattle.lent.proofs.Loop.{is-true, is-false}
 use Rattle.lent.proofs.Freed.{freed}
 use Rattle.soundness.proofs.Seeing.{unless}
 use Rattle.lending.proofs.Passing.{Over, over-open}
+use Rattle.lending.proofs.Sounding.{alone}
 use Rattle.lending.proofs.Altering.{Altered, altering}
-use Rattle.keeper.proofs.LentWindow.{val, typed, Steps, Rests, numbers, none}
+use Rattle.keeper.proofs.LentWindow.{val, typed, Steps, Rests, numbers}
 use Rattle.keeper.proofs.exports.keeper_step.Symbol as step-def
 use Rattle.keeper.proofs.exports.keeper_step.Met as step-thm
 use Rattle.keeper.proofs.card.commanded.Key.{name}
@@ -94,7 +95,7 @@ module _ {M : Type 1} (𝓤 : URA M) (H : Heap 𝓤) (A : Atoms 𝓤) (W : Given
           opened ! tt c b o (λ was.
           -- [the cell; the open borrow; obs; auth; _7 at 4; _6; …; _0 at 18]
           assigns ! (addr ! (from ! (hop ! (look ! 16 refl) (stop !)))) (from ! (stop !)) (init ! 4 refl (tt, tt)) $
-          over-open ! fm Rests known-rest (none 𝓤 H A W) c was b o (λ κs′ y i. and-then ! (load ! (from ! (stop !)) (look ! 5 refl)) (no-more !)) (λ v′ y κs′ e″ is″.
+          over-open ! fm Rests known-rest (alone 𝓤 H A W) c was b o (λ κs′ y i. and-then ! (load ! (from ! (stop !)) (look ! 5 refl)) (no-more !)) (λ v′ y κs′ e″ is″.
           land ! (from ! (stop !)) (init ! 10 refl (bool-lawful 𝓤 H A W .typed y _ is″ .0)) $ rewrite ! 10 (λ (z : Val). ‵ (fat fullShare tyBool l₄ 0 z)) (ap only is″) refl $ closed ! tt c was b o $
           -- [obs; the borrow; the token; _7 at 3; _6; …; _0 at 17]
           use0 W (raw (Note .pre (to-note n y))) (goes-note n y (is′ .1)) $

@@ -1,13 +1,10 @@
--- `keeper_check` meets its contract: the reference is passed on to `sound_lent`, and what it answers is told and made a number.
+-- `keeper_check` meets its contract: the reference is passed on to `sound_lent`, and what it told is answered and made a number.
 -- Assumes nothing.
 use mathlib.Core.Bool.{Bool, cond}
 use mir.Val.{vbool}
-use mir.Syntax.{tyBool}
-use denote.Plain.{bool-makes, bool-lawful}
+use denote.Plain.{bool-makes}
 use denote.Builtin.{bool}
 use denote.Enum.Laws as EL
-use Rattle.table.specs.Cell.{cellOf}
-use Rattle.table.specs.Sound.{sound}
 use Rattle.table.specs.declared.Cell.{Cell}
 use Rattle.meaning.specs.Refusals.{unsoundTable}
 use Rattle.meaning.specs.declared.Checked.{Checked}
@@ -16,11 +13,11 @@ use Rattle.meaning.proofs.Checked.Laws as checked-laws
 use Rattle.meaning.specs.Codes.{checkOf, checkNumber}
 use Rattle.numbers.proofs.check_number.Symbol as number
 use Rattle.numbers.proofs.check_number.Met as number-thm
-use Rattle.lent.proofs.Walk.{_≡_, refl, ap, _∙_, ℕ, [], _∷_, URA, fullShare, named, w64, Val, vptr, ent, GName, Lft, Share, ftrue, fat, flft, Heap, Calls, Loops, WpFn, Atoms, givenOf, tables, Given, ‵, _⊛_, _$_, _∵_, !, qed, by, move, drop, split, rewrite, fsplit, fsplit3, look, init, forget, stop, from, load, and-then, no-more, land, returns, enter, alloc1, alloc0, params1, pass1, pass0, FmC, owns, Is, uint-lawful, u64, ShrRef, only, owned, Triple, onEntry, cited}
+use Rattle.lent.proofs.Walk.{_≡_, refl, ap, _∙_, ℕ, [], _∷_, URA, named, w64, vptr, ent, GName, Lft, Share, ftrue, flft, Heap, Calls, Loops, WpFn, Atoms, givenOf, tables, Given, ‵, _⊛_, _$_, _∵_, !, qed, by, move, drop, split, fsplit, fsplit3, look, init, forget, stop, from, load, and-then, no-more, land, returns, enter, alloc1, alloc0, params1, pass1, pass0, FmC, owns, Is, uint-lawful, u64, ShrRef, owned, Triple, onEntry, cited}
 use Rattle.lent.proofs.Lent.{R, Equates, applied}
 use Rattle.lent.proofs.Freed.{freed}
-use Rattle.lending.proofs.Passing.{Over, over-lent}
-use Rattle.lending.proofs.Sounding.{Sounds, alone}
+use Rattle.lending.proofs.Passing.{Over}
+use Rattle.lending.proofs.Sounding.{isSound, Sounds, tested}
 use Rattle.lending.proofs.Asks.{of-lent, handed, handed-at, Post, exits, asks-met}
 use Rattle.keeper.proofs.checked.Symbol as checked-def
 use Rattle.keeper.proofs.checked.Met as checked-thm
@@ -37,7 +34,7 @@ answer y = cond y Checked.Sound (Checked.Unsound unsoundTable)
 abbrev ask : Cell → ℕ
 ask c = checkNumber (checkOf c)
 
-answer-is : (h : Cell) (s : Bool) → s ≡ sound (cellOf h) → answer s ≡ checkOf h
+answer-is : (h : Cell) (s : Bool) → s ≡ isSound h → answer s ≡ checkOf h
 unfolding checkOf
 answer-is h s e = ap answer e
 
@@ -49,8 +46,8 @@ module _ {M : Type 1} (𝓤 : URA M) (H : Heap 𝓤) (A : Atoms 𝓤) (W : Given
       alloc1 ! (λ l₀. alloc1 ! (λ l₁. alloc1 ! (λ l₂. alloc1 ! (λ l₃. alloc0 ! $ params1 ! $ pass1 ! (init ! 4 refl (tt, tt)) $ pass0 ! $
       move ! (9 ∷ []) $ fsplit ! $ fsplit3 ! $ drop ! $ move ! (11 ∷ []) $ split ! $ move ! (1 ∷ 4 ∷ []) $ drop ! $ drop ! $
       -- [the token; res; the fractured borrow; _3 at 3; _2; _1; _0 at 9]
-      over-lent ! fm Sounds known-sound (alone 𝓤 H A W) h b o (λ κs y. and-then ! (load ! (from ! (stop !)) (look ! 7 refl)) (no-more !)) (λ v s κs e is.
-      land ! (from ! (stop !)) (init ! 5 refl (bool-lawful 𝓤 H A W .typed s _ is .0)) $ rewrite ! 5 (λ (z : Val). ‵ (fat fullShare tyBool l₂ 0 z)) (ap only is) refl $
+      tested ! fm isSound known-sound h b o (λ y. and-then ! (load ! (from ! (stop !)) (look ! 7 refl)) (no-more !)) (λ s e.
+      land ! (from ! (stop !)) (init ! 5 refl (tt, tt)) $
       owned ! bool (Is bool) (bool-makes 𝓤 H A W) s (vbool s ∷ []) refl $
       applied ! fm bool Checked′.the-row answer known-checked s (vbool s) (and-then ! (load ! (from ! (stop !)) (look ! 6 refl)) (no-more !)) (λ u r e′ is′.
       -- [what r owns; the token; res; the fractured borrow; _3 at 4; _2; _1; _0 at 10]

@@ -1,23 +1,22 @@
--- `keeper_list` meets its contract: the reference is passed on to `sound_lent`, the borrow of the cell is looked into, the cell is loaded whole, the borrow is shut, `list_known` is called with what it answers, the cell and the slice, which is given up for good, and the answer is passed on.
+-- `keeper_list` meets its contract: the reference is passed on to `sound_lent`, the borrow of the cell is looked into, the cell is loaded whole, the borrow is shut, `list_known` is called with what it answered, the cell and the slice, which is given up for good, and the answer is passed on.
 -- Assumes nothing.
 use mathlib.Core.Bool.{Bool}
 use lib.ListN.{length}
 use mir.Val.{vbool}
-use mir.Syntax.{tyBool}
 use types.Kit.{use2}
 use denote.Builtin.{bool}
-use denote.Plain.{bool-makes, bool-lawful}
+use denote.Plain.{bool-makes}
 use Rattle.table.specs.declared.Cell.{Cell}
 use Rattle.table.specs.Cell.{cellOf}
 use Rattle.meaning.specs.Listing.{listAnswer, listBuffer}
 use Rattle.meaning.specs.Codes.{listNumber}
 use Rattle.listing.specs.Known.{knownAnswer, knownBuffer}
 use Rattle.listing.specs.CallLaws.{list-told}
-use Rattle.lent.proofs.Walk.{_≡_, refl, ap, _∙_, ℕ, List, [], _∷_, URA, fullShare, named, w64, Val, vptr, SProp, ent, id⊢, GName, Lft, Share, Fml, ftrue, fat, flft, fres, fshr-bor, Memory, Routine, Heap, Calls, Loops, WpFn, Atoms, Fun, AllOutlive, givenOf, tables, Given, ‵, raw, _⊛_, ⋆, _$_, _∵_, !, qed, by, move, keep, drop, split, join, rewrite, fsplit, fsplit3, fjoin, fjoin3, feqI, feqL, suffices, frame, done, look, look-raw, init, forget, stop, hop, fld, from, load, addr, of-opd, and-then, no-more, assigns, land, returns, enter, alloc1, alloc0, params1, pass1, pass0, agg, whole, sub, look-in, FmC, owns, Is, partAt, uint-lawful, u8, u64, RefT, ShrRef, ptr-vals, shr-tells, MutSlice, Room, finally, slice-vals, mut-slice-tells, plain, only, owned, nothing, Contract, Triple, onEntry, tripleOf, cited, says, Stays, stay-none-ref, gave-slice, walkOf, goes-none-ref, goes-gave-slice, ends-at, yes, exported}
+use Rattle.lent.proofs.Walk.{_≡_, refl, ap, _∙_, ℕ, List, [], _∷_, URA, named, w64, Val, vptr, SProp, ent, id⊢, GName, Lft, Share, Fml, ftrue, flft, fres, fshr-bor, Memory, Routine, Heap, Calls, Loops, WpFn, Atoms, Fun, AllOutlive, givenOf, tables, Given, ‵, raw, _⊛_, ⋆, _$_, _∵_, !, qed, by, move, keep, drop, split, join, fsplit, fsplit3, fjoin, fjoin3, feqI, feqL, suffices, frame, done, look, look-raw, init, forget, stop, hop, fld, from, load, addr, of-opd, and-then, no-more, assigns, land, returns, enter, alloc1, alloc0, params1, pass1, pass0, agg, whole, sub, look-in, FmC, owns, Is, partAt, uint-lawful, u8, u64, RefT, ShrRef, ptr-vals, shr-tells, MutSlice, Room, finally, slice-vals, mut-slice-tells, plain, only, owned, nothing, Contract, Triple, onEntry, tripleOf, cited, says, Stays, stay-none-ref, gave-slice, walkOf, goes-none-ref, goes-gave-slice, ends-at, yes, exported}
 use Rattle.lent.proofs.Lent.{R, mach, is-typed, had, looked, shut, called}
 use Rattle.lent.proofs.Freed.{freed}
-use Rattle.lending.proofs.Passing.{Over, over-lent}
-use Rattle.lending.proofs.Sounding.{Sounds, alone}
+use Rattle.lending.proofs.Passing.{Over}
+use Rattle.lending.proofs.Sounding.{isSound, Sounds, tested}
 use Rattle.keeper.proofs.numbered_list as lists
 use Rattle.keeper.proofs.numbered_list.Symbol as list-def
 use Rattle.keeper.proofs.numbered_list.Met as list-thm
@@ -73,8 +72,8 @@ module _ {M : Type 1} (𝓤 : URA M) (H : Heap 𝓤) (A : Atoms 𝓤) (W : Given
           alloc1 ! (λ l₀. alloc1 ! (λ l₁. alloc1 ! (λ l₂. alloc1 ! (λ l₃. alloc1 ! (λ l₄. alloc1 ! (λ l₅. alloc1 ! (λ l₆. alloc0 ! $ params1 ! $ pass1 ! (init ! 10 refl (tt, tt)) $ pass1 ! (init ! 8 refl (tt, (tt, (record { fits = room .0 }, tt)))) $ pass0 ! $
           move ! (15 ∷ []) $ fsplit ! $ fsplit3 ! $ drop ! $ move ! (2 ∷ []) $ fsplit ! $ move ! (18 ∷ []) $ split ! $ move ! (3 ∷ []) $ drop ! $ move ! (0 ∷ 3 ∷ 4 ∷ []) $
           -- [the token; res; the fractured borrow; the slice's token; the slice; _6 at 5; _5; _4; _3; _2; _1; _0 at 17]
-          over-lent ! fm Sounds known-sound (alone 𝓤 H A W) h b o (λ κs y. and-then ! (load ! (from ! (stop !)) (look ! 15 refl)) (no-more !)) (λ w p κs e is.
-          land ! (from ! (stop !)) (init ! 11 refl (bool-lawful 𝓤 H A W .typed p _ is .0)) $ rewrite ! 11 (λ (z : Val). ‵ (fat fullShare tyBool l₃ 0 z)) (ap only is) refl $
+          tested ! fm isSound known-sound h b o (λ y. and-then ! (load ! (from ! (stop !)) (look ! 15 refl)) (no-more !)) (λ p e.
+          land ! (from ! (stop !)) (init ! 11 refl (tt, tt)) $
           move ! (2 ∷ 0 ∷ []) $ looked ! tt h b o (λ t was.
           -- [a share of the cell; the open borrow; the fractured borrow; res; the slice's token; the slice; _6 at 6; _5; _4; _3; _2; _1; _0 at 18]
           assigns ! (of-opd ! (load ! (from ! (hop ! (look ! 16 refl) (stop !))) (look-raw ! 0 refl))) (from ! (stop !)) (init ! 10 refl (is-typed 𝓤 H A W h was .0)) $

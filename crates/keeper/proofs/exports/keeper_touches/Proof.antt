@@ -1,26 +1,37 @@
--- `keeper_touches` meets its contract: the reference is passed on to `sound_lent`, the borrow of the cell is looked into, the cell is loaded whole, the borrow is shut, and `numbered_touches` is called with what it answers and the cell.
+-- `keeper_touches` meets its contract: the reference is passed on to `sound_lent`, the places in use are read, the touches are lent on, and `numbered_touches` is called with all three.
 -- Assumes nothing.
 use mathlib.Core.Bool.{Bool}
+use mathlib.Core.List.{map, map-id}
+use Prim.Native.Nat.{_+_}
 use mir.Val.{vbool}
-use mir.Syntax.{tyBool}
-use types.Kit.{use0}
-use denote.Plain.{bool-makes, bool-lawful}
+use types.Kit.{use2}
+use types.Tokens.{shr-bor-dup}
+use denote.Array.{Array}
+use denote.Plain.{bool-makes}
 use denote.Builtin.{bool}
+use denote.Struct.Laws as LL
+use Rattle.sets.proofs.Set as Set′
+use Rattle.sets.proofs.Set.Laws as set-laws
 use Rattle.table.specs.declared.Cell.{Cell}
+use Rattle.table.proofs.Cell.Laws as T′
 use Rattle.meaning.specs.Touch.{touchesOf}
 use Rattle.meaning.specs.Codes.{touchNumber}
 use Rattle.touch.specs.Known.{knownTouches}
 use Rattle.touch.specs.KnownLaws.{touches-told}
-use Rattle.lent.proofs.Walk.{_≡_, refl, ap, _∙_, ℕ, _<_, _^_, List, [], _∷_, URA, fullShare, named, w8, w64, Val, vint, vptr, SProp, ent, emp, id⊢, GName, Lft, Share, ftrue, fat, flft, fres, fshr-bor, Memory, Routine, Heap, Calls, Loops, WpFn, Atoms, Fun, givenOf, tables, Given, ‵, raw, _⊛_, ⋆, _$_, _∵_, !, qed, by, move, keep, drop, split, join, rewrite, fsplit, fsplit3, fjoin, fjoin3, feqI, suffices, frame, done, look, look-raw, init, forget, stop, hop, from, load, of-opd, and-then, no-more, assigns, land, returns, enter, alloc1, alloc0, params1, pass1, pass0, FmC, owns, Is, partAt, uint-vals, uint-tells, uint-makes, uint-lawful, u8, u64, RefT, ShrRef, ptr-vals, shr-tells, plain, only, owned, nothing, Contract, Triple, onEntry, tripleOf, cited, says, Stays, stay-none, stay-none-ref, walkOf, goes-none, goes-none-ref, ends-at, yes, exported}
-use Rattle.lent.proofs.Lent.{R, mach, is-typed, had, looked, shut, called}
+use Rattle.soundness.proofs.sound_lent.Symbol as sound-def
+use Rattle.soundness.proofs.sound_lent.Met as sound-thm
+use Rattle.lent.proofs.Walk.{_≡_, refl, ap, _∙_, ℕ, _<_, _^_, List, [], _∷_, URA, named, w8, w64, Val, vint, vptr, SProp, ent, id⊢, GName, Lft, Share, ftrue, flft, fres, fshr-bor, Memory, Routine, Heap, Calls, Loops, WpFn, Atoms, Fun, givenOf, tables, Given, ‵, raw, _⊛_, ⋆, _$_, _∵_, !, qed, by, move, keep, drop, use1, split, join, fsplit, fsplit3, fjoin, fjoin3, feqI, suffices, frame, done, look, init, forget, stop, hop, fld, from, load, addr, of-opd, and-then, no-more, assigns, land, returns, enter, alloc1, alloc0, params1, pass1, pass0, whole, sub, look-in, FmC, owns, Is, partAt, uint-vals, uint-tells, uint-makes, uint-lawful, u8, u64, RefT, ShrRef, ptr-vals, shr-tells, plain, owned, nothing, Contract, Triple, onEntry, tripleOf, cited, says, Stays, stay-none, stay-none-ref, walkOf, goes-none, goes-none-ref, ends-at, yes, exported}
+use Rattle.lent.proofs.Lent.{R, mach, looked, shut, called}
+use Rattle.lent.proofs.Element.{unraw}
+use Rattle.lent.proofs.Offsets.{usedField, touchesAt}
+use Rattle.lent.proofs.Within.{within-touches}
 use Rattle.lent.proofs.Freed.{freed}
-use Rattle.lending.proofs.Passing.{Over, over-lent}
-use Rattle.lending.proofs.Sounding.{Sounds, alone}
+use Rattle.lending.proofs.Passing.{Over}
+use Rattle.lending.proofs.Sounding.{isSound, Sounds, tested}
+use Rattle.lending.proofs.Wholes.{set-val, used-is}
 use Rattle.keeper.proofs.numbered_touches as numbers
 use Rattle.keeper.proofs.numbered_touches.Symbol as numbers-def
 use Rattle.keeper.proofs.numbered_touches.Met as numbers-thm
-use Rattle.soundness.proofs.sound_lent.Symbol as sound-def
-use Rattle.soundness.proofs.sound_lent.Met as sound-thm
 use Rattle.keeper.proofs.exports.keeper_touches.Key.{name}
 use Rattle.keeper.proofs.exports.keeper_touches as f
 use Rattle.keeper.proofs.exports.keeper_touches.Statement.{statement}
@@ -51,33 +62,40 @@ module _ {M : Type 1} (𝓤 : URA M) (H : Heap 𝓤) (A : Atoms 𝓤) (W : Given
         nothing ! $ move ! (1 ∷ 0 ∷ []) $ join ! $ frame ! $ feqI ! (List Val) (vptr b o ∷ []) (vptr b o ∷ []) refl $ fjoin3 ! $
         nothing ! $ owned ! u8 (Is u8) (uint-makes 𝓤 H A W w8) m _ (refl, m-fits) $ fjoin ! $ move ! (1 ∷ 0 ∷ []) $ fjoin ! $ done !
 
-    abbrev to-numbers : Bool → Numbers .Ghost
-    to-numbers y = ((tt, tt, tt, (y, (h, (m, tt))), (vbool y ∷ [], (mach h, (vint w8 m ∷ [], tt)))), tt)
+    abbrev counts : GName → RefT (List ℕ)
+    counts γ₁ = record { ptr = (b, o + touchesAt); name = γ₁; now = map (λ z. z) (h .touches) }
 
-    goes-numbers : (y : Bool) → Is R h (mach h) → ent 𝓤 (emp 𝓤) (Numbers .pre (to-numbers y))
-    goes-numbers y was = qed W [] ∵
-        nothing ! $ owned ! u8 (Is u8) (uint-makes 𝓤 H A W w8) m _ (refl, m-fits) $ fjoin ! $ had ! h was $ fjoin ! $ owned ! bool (Is bool) (bool-makes 𝓤 H A W) y (vbool y ∷ []) refl $ fjoin ! $
-        nothing ! $ join ! $ nothing ! $ move ! (1 ∷ 0 ∷ []) $ join ! $ done !
+    abbrev to-numbers : GName → Bool → Numbers .Ghost
+    to-numbers γ₁ s = (((κ, tt), (q, tt), tt, (s, (h .used, (counts γ₁, (m, tt)))), (vbool s ∷ [], (set-val (h .used) ∷ [], (vptr b (o + touchesAt) ∷ [], (vint w8 m ∷ [], tt))))), tt)
+
+    goes-numbers : (γ₁ : GName) (s : Bool) → Is R h (mach h) → ent 𝓤 (⋆ 𝓤 H A (‵ (flft κ q) ∷ ‵ (ShrRef (named 0) κ (Array u64 64) .own (counts γ₁) (vptr b (o + touchesAt) ∷ [])) ∷ [])) (Numbers .pre (to-numbers γ₁ s))
+    goes-numbers γ₁ s was = qed W (‵ (flft κ q) ∷ ‵ (ShrRef (named 0) κ (Array u64 64) .own (counts γ₁) (vptr b (o + touchesAt) ∷ [])) ∷ []) ∵
+        nothing ! $ owned ! u8 (Is u8) (uint-makes 𝓤 H A W w8) m _ (refl, m-fits) $ fjoin ! $ move ! (2 ∷ 0 ∷ []) $ fjoin ! $
+        owned ! Set′.the-row (Is Set′.the-row) (LL.makes Set′.the-type set-laws.the-plain 𝓤 H A) (h .used) _ (used-is h was) $ fjoin ! $ owned ! bool (Is bool) (bool-makes 𝓤 H A W) s (vbool s ∷ []) refl $ fjoin ! $
+        nothing ! $ move ! (2 ∷ 0 ∷ []) $ join ! $ join ! $ nothing ! $ move ! (1 ∷ 0 ∷ []) $ join ! $ done !
 
     module _ (C : Calls 𝓤 H) (Λ : Loops 𝓤 H) (fm : FmC 𝓤 H (W .laws) C) (known-sound : Triple 𝓤 (C sound-def.name) (Over 𝓤 H A Sounds)) (known-numbers : Triple 𝓤 (C numbers-def.name) Numbers) where
       walk : ent 𝓤 (onEntry 𝓤 H A f.signature (κ, tt) (q, tt) x at) (WpFn 𝓤 H C Λ code.function (vptr b o ∷ vint w8 m ∷ []) Post)
       walk =
           qed W ((‵ (flft κ q) ⊛ ‵ ftrue) ∷ ‵ (owns (ShrRef (named 0) κ R ∷ u8 ∷ []) x at) ∷ []) ∵ enter ! C Λ code.function (vptr b o ∷ vint w8 m ∷ []) _ $
-          alloc1 ! (λ l₀. alloc1 ! (λ l₁. alloc1 ! (λ l₂. alloc1 ! (λ l₃. alloc1 ! (λ l₄. alloc0 ! $ params1 ! $ pass1 ! (init ! 6 refl (tt, tt)) $ pass1 ! (init ! 4 refl (tt, record { fits = m-fits })) $ pass0 ! $
-          move ! (11 ∷ []) $ fsplit ! $ fsplit3 ! $ drop ! $ move ! (13 ∷ []) $ split ! $ move ! (1 ∷ 4 ∷ []) $ drop ! $ drop ! $
-          -- [the token; res; the fractured borrow; _4 at 3; _3; …; _0 at 11]
-          over-lent ! fm Sounds known-sound (alone 𝓤 H A W) h b o (λ κs y. and-then ! (load ! (from ! (stop !)) (look ! 9 refl)) (no-more !)) (λ v s κs e is.
-          land ! (from ! (stop !)) (init ! 5 refl (bool-lawful 𝓤 H A W .typed s _ is .0)) $ rewrite ! 5 (λ (z : Val). ‵ (fat fullShare tyBool l₃ 0 z)) (ap only is) refl $
+          alloc1 ! (λ l₀. alloc1 ! (λ l₁. alloc1 ! (λ l₂. alloc1 ! (λ l₃. alloc1 ! (λ l₄. alloc1 ! (λ l₅. alloc0 ! $ params1 ! $ pass1 ! (init ! 8 refl (tt, tt)) $ pass1 ! (init ! 6 refl (tt, record { fits = m-fits })) $ pass0 ! $
+          move ! (13 ∷ []) $ fsplit ! $ fsplit3 ! $ drop ! $ move ! (15 ∷ []) $ split ! $ move ! (1 ∷ 4 ∷ []) $ drop ! $ drop ! $
+          -- [the token; res; the fractured borrow; _5 at 3; _4; …; _0 at 13]
+          tested ! fm isSound known-sound h b o (λ y. and-then ! (load ! (from ! (stop !)) (look ! 11 refl)) (no-more !)) (λ s e. land ! (from ! (stop !)) (init ! 7 refl (tt, tt)) $
           move ! (2 ∷ 0 ∷ []) $ looked ! tt h b o (λ q′ was.
-          -- [a share of the cell; the open borrow; the fractured borrow; res; _4 at 4; _3; …; _0 at 12]
-          assigns ! (of-opd ! (load ! (from ! (hop ! (look ! 10 refl) (stop !))) (look-raw ! 0 refl))) (from ! (stop !)) (init ! 4 refl (is-typed 𝓤 H A W h was .0)) $
-          shut ! tt q′ h was b o $ use0 W (raw (Numbers .pre (to-numbers s))) (goes-numbers s was) $
-          called ! fm numbers.ended (numbers.clauses 𝓤 H A at-mem run) known-numbers (to-numbers s) (λ y ws. y ≡ touchNumber (knownTouches s h m)) (λ y ws. id⊢ 𝓤 _)
-          (and-then ! (load ! (from ! (stop !)) (look ! 6 refl)) (and-then ! (load ! (from ! (stop !)) (look ! 4 refl)) (and-then ! (load ! (from ! (stop !)) (look ! 8 refl)) (no-more !)))) (λ u y ws e′ is′.
-          -- [what y owns; …; …; the token; the fractured borrow; res; _4 at 6; _3; …; _0 at 14]
-          land ! (from ! (stop !)) (init ! 14 refl (uint-lawful 𝓤 H A W w64 .typed y _ is′ .0)) $ returns ! (look ! 14 refl) $ forget ! 6 refl $ forget ! 8 refl $ forget ! 10 refl $ forget ! 12 refl $ forget ! 14 refl $
-          move ! (14 ∷ 15 ∷ 12 ∷ 13 ∷ 10 ∷ 11 ∷ 8 ∷ 9 ∷ 6 ∷ 7 ∷ []) $ freed ! $ keep ! (3 ∷ 5 ∷ 4 ∷ 0 ∷ []) $
-          by ! (exits y u (e′ ∙ ap touchNumber (touches-told h m s e)))))))))))
+          -- [a share of the cell; the open borrow; the fractured borrow; res; _5 at 4; _4; …; _0 at 14]
+          assigns ! (of-opd ! (load ! (from ! (hop ! (look ! 12 refl) (fld ! refl (stop !)))) (look-in ! 0 (sub ! usedField refl (unraw ! {τ = T′.mir} (whole !)))))) (from ! (stop !)) (init ! 6 refl (set-laws.the-field-laws .lawful 𝓤 H A W .typed (Set′.the-type .to (h .used)) _ (used-is h was) .0)) $
+          assigns ! (addr ! (from ! (hop ! (look ! 12 refl) (fld ! refl (stop !))))) (from ! (stop !)) (init ! 4 refl (tt, tt)) $
+          shut ! tt q′ h was b o $ move ! (1 ∷ []) $ shr-bor-dup ! $ move ! (0 ∷ 2 ∷ []) $ within-touches ! tt h b o (λ γ₁. move ! (1 ∷ 0 ∷ []) $
+          use2 W (raw (Numbers .pre (to-numbers γ₁ s))) (goes-numbers γ₁ s was) $
+          -- [what the call asks; the fractured borrow; res; _5 at 3; _4; …; _0 at 13]
+          called ! fm numbers.ended (numbers.clauses 𝓤 H A at-mem run) known-numbers (to-numbers γ₁ s) (λ y ws. y ≡ touchNumber (knownTouches s (h .used) (map (λ z. z) (h .touches)) m)) (λ y ws. id⊢ 𝓤 _)
+          (and-then ! (load ! (from ! (stop !)) (look ! 7 refl)) (and-then ! (load ! (from ! (stop !)) (look ! 5 refl)) (and-then ! (load ! (from ! (stop !)) (look ! 3 refl)) (and-then ! (load ! (from ! (stop !)) (look ! 9 refl)) (no-more !))))) (λ u y ws e′ is.
+          move ! (1 ∷ []) $ use1 W (‵ (flft κ q) ⊛ ‵ ftrue) (id⊢ 𝓤 _) $ split ! $ move ! (1 ∷ 3 ∷ []) $ drop ! $ drop ! $
+          -- [the token; what y owns; the fractured borrow; res; _5 at 4; _4; …; _0 at 14]
+          land ! (from ! (stop !)) (init ! 14 refl (uint-lawful 𝓤 H A W w64 .typed y _ is .0)) $ returns ! (look ! 14 refl) $ forget ! 4 refl $ forget ! 6 refl $ forget ! 8 refl $ forget ! 10 refl $ forget ! 12 refl $ forget ! 14 refl $
+          move ! (14 ∷ 15 ∷ 12 ∷ 13 ∷ 10 ∷ 11 ∷ 8 ∷ 9 ∷ 6 ∷ 7 ∷ 4 ∷ 5 ∷ []) $ freed ! $ keep ! (0 ∷ 3 ∷ 2 ∷ 1 ∷ []) $
+          by ! (exits y u (e′ ∙ ap (λ (l : List ℕ). touchNumber (knownTouches s (h .used) l m)) (map-id (h .touches)) ∙ ap touchNumber (touches-told h m s e)))))))))))))
 
 pub keeper-touches-spec : {M : Type 1} → statement M
 unfolding code.routine
