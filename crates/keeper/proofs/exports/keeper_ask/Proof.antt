@@ -20,10 +20,10 @@ use Rattle.lent.proofs.Lent.{R, looked, shut, Equates, applied}
 use Rattle.lent.proofs.Freed.{freed}
 use Rattle.lending.proofs.Passing.{Over, over-lent}
 use Rattle.lending.proofs.Deciding.{Decides, Tells, pair, one}
-use Rattle.keeper.proofs.exports.decided.Symbol as decided-def
-use Rattle.keeper.proofs.exports.decided.Met as decided-thm
-use Rattle.keeper.proofs.exports.told.Symbol as told-def
-use Rattle.keeper.proofs.exports.told.Met as told-thm
+use Rattle.keeper.proofs.steps.decided.Symbol as decided-def
+use Rattle.keeper.proofs.steps.decided.Met as decided-thm
+use Rattle.keeper.proofs.steps.told.Symbol as told-def
+use Rattle.keeper.proofs.steps.told.Met as told-thm
 use Rattle.keeper.proofs.exports.keeper_ask.Key.{name}
 use Rattle.keeper.proofs.exports.keeper_ask as f
 use Rattle.keeper.proofs.exports.keeper_ask.Statement.{statement}
@@ -79,6 +79,6 @@ keeper-ask-spec 𝓤 H 𝓜 𝓖 𝓡 =
     (goes-none-ref 𝓤 H (𝓖 .A) (givenOf 𝓤 H 𝓜 𝓖) 1 (0 ∷ []) tt (plain (λ _. R)) yes, (goes-none 𝓤 H (𝓖 .A) (givenOf 𝓤 H 𝓜 𝓖) 1 (λ _. u8) yes (λ κs x f. refl), (goes-none 𝓤 H (𝓖 .A) (givenOf 𝓤 H 𝓜 𝓖) 1 (λ _. u8) yes (λ κs x f. refl), tt)))
     (λ κs. (ptr-vals, (uint-vals w8, (uint-vals w8, tt)))) (λ κs. (shr-tells (named 0) (κs .0) R, (uint-tells w8, (uint-tells w8, tt))))
     (λ fm κs qs bounds a _ are. walk 𝓤 H (𝓖 .A) (givenOf 𝓤 H 𝓜 𝓖) (𝓜 .mem) (𝓡 .run) (κs .0) (qs .0) (a .0 .ptr .0) (a .0 .ptr .1) (a .0 .name) (a .0 .now) (a .1 .0) (a .1 .1 .0) (are .1 .0 .1) (are .1 .1 .0 .1) (tables 𝓤 H 𝓜 𝓡 code.env .C) (tables 𝓤 H 𝓜 𝓡 code.env .Λ) fm
-    (cited 𝓤 H (Over 𝓤 H (𝓖 .A) Decides) 𝓜 𝓡 code.env decided-def.name decided-def.routine code.calls-keeper·exports·decided (decided-thm.met 𝓤 H 𝓜 𝓖 𝓡))
-    (cited 𝓤 H (Over 𝓤 H (𝓖 .A) Tells) 𝓜 𝓡 code.env told-def.name told-def.routine code.calls-keeper·exports·told (told-thm.met 𝓤 H 𝓜 𝓖 𝓡))
+    (cited 𝓤 H (Over 𝓤 H (𝓖 .A) Decides) 𝓜 𝓡 code.env decided-def.name decided-def.routine code.calls-keeper·steps·decided (decided-thm.met 𝓤 H 𝓜 𝓖 𝓡))
+    (cited 𝓤 H (Over 𝓤 H (𝓖 .A) Tells) 𝓜 𝓡 code.env told-def.name told-def.routine code.calls-keeper·steps·told (told-thm.met 𝓤 H 𝓜 𝓖 𝓡))
     (cited 𝓤 H (Equates 𝓤 H (𝓖 .A) Asked′.the-row u64 askNumber) 𝓜 𝓡 code.env number.name number.routine code.calls-numbers·ask-number (number-thm.met 𝓤 H 𝓜 𝓖 𝓡)))

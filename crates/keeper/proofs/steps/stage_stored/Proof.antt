@@ -31,10 +31,10 @@ use Rattle.lent.proofs.Reading.{agent-val, Agent-is, agent-is, read-agent}
 use Rattle.lent.proofs.Freed.{freed}
 use Rattle.lending.proofs.Placed.{housed, housed-is, store-agent}
 use Rattle.lending.proofs.Deciding.{val}
-use Rattle.keeper.proofs.exports.stage_stored.Key.{name}
-use Rattle.keeper.proofs.exports.stage_stored as f
-use Rattle.keeper.proofs.exports.stage_stored.Statement.{statement}
-use Rattle.keeper.proofs.exports.stage_stored.Code as code
+use Rattle.keeper.proofs.steps.stage_stored.Key.{name}
+use Rattle.keeper.proofs.steps.stage_stored as f
+use Rattle.keeper.proofs.steps.stage_stored.Statement.{statement}
+use Rattle.keeper.proofs.steps.stage_stored.Code as code
 
 abbrev stayed : Stays (f.ended .signature .params) (f.ended .kept)
 stayed = (stay-ref (0 ∷ []) tt (plain (λ _. R)), (stay-none (λ _. u8) yes, (stay-none (λ _. Decision′.the-row) yes, tt)))

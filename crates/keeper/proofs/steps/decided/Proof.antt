@@ -60,12 +60,12 @@ use Rattle.lending.proofs.Passing.{Over, over-lent}
 use Rattle.lending.proofs.Sounding.{Sounds, alone}
 use Rattle.lending.proofs.Deciding.{Changes, wishing}
 use Rattle.lending.proofs.Wholes.{set-val, given-is}
-use Rattle.keeper.proofs.exports.changed.Symbol as changed-def
-use Rattle.keeper.proofs.exports.changed.Met as changed-thm
-use Rattle.keeper.proofs.exports.decided.Key.{name}
-use Rattle.keeper.proofs.exports.decided as f
-use Rattle.keeper.proofs.exports.decided.Statement.{statement}
-use Rattle.keeper.proofs.exports.decided.Code as code
+use Rattle.keeper.proofs.steps.changed.Symbol as changed-def
+use Rattle.keeper.proofs.steps.changed.Met as changed-thm
+use Rattle.keeper.proofs.steps.decided.Key.{name}
+use Rattle.keeper.proofs.steps.decided as f
+use Rattle.keeper.proofs.steps.decided.Statement.{statement}
+use Rattle.keeper.proofs.steps.decided.Code as code
 
 abbrev stayed : Stays (f.ended .signature .params) (f.ended .kept)
 stayed = (stay-none-ref (0 ∷ []) tt (plain (λ _. R)) yes, (stay-none (λ _. u8) yes, (stay-none (λ _. u8) yes, tt)))
@@ -199,7 +199,7 @@ decided-spec 𝓤 H 𝓜 𝓖 𝓡 =
     (cited 𝓤 H (Over 𝓤 H (𝓖 .A) Sounds) 𝓜 𝓡 code.env sound-def.name sound-def.routine code.calls-soundness·sound-lent (sound-thm.met 𝓤 H 𝓜 𝓖 𝓡))
     (cited 𝓤 H (Equates 𝓤 H (𝓖 .A) u8 usize (λ z. z % 64)) 𝓜 𝓡 code.env at-def.name at-def.routine code.calls-table·at (at-thm.met 𝓤 H 𝓜 𝓖 𝓡))
     (cited 𝓤 H (Test 𝓤 H (𝓖 .A) (givenOf 𝓤 H 𝓜 𝓖) (𝓜 .mem) (𝓡 .run)) 𝓜 𝓡 code.env is-def.name is-def.routine code.calls-step·is-step (is-thm.met 𝓤 H 𝓜 𝓖 𝓡))
-    (cited 𝓤 H (Over 𝓤 H (𝓖 .A) Changes) 𝓜 𝓡 code.env changed-def.name changed-def.routine code.calls-keeper·exports·changed (changed-thm.met 𝓤 H 𝓜 𝓖 𝓡))
+    (cited 𝓤 H (Over 𝓤 H (𝓖 .A) Changes) 𝓜 𝓡 code.env changed-def.name changed-def.routine code.calls-keeper·steps·changed (changed-thm.met 𝓤 H 𝓜 𝓖 𝓡))
     (cited 𝓤 H (Equates 𝓤 H (𝓖 .A) Change′.the-row u8 wantedBy) 𝓜 𝓡 code.env wanted-def.name wanted-def.routine code.calls-step·wanted (wanted-thm.met 𝓤 H 𝓜 𝓖 𝓡))
     (cited 𝓤 H (Settle 𝓤 H (𝓖 .A) (givenOf 𝓤 H 𝓜 𝓖) (𝓜 .mem) (𝓡 .run)) 𝓜 𝓡 code.env settled-def.name settled-def.routine code.calls-step·settled (settled-thm.met 𝓤 H 𝓜 𝓖 𝓡))
     (cited 𝓤 H (Refuse 𝓤 H (𝓖 .A) (givenOf 𝓤 H 𝓜 𝓖) (𝓜 .mem) (𝓡 .run)) 𝓜 𝓡 code.env refused-def.name refused-def.routine code.calls-step·refused (refused-thm.met 𝓤 H 𝓜 𝓖 𝓡)))

@@ -52,10 +52,10 @@ use Rattle.lent.proofs.Reading.{agent-val, Agent-is, place-val, Place-is, place
 use Rattle.lent.proofs.Freed.{freed}
 use Rattle.lending.proofs.Wholes.{places-val, set-val, places-are, used-is}
 use Rattle.soundness.proofs.Seeing.{unless}
-use Rattle.keeper.proofs.exports.changed.Key.{name}
-use Rattle.keeper.proofs.exports.changed as f
-use Rattle.keeper.proofs.exports.changed.Statement.{statement}
-use Rattle.keeper.proofs.exports.changed.Code as code
+use Rattle.keeper.proofs.steps.changed.Key.{name}
+use Rattle.keeper.proofs.steps.changed as f
+use Rattle.keeper.proofs.steps.changed.Statement.{statement}
+use Rattle.keeper.proofs.steps.changed.Code as code
 
 abbrev stayed : Stays (f.ended .signature .params) (f.ended .kept)
 stayed = (stay-none-ref (0 ∷ []) tt (plain (λ _. R)) yes, (stay-none (λ _. Agent′.the-row) yes, (stay-none (λ _. u8) yes, tt)))

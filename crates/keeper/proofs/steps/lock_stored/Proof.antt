@@ -20,10 +20,10 @@ use Rattle.lent.proofs.Loop.{at-end}
 use Rattle.lent.proofs.Freed.{freed}
 use Rattle.lending.proofs.Placed.{locked-is, store-lock}
 use Rattle.soundness.proofs.Seeing.{unless}
-use Rattle.keeper.proofs.exports.lock_stored.Key.{name}
-use Rattle.keeper.proofs.exports.lock_stored as f
-use Rattle.keeper.proofs.exports.lock_stored.Statement.{statement}
-use Rattle.keeper.proofs.exports.lock_stored.Code as code
+use Rattle.keeper.proofs.steps.lock_stored.Key.{name}
+use Rattle.keeper.proofs.steps.lock_stored as f
+use Rattle.keeper.proofs.steps.lock_stored.Statement.{statement}
+use Rattle.keeper.proofs.steps.lock_stored.Code as code
 
 abbrev stayed : Stays (f.ended .signature .params) (f.ended .kept)
 stayed = (stay-ref (0 ∷ []) tt (plain (λ _. R)), (stay-none (λ _. u8) yes, (stay-none (λ _. u8) yes, tt)))

@@ -41,10 +41,10 @@ use Rattle.lent.proofs.Freed.{freed}
 use Rattle.lending.proofs.Passing.{Over, over-lent}
 use Rattle.lending.proofs.Deciding.{val}
 use Rattle.lending.proofs.Moves.{motion-of, Wakes, waking}
-use Rattle.keeper.proofs.exports.told.Key.{name}
-use Rattle.keeper.proofs.exports.told as f
-use Rattle.keeper.proofs.exports.told.Statement.{statement}
-use Rattle.keeper.proofs.exports.told.Code as code
+use Rattle.keeper.proofs.steps.told.Key.{name}
+use Rattle.keeper.proofs.steps.told as f
+use Rattle.keeper.proofs.steps.told.Statement.{statement}
+use Rattle.keeper.proofs.steps.told.Code as code
 
 abbrev stayed : Stays (f.ended .signature .params) (f.ended .kept)
 stayed = (stay-none-ref (0 ∷ []) tt (plain (λ _. R)) yes, (stay-none (λ _. u8) yes, (stay-none (λ _. Decision′.the-row) yes, tt)))

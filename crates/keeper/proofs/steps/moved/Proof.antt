@@ -47,12 +47,12 @@ use Rattle.lending.proofs.Passing.{Over, over-open}
 use Rattle.lending.proofs.Altering.{Altered, altering}
 use Rattle.lending.proofs.Deciding.{val}
 use Rattle.lending.proofs.Moves.{motion-of, GoesOn, going-on, Shifts, shifting}
-use Rattle.keeper.proofs.exports.move_goes.Symbol as goes-def
-use Rattle.keeper.proofs.exports.move_goes.Met as goes-thm
-use Rattle.keeper.proofs.exports.moved.Key.{name}
-use Rattle.keeper.proofs.exports.moved as f
-use Rattle.keeper.proofs.exports.moved.Statement.{statement}
-use Rattle.keeper.proofs.exports.moved.Code as code
+use Rattle.keeper.proofs.steps.move_goes.Symbol as goes-def
+use Rattle.keeper.proofs.steps.move_goes.Met as goes-thm
+use Rattle.keeper.proofs.steps.moved.Key.{name}
+use Rattle.keeper.proofs.steps.moved as f
+use Rattle.keeper.proofs.steps.moved.Statement.{statement}
+use Rattle.keeper.proofs.steps.moved.Code as code
 
 abbrev stayed : Stays (f.ended .signature .params) (f.ended .kept)
 stayed = (stay-ref (0 ∷ []) tt (plain (λ _. R)), (stay-none (λ _. u8) yes, (stay-none (λ _. Decision′.the-row) yes, (stay-none (λ _. bool) yes, (stay-none (λ _. u64) yes, tt)))))
@@ -159,6 +159,6 @@ moved-spec 𝓤 H 𝓜 𝓖 𝓡 =
     (λ κs. (ptr-vals, (uint-vals w8, (LL.vals Decision′.the-type decision-laws.the-laws, (bool-vals, (uint-vals w64, tt)))))) (λ κs. (mut-tells (named 0) (κs .0) R, (uint-tells w8, (LL.tells Decision′.the-type decision-laws.the-laws, (bool-tells, (uint-tells w64, tt))))))
     (λ fm κs qs bounds a _ are. walk 𝓤 H (𝓖 .A) (givenOf 𝓤 H 𝓜 𝓖) (𝓜 .mem) (𝓡 .run) (κs .0) (qs .0) (a .0 .ptr .0) (a .0 .ptr .1) (a .0 .name) (a .0 .now) (a .1 .0) (a .1 .1 .0) (a .1 .1 .1 .0) (a .1 .1 .1 .1 .0) (are .1 .0 .1) (are .1 .1 .0) (are .1 .1 .1 .1 .0 .1) (tables 𝓤 H 𝓜 𝓡 code.env .C) (tables 𝓤 H 𝓜 𝓡 code.env .Λ) fm
     (cited 𝓤 H (Equates 𝓤 H (𝓖 .A) u8 usize (λ w. w % 64)) 𝓜 𝓡 code.env at-def.name at-def.routine code.calls-table·at (at-thm.met 𝓤 H 𝓜 𝓖 𝓡))
-    (cited 𝓤 H (Over 𝓤 H (𝓖 .A) GoesOn) 𝓜 𝓡 code.env goes-def.name goes-def.routine code.calls-keeper·exports·move-goes (goes-thm.met 𝓤 H 𝓜 𝓖 𝓡))
+    (cited 𝓤 H (Over 𝓤 H (𝓖 .A) GoesOn) 𝓜 𝓡 code.env goes-def.name goes-def.routine code.calls-keeper·steps·move-goes (goes-thm.met 𝓤 H 𝓜 𝓖 𝓡))
     (cited 𝓤 H (Altered 𝓤 H (𝓖 .A) Shifts) 𝓜 𝓡 code.env shift-def.name shift-def.routine code.calls-moving·shift-lent (shift-thm.met 𝓤 H 𝓜 𝓖 𝓡))
     (cited 𝓤 H (Equates 𝓤 H (𝓖 .A) Answer′.the-row u64 stepNumber) 𝓜 𝓡 code.env number.name number.routine code.calls-numbers·step-number (number-thm.met 𝓤 H 𝓜 𝓖 𝓡)))

@@ -38,14 +38,14 @@ use Rattle.lending.proofs.Deciding.{val}
 use Rattle.lending.proofs.Altering.{Altered, altering}
 use Rattle.lending.proofs.Locking.{Locks, locking, Stages, staging}
 use Rattle.soundness.proofs.Seeing.{unless}
-use Rattle.keeper.proofs.exports.stage_stored.Symbol as stage-def
-use Rattle.keeper.proofs.exports.stage_stored.Met as stage-thm
-use Rattle.keeper.proofs.exports.lock_stored.Symbol as lock-def
-use Rattle.keeper.proofs.exports.lock_stored.Met as lock-thm
-use Rattle.keeper.proofs.exports.settled.Key.{name}
-use Rattle.keeper.proofs.exports.settled as f
-use Rattle.keeper.proofs.exports.settled.Statement.{statement}
-use Rattle.keeper.proofs.exports.settled.Code as code
+use Rattle.keeper.proofs.steps.stage_stored.Symbol as stage-def
+use Rattle.keeper.proofs.steps.stage_stored.Met as stage-thm
+use Rattle.keeper.proofs.steps.lock_stored.Symbol as lock-def
+use Rattle.keeper.proofs.steps.lock_stored.Met as lock-thm
+use Rattle.keeper.proofs.steps.settled.Key.{name}
+use Rattle.keeper.proofs.steps.settled as f
+use Rattle.keeper.proofs.steps.settled.Statement.{statement}
+use Rattle.keeper.proofs.steps.settled.Code as code
 
 abbrev stayed : Stays (f.ended .signature .params) (f.ended .kept)
 stayed = (stay-ref (0 ∷ []) tt (plain (λ _. R)), (stay-none (λ _. u8) yes, (stay-none (λ _. Decision′.the-row) yes, (stay-none (λ _. bool) yes, (stay-none (λ _. u64) yes, tt)))))
@@ -159,6 +159,6 @@ settled-spec 𝓤 H 𝓜 𝓖 𝓡 =
     (λ κs. (ptr-vals, (uint-vals w8, (LL.vals Decision′.the-type decision-laws.the-laws, (bool-vals, (uint-vals w64, tt)))))) (λ κs. (mut-tells (named 0) (κs .0) R, (uint-tells w8, (LL.tells Decision′.the-type decision-laws.the-laws, (bool-tells, (uint-tells w64, tt))))))
     (λ fm κs qs bounds a _ are. walk 𝓤 H (𝓖 .A) (givenOf 𝓤 H 𝓜 𝓖) (𝓜 .mem) (𝓡 .run) (κs .0) (qs .0) (a .0 .ptr .0) (a .0 .ptr .1) (a .0 .name) (a .0 .now) (a .1 .0) (a .1 .1 .0) (a .1 .1 .1 .0) (a .1 .1 .1 .1 .0) (are .1 .0 .1) (are .1 .1 .0) (are .1 .1 .1 .1 .0 .1) (tables 𝓤 H 𝓜 𝓡 code.env .C) (tables 𝓤 H 𝓜 𝓡 code.env .Λ) fm
     (cited 𝓤 H (Goes 𝓤 H (𝓖 .A) (givenOf 𝓤 H 𝓜 𝓖) (𝓜 .mem) (𝓡 .run)) 𝓜 𝓡 code.env goes-def.name goes-def.routine code.calls-asking·goes-on (goes-thm.met 𝓤 H 𝓜 𝓖 𝓡))
-    (cited 𝓤 H (Altered 𝓤 H (𝓖 .A) Stages) 𝓜 𝓡 code.env stage-def.name stage-def.routine code.calls-keeper·exports·stage-stored (stage-thm.met 𝓤 H 𝓜 𝓖 𝓡))
-    (cited 𝓤 H (Altered 𝓤 H (𝓖 .A) Locks) 𝓜 𝓡 code.env lock-def.name lock-def.routine code.calls-keeper·exports·lock-stored (lock-thm.met 𝓤 H 𝓜 𝓖 𝓡))
+    (cited 𝓤 H (Altered 𝓤 H (𝓖 .A) Stages) 𝓜 𝓡 code.env stage-def.name stage-def.routine code.calls-keeper·steps·stage-stored (stage-thm.met 𝓤 H 𝓜 𝓖 𝓡))
+    (cited 𝓤 H (Altered 𝓤 H (𝓖 .A) Locks) 𝓜 𝓡 code.env lock-def.name lock-def.routine code.calls-keeper·steps·lock-stored (lock-thm.met 𝓤 H 𝓜 𝓖 𝓡))
     (cited 𝓤 H (Equates 𝓤 H (𝓖 .A) Answer′.the-row u64 stepNumber) 𝓜 𝓡 code.env number.name number.routine code.calls-numbers·step-number (number-thm.met 𝓤 H 𝓜 𝓖 𝓡)))

@@ -35,10 +35,10 @@ use Rattle.lent.proofs.Freed.{freed}
 use Rattle.lending.proofs.Passing.{Over, over-lent}
 use Rattle.lending.proofs.Deciding.{val}
 use Rattle.lending.proofs.Moves.{motion-of, Wakes, waking}
-use Rattle.keeper.proofs.exports.move_goes.Key.{name}
-use Rattle.keeper.proofs.exports.move_goes as f
-use Rattle.keeper.proofs.exports.move_goes.Statement.{statement}
-use Rattle.keeper.proofs.exports.move_goes.Code as code
+use Rattle.keeper.proofs.steps.move_goes.Key.{name}
+use Rattle.keeper.proofs.steps.move_goes as f
+use Rattle.keeper.proofs.steps.move_goes.Statement.{statement}
+use Rattle.keeper.proofs.steps.move_goes.Code as code
 
 abbrev stayed : Stays (f.ended .signature .params) (f.ended .kept)
 stayed = (stay-none-ref (0 ∷ []) tt (plain (λ _. R)) yes, (stay-none (λ _. Agent′.the-row) yes, (stay-none (λ _. Decision′.the-row) yes, (stay-none (λ _. bool) yes, (stay-none (λ _. u64) yes, tt)))))

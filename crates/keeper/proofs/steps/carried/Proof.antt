@@ -22,14 +22,14 @@ use Rattle.lent.proofs.Freed.{freed}
 use Rattle.lending.proofs.Deciding.{val}
 use Rattle.soundness.proofs.Seeing.{unless}
 use Rattle.lending.proofs.Deciding.{Carries, carrying}
-use Rattle.keeper.proofs.exports.moved.Symbol as moved-def
-use Rattle.keeper.proofs.exports.moved.Met as moved-thm
-use Rattle.keeper.proofs.exports.settled.Symbol as settled-def
-use Rattle.keeper.proofs.exports.settled.Met as settled-thm
-use Rattle.keeper.proofs.exports.carried.Key.{name}
-use Rattle.keeper.proofs.exports.carried as f
-use Rattle.keeper.proofs.exports.carried.Statement.{statement}
-use Rattle.keeper.proofs.exports.carried.Code as code
+use Rattle.keeper.proofs.steps.moved.Symbol as moved-def
+use Rattle.keeper.proofs.steps.moved.Met as moved-thm
+use Rattle.keeper.proofs.steps.settled.Symbol as settled-def
+use Rattle.keeper.proofs.steps.settled.Met as settled-thm
+use Rattle.keeper.proofs.steps.carried.Key.{name}
+use Rattle.keeper.proofs.steps.carried as f
+use Rattle.keeper.proofs.steps.carried.Statement.{statement}
+use Rattle.keeper.proofs.steps.carried.Code as code
 
 abbrev stayed : Stays (f.ended .signature .params) (f.ended .kept)
 stayed = (gave-ref (0 ∷ []) tt (plain (λ _. R)), (stay-none (λ _. u8) yes, (stay-none (λ _. Decision′.the-row) yes, (stay-none (λ _. bool) yes, (stay-none (λ _. u64) yes, tt)))))
@@ -100,5 +100,5 @@ carried-spec 𝓤 H 𝓜 𝓖 𝓡 =
     (goes-gave-ref 𝓤 H (𝓖 .A) (givenOf 𝓤 H 𝓜 𝓖) 1 0 tt (plain (λ _. R)), (goes-none 𝓤 H (𝓖 .A) (givenOf 𝓤 H 𝓜 𝓖) 1 (λ _. u8) yes (λ κs x f. refl), (goes-none 𝓤 H (𝓖 .A) (givenOf 𝓤 H 𝓜 𝓖) 1 (λ _. Decision′.the-row) yes (λ κs x f. refl), (goes-none 𝓤 H (𝓖 .A) (givenOf 𝓤 H 𝓜 𝓖) 1 (λ _. bool) yes (λ κs x f. refl), (goes-none 𝓤 H (𝓖 .A) (givenOf 𝓤 H 𝓜 𝓖) 1 (λ _. u64) yes (λ κs x f. refl), tt)))))
     (λ κs. (ptr-vals, (uint-vals w8, (LL.vals Decision′.the-type decision-laws.the-laws, (bool-vals, (uint-vals w64, tt)))))) (λ κs. (mut-tells (named 0) (κs .0) R, (uint-tells w8, (LL.tells Decision′.the-type decision-laws.the-laws, (bool-tells, (uint-tells w64, tt))))))
     (λ fm κs qs bounds a _ are. walk 𝓤 H (𝓖 .A) (givenOf 𝓤 H 𝓜 𝓖) (𝓜 .mem) (𝓡 .run) (κs .0) (qs .0) (a .0 .ptr .0) (a .0 .ptr .1) (a .0 .name) (a .0 .now) (a .1 .0) (a .1 .1 .0) (a .1 .1 .1 .0) (a .1 .1 .1 .1 .0) (are .1 .0 .1) (are .1 .1 .0) (are .1 .1 .1 .1 .0 .1) (tables 𝓤 H 𝓜 𝓡 code.env .C) (tables 𝓤 H 𝓜 𝓡 code.env .Λ) fm
-    (cited 𝓤 H (Carries 𝓤 H (𝓖 .A) movedIf) 𝓜 𝓡 code.env moved-def.name moved-def.routine code.calls-keeper·exports·moved (moved-thm.met 𝓤 H 𝓜 𝓖 𝓡))
-    (cited 𝓤 H (Carries 𝓤 H (𝓖 .A) settledIf) 𝓜 𝓡 code.env settled-def.name settled-def.routine code.calls-keeper·exports·settled (settled-thm.met 𝓤 H 𝓜 𝓖 𝓡)))
+    (cited 𝓤 H (Carries 𝓤 H (𝓖 .A) movedIf) 𝓜 𝓡 code.env moved-def.name moved-def.routine code.calls-keeper·steps·moved (moved-thm.met 𝓤 H 𝓜 𝓖 𝓡))
+    (cited 𝓤 H (Carries 𝓤 H (𝓖 .A) settledIf) 𝓜 𝓡 code.env settled-def.name settled-def.routine code.calls-keeper·steps·settled (settled-thm.met 𝓤 H 𝓜 𝓖 𝓡)))
