@@ -1,5 +1,6 @@
 -- One computed table, one result: document 01's bench cases that are marked P, the worked example of `walk`, and rows for each refusal, each
--- step and the listing. The rows stand by subject in modules of their own.
+-- step and the listing. The rows stand by subject in modules of their own. Each list of rows is computed by itself, so that a slip in a definition
+-- shows at the rows that it is about.
 use mathlib.Core.Path.{_≡_, refl}
 use mathlib.Core.Bool.{Bool, true, false, _&&_}
 use mathlib.Core.List.{List, [], _∷_, _++_}
@@ -52,8 +53,10 @@ use Rattle.meaning.specs.BenchKeys.{keyRows, keyNumbers}
 use Rattle.meaning.specs.BenchPlain.{plainRows}
 use Rattle.meaning.specs.BenchRelease.{releaseRows, carrier, rested, releaseNumbers}
 
-pub rows : List Row
-rows = keyRows ++ (firstRows ++ (releaseRows ++ (fileRows ++ (listingRows ++ (paperRows ++ (slipRows ++ stepRows))))))
+-- every row passes a test
+pub every : {A : Type 0} → (A → Bool) → List A → Bool
+every test [] = true
+every test (row ∷ rest) = test row && every test rest
 
 -- two texts are the same
 same : List ℕ → List ℕ → Bool
@@ -67,39 +70,123 @@ textOf : List String → List ℕ
 textOf [] = []
 textOf (line ∷ lines) = ascii line ++ (10 ∷ textOf lines)
 
--- every row's report is its lines
-pub allSame : List Row → Bool
-unfolding same textOf
-allSame [] = true
-allSame (r ∷ rest) = same (report (r .cell) (r .order)) (textOf (r .lines)) && allSame rest
+-- ---- what walk writes
+
+-- a row's report is its lines; to open this is to open every definition that walk rests on
+pub writes : Row → Bool
+unfolding every textOf file manyOpens calls same has wordOf countOf lowestOf freshNumber keep later firstIn occurs counting countingRow hasAll allSmall
+    rowFits chosenOf upd tab foldUp allBelow anyBelow countBelow iter cellOf tableOf bareTable linked linkedTo travels nextAction actionsFit ready
+    holdsBoth stageFits firstHeld secondHeld lockIs claims agentFits goingFrom goes placeFits coreSound sumBelow touchSum booksSound sound
+    placeRecord agentRecord actionRecord touchRecord recordAt addPlace addAgent withAction addAction giveTouches loadRecord loadFrom load onWayTo
+    awaited entersAt exitsFrom opensAt qualifies choose fires stays still turn take release asleepOn wake look lockFirst put putOrSleep lockSecond
+    hold leave dissolveAgent wokenBy dissolveLock dissolve act arrive travel stepAt step made turnedAway stepOf digits gap kindText actionText
+    agentText listsIn textsOf agentTexts standsUnder isPlain slashed nameText bracketed placeTexts leq insert sorted joinedAll inOrder contentsText
+    listing wordText stepLine refusedLine listingLine callsIn reportRun reportOf report
+writes r = same (report (r .cell) (r .order)) (textOf (r .lines))
+
+keys : every writes keyRows ≡ true
+unfolding writes keyRows
+keys = refl
+
+firstTaken : every writes firstRows ≡ true
+unfolding writes firstRows
+firstTaken = refl
+
+releases : every writes releaseRows ≡ true
+unfolding writes releaseRows
+releases = refl
+
+files : every writes fileRows ≡ true
+unfolding writes fileRows
+files = refl
+
+listings : every writes listingRows ≡ true
+unfolding writes listingRows
+listings = refl
+
+paper : every writes paperRows ≡ true
+unfolding writes paperRows
+paper = refl
+
+slips : every writes slipRows ≡ true
+unfolding writes slipRows
+slips = refl
+
+steps : every writes stepRows ≡ true
+unfolding writes stepRows
+steps = refl
+
+pub rows : List (List Row)
+rows = keyRows ∷ firstRows ∷ releaseRows ∷ fileRows ∷ listingRows ∷ paperRows ∷ slipRows ∷ stepRows ∷ []
 
 -- computed by the checker from the definitions alone
-pub bench : allSame rows ≡ true
-unfolding allSame rows paperRows slipRows fileRows stepRows firstRows releaseRows keyRows listingRows textOf file manyOpens calls same has wordOf countOf lowestOf freshNumber keep later firstIn occurs counting countingRow hasAll allSmall rowFits
-    chosenOf upd tab foldUp allBelow anyBelow countBelow iter cellOf tableOf bareTable linked linkedTo travels nextAction actionsFit ready
-    holdsBoth stageFits firstHeld secondHeld lockIs claims agentFits goingFrom goes placeFits coreSound sumBelow touchSum booksSound sound placeRecord agentRecord actionRecord touchRecord
-    recordAt addPlace addAgent withAction addAction giveTouches loadRecord loadFrom load onWayTo awaited entersAt exitsFrom opensAt qualifies choose
-    fires stays still turn take release asleepOn wake look lockFirst put putOrSleep lockSecond hold leave dissolveAgent wokenBy dissolveLock dissolve act
-    arrive travel stepAt step made turnedAway stepOf digits gap kindText actionText agentText listsIn textsOf agentTexts standsUnder isPlain slashed nameText bracketed placeTexts leq insert sorted joinedAll inOrder
-    contentsText listing wordText stepLine refusedLine listingLine callsIn reportRun reportOf report
-bench = refl
+pub bench : every (every writes) rows ≡ true
+unfolding every rows
+bench = rw (keys, firstTaken, releases, files, listings, paper, slips, steps)
 
--- every row computes to the numbers that it is to be
-pub allMeant : List Computed → Bool
-unfolding same
-allMeant [] = true
-allMeant (r ∷ rest) = same (r .value) (r .meant) && allMeant rest
+-- ---- what walk cannot show
 
--- what walk cannot show: the plain tree and the calculus, keys and the row of places in a table, the calls and answers of a host, touches, ask
--- and commit, where a place is, the ceiling, release, the table after each kind of step, soundness clause by clause, and what soundness rules out
-pub numbers : allMeant (plainRows ++ (keyNumbers ++ (orderRows ++ (callRows ++ (touchRows ++ (askRows ++ (whereRows ++ (ceilingRows ++ (releaseNumbers ++ (afterRows ++ (soundRows ++ unsoundRows))))))))))) ≡ true
-unfolding allMeant soundRows unsoundRows callRows afterRows releaseNumbers carrier rested manyPlaces askRows yard toldAt askOf commitOf handedOf whereRows hall shaft outwards nearest holds common nearestOf commonOf ceilingRows worked lone movesLeft changesLeft ceilingOf touchRows orderRows keyNumbers plainRows treeOf plainOf landIn pickOf plainWord plainStep plainRun rowText actsIn treeAgents treePlaces treeContents treeListing
-    standsAt mayEnter mayExit mayOpen hasRoom mayRelease permits putInto openUp putOut move answers rowEnd unused crib counted untouched touchOf touchesOf callOf run sample topmost checkOf idleOf idle loadOf loaded listAnswer listBuffer overlay settled rests file manyOpens
-    calls same has wordOf countOf lowestOf freshNumber keep later firstIn occurs counting countingRow hasAll allSmall rowFits chosenOf upd tab foldUp allBelow anyBelow countBelow iter cellOf tableOf bareTable linked
-    linkedTo travels nextAction actionsFit ready holdsBoth stageFits firstHeld secondHeld lockIs claims agentFits goingFrom goes placeFits
-    coreSound sumBelow touchSum booksSound sound placeRecord agentRecord actionRecord touchRecord recordAt addPlace addAgent withAction addAction giveTouches loadRecord loadFrom load onWayTo awaited
-    entersAt exitsFrom opensAt qualifies choose fires stays still turn take release asleepOn wake look lockFirst put putOrSleep lockSecond hold leave
-    dissolveAgent wokenBy dissolveLock dissolve act arrive travel stepAt step made turnedAway stepOf digits gap kindText actionText
-    agentText listsIn textsOf agentTexts standsUnder isPlain slashed nameText bracketed placeTexts leq insert sorted joinedAll inOrder contentsText listing wordText stepLine refusedLine listingLine callsIn reportRun
-    reportOf report
-numbers = refl
+-- a row computes to the numbers that it is to be; to open this is to open every definition that a host's calls and the plain tree rest on
+unfoldable pub computes : Computed → Bool
+unfolding writes toldAt askOf commitOf handedOf outwards nearest holds common nearestOf commonOf movesLeft changesLeft ceilingOf treeOf plainOf
+    landIn pickOf plainWord plainStep plainRun rowText actsIn treeAgents treePlaces treeContents treeListing standsAt mayEnter mayExit mayOpen
+    hasRoom mayRelease permits putInto openUp putOut move answers rowEnd unused counted untouched touchOf touchesOf callOf run sample topmost checkOf
+    idleOf idle loadOf loaded listAnswer listBuffer overlay settled rests
+computes r = same (r .value) (r .meant)
+
+plain : every computes plainRows ≡ true
+unfolding computes plainRows
+plain = refl
+
+keysKept : every computes keyNumbers ≡ true
+unfolding computes keyNumbers
+keysKept = refl
+
+order : every computes orderRows ≡ true
+unfolding computes orderRows
+order = refl
+
+answered : every computes callRows ≡ true
+unfolding computes callRows
+answered = refl
+
+touches : every computes touchRows ≡ true
+unfolding computes touchRows crib
+touches = refl
+
+asks : every computes askRows ≡ true
+unfolding computes askRows yard
+asks = refl
+
+whereabouts : every computes whereRows ≡ true
+unfolding computes whereRows hall shaft
+whereabouts = refl
+
+ceiling : every computes ceilingRows ≡ true
+unfolding computes ceilingRows worked lone
+ceiling = refl
+
+released : every computes releaseNumbers ≡ true
+unfolding computes releaseNumbers carrier rested manyPlaces
+released = refl
+
+after : every computes afterRows ≡ true
+unfolding computes afterRows
+after = refl
+
+soundness : every computes soundRows ≡ true
+unfolding computes soundRows
+soundness = refl
+
+ruledOut : every computes unsoundRows ≡ true
+unfolding computes unsoundRows
+ruledOut = refl
+
+pub tables : List (List Computed)
+tables = plainRows ∷ keyNumbers ∷ orderRows ∷ callRows ∷ touchRows ∷ askRows ∷ whereRows ∷ ceilingRows ∷ releaseNumbers ∷ afterRows ∷ soundRows ∷ unsoundRows ∷ []
+
+-- the plain tree and the calculus, keys and the row of places in a table, the calls and answers of a host, touches, ask and commit, where a place
+-- is, the ceiling, release, the table after each kind of step, soundness clause by clause, and what soundness rules out
+pub numbers : every (every computes) tables ≡ true
+unfolding every tables
+numbers = rw (plain, keysKept, order, answered, touches, asks, whereabouts, ceiling, released, after, soundness, ruledOut)

@@ -12,6 +12,7 @@ use Rattle.meaning.specs.Run.{stepOf, settled, rests}
 use Rattle.meaning.specs.Listing.{listing, listAnswer, listBuffer}
 use Rattle.meaning.specs.Report.{report}
 use Rattle.meaning.specs.Codes.{idleOf, wordNumber, stepNumber, loadNumber, listNumber, checkNumber, idleNumber}
+use Rattle.meaning.specs.Refusals.{outsideLanguage, tooMany}
 use Rattle.meaning.specs.BenchRow.{hex}
 use Rattle.meaning.specs.BenchTables.{Computed, number, bytes, holds, fails, loadedFrom, placed, notUsed, locked, staged, counted, acting}
 use Rattle.meaning.specs.BenchTables.{sample, holding, entering, exiting, opening, going, going6, topmost}
@@ -103,6 +104,9 @@ callRows =
     ∷ fails (rests (tableOf going6) 0)
     ∷ fails (rests (tableOf opening) 1)
     ∷ fails (rests (tableOf sample) 9)
+    -- "16 for text outside the language", "17 .. for too many of anything"
+    ∷ number 16 outsideLanguage
+    ∷ number 17 tooMany
     -- "A cell is settled when no lock is held and nothing is on its way": read on what is in use
     ∷ holds (settled sample)
     ∷ holds (settled (locked 9 0 (placed 9 5 0 1 sample)))

@@ -35,6 +35,7 @@ pub mod BenchKeys
 pub mod BenchPlain
 pub mod BenchRelease
 pub mod Bench
+pub mod BenchRelations
 pub mod FileLaws
 pub mod OrderLaws
 pub mod AskLaws

@@ -1,1 +1,1 @@
-pub mod Seeing
+mod Seeing

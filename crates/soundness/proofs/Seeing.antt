@@ -1,18 +1,13 @@
--- The call of `see_lent`, which has a cell by reference, as one step of the walks of the exports.
+-- The call of `see_lent`, which has a cell by reference, as one step of the walk of `see`.
 --     Sees           the contract of `see_lent`
 --     seeing         a cell that is open is lent for the call, and comes back as it was
---     seeing-lent    a `&Cell` is passed on, and kept
---     unless         an `if` with no `else`, which follows such a call
 -- Assumes nothing.
-use mathlib.Core.Bool.{Bool, not}
-use lib.Dec.{T}
-use mir.Syntax.{Name, Place, Opd as Operand, Body as Code, seq, call, cond, skip}
-use mir.Val.{vbool}
+use mir.Syntax.{Name, Place, Opd as Operand, Body as Code, seq, call}
 use base.Fml.{fsep, flent}
-use prog.Wp.{Env, Wp, afterSeq}
-use types.Kit.{Item, Seq, Post, post, anyQ, runs, lands, later, some, pick, await, use2, fpick, fpack}
-use types.Run.{Opd, Opds, first, branches, skips}
-use types.Tokens.{lft-new, lft-end, lent-back, res-dup, shr-bor-dup}
+use prog.Wp.{Env}
+use types.Kit.{Item, Seq, Post, runs, lands, later, some, pick, await, use2, fpick, fpack}
+use types.Run.{Opds}
+use types.Tokens.{lft-new, lft-end, lent-back}
 use denote.Laws.{shows}
 use denote.Memory.{cellAt, partOf}
 use denote.Lend.{lends-shr}
@@ -27,7 +22,7 @@ use Rattle.table.proofs.Cell.Laws as T′
 use Rattle.soundness.specs.declared.sound.Seen.{Seen}
 use Rattle.soundness.specs.Seen.{seenOf}
 use Rattle.soundness.proofs.sound.Seen as Seen′
-use Rattle.lent.proofs.Walk.{_≡_, refl, ℕ, _<_, _^_, List, [], _∷_, URA, fullShare, named, w8, Val, vint, vptr, ent, emp, id⊢, GName, Lft, Share, ftrue, flft, fres, fshr-bor, Heap, Calls, Loops, Atoms, fact, Given, ‵, raw, _⊛_, ⋆, _$_, _∵_, !, qed, move, drop, use1, split, join, fsplit, fjoin, fjoin3, feqI, done, FmC, Is, partAt, uint-makes, u8, ShrRef, plain, owned, nothing, Contract, Triple, tripleOf, yes}
+use Rattle.lent.proofs.Walk.{_≡_, refl, ℕ, _<_, _^_, List, [], _∷_, URA, fullShare, named, w8, Val, vint, vptr, ent, emp, id⊢, GName, Lft, Share, ftrue, flft, Heap, Calls, Loops, Atoms, fact, Given, ‵, raw, _⊛_, ⋆, _$_, _∵_, !, qed, move, drop, use1, split, join, fsplit, fjoin, done, FmC, Is, partAt, uint-makes, u8, ShrRef, plain, owned, nothing, Contract, Triple, tripleOf, yes}
 use Rattle.lent.proofs.Lent.{R, mach, had, called}
 
 -- a function of a lent cell and a number, which sees
@@ -68,21 +63,3 @@ module _ {M : Type 1} {𝓤 : URA M} {H : Heap 𝓤} {A : Atoms 𝓤} {K : Type 
       fpick t (λ vs. fsplit t $ spelt t R (Is R) (shows 𝓤 H A R) mach (LL.tells T.the-type T′.the-laws) fullShare h vs b o $
       -- [the cell; what it owns; true; what r owns; …; …]
       move t (1 ∷ 2 ∷ 4 ∷ []) $ drop t $ drop t $ drop t $ move t (1 ∷ 0 ∷ []) $ k v r e is))))
-
-  -- a `&Cell` is passed on to `see_lent`, and kept
-  pub seeing-lent : K → FmC 𝓤 H (W .laws) C → Triple 𝓤 (C g) (Sees 𝓤 H A) → {κ : Lft} {q : Share} {γ : GName} (h : Cell) (b o m : ℕ) → m < 2 ^ 8
-      → ((y : Sees 𝓤 H A .Ghost) → Opds K W (raw (Sees 𝓤 H A .pre y) ∷ ‵ (fres γ (R .coded .code h)) ∷ ‵ (fshr-bor κ (λ s. partAt R s h b o)) ∷ Γ) E xs (vptr b o ∷ vint w8 m ∷ []))
-      → ((v : Val) (r : Seen) → r ≡ seenOf h m → Is Seen′.the-row r (v ∷ []) → Seq K W (‵ (flft κ q) ∷ ‵ (fres γ (R .coded .code h)) ∷ ‵ (fshr-bor κ (λ s. partAt R s h b o)) ∷ Γ) (lands C Λ E d v rest p))
-      → Seq K W (‵ (flft κ q) ∷ ‵ (fres γ (R .coded .code h)) ∷ ‵ (fshr-bor κ (λ s. partAt R s h b o)) ∷ Γ) (runs C Λ E (seq (call g xs d) rest) p)
-  seeing-lent t fm known {κ} {q} {γ} h b o m fits os k =
-      move t (2 ∷ []) $ shr-bor-dup t $ move t (3 ∷ []) $ res-dup t $ feqI t (List Val) (vptr b o ∷ []) (vptr b o ∷ []) refl $ move t (0 ∷ 1 ∷ 3 ∷ []) $ fjoin3 t $
-      -- [the reference; res; the fractured borrow; the token; …]
-      move t (3 ∷ 0 ∷ []) $ use2 W (raw (Sees 𝓤 H A .pre (to-seen 𝓤 H A W κ q γ h b o m))) (goes-seen 𝓤 H A W κ q γ h b o m fits) $
-      called t fm of-seen (sees 𝓤) known (to-seen 𝓤 H A W κ q γ h b o m) (λ r ws. r ≡ seenOf h m) (λ r ws. id⊢ 𝓤 _) (os (to-seen 𝓤 H A W κ q γ h b o m)) (λ v r ws e is.
-      -- [what r owns; the token; …; res; the fractured borrow; …]
-      drop t $ use1 W (‵ (flft κ q) ⊛ ‵ ftrue) (id⊢ 𝓤 _) $ split t $ move t (1 ∷ 2 ∷ []) $ drop t $ drop t $ k v r e is)
-
-module _ {M : Type 1} {𝓤 : URA M} {H : Heap 𝓤} {A : Atoms 𝓤} {K : Type 0} {W : Given 𝓤 H A} {Γ : List (Item 𝓤)} {E : Env 𝓤 H} {C : Calls 𝓤 H} {Λ : Loops 𝓤 H} {q : Post 𝓤 H} {c : Operand} {a rest : Code} {y : Bool} where
-  -- an `if` with no `else`, and then the rest
-  pub unless : K → Opd K W Γ E c (vbool y) → (T y → Seq K W Γ (runs C Λ E a (anyQ (afterSeq 𝓤 H (Wp 𝓤 H C Λ E rest (post 𝓤 H q)) (post 𝓤 H q))))) → (T (not y) → Seq K W Γ (runs C Λ E rest q)) → Seq K W Γ (runs C Λ E (seq (cond c a skip) rest) q)
-  unless t test held failed = first t $ branches t test held (λ f. skips t $ record { prf = failed f .prf })

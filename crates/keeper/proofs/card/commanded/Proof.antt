@@ -27,9 +27,8 @@ use Rattle.resting.proofs.at_rest.Symbol as rest-def
 use Rattle.resting.proofs.at_rest.Met as rest-thm
 use Rattle.lent.proofs.Walk.{_≡_, refl, ap, ℕ, _<_, _^_, List, [], _∷_, URA, fullShare, named, w64, Val, vint, vptr, SProp, ent, emp, id⊢, GName, Lft, Share, ftrue, fat, flft, fobs, fbor, Memory, Routine, Heap, Calls, Loops, WpFn, Atoms, Fun, givenOf, tables, Given, ‵, raw, _⊛_, ⋆, _$_, _∵_, !, qed, by, move, keep, drop, split, join, rewrite, fsplit, fsplit3, fjoin, fjoin3, feqI, suffices, frame, done, look, init, forget, stop, hop, fld, from, load, lit, addr, and-then, no-more, assigns, land, returns, enter, alloc1, alloc0, params1, pass1, pass0, whole, sub, look-in, Body, FmC, owns, Is, mem, uint-makes, uint-lawful, u64, RefT, MutRef, ptr-vals, mut-tells, plain, only, owned, nothing, Contract, Triple, onEntry, tripleOf, cited, says, Stays, stay-ref, stay-none, walkOf, goes-ref, goes-none, ends-at, yes, exported}
 use Rattle.lent.proofs.Lent.{R, opened, closed, called, Equates, applied}
-use Rattle.lent.proofs.Loop.{is-true, is-false}
+use Rattle.lent.proofs.Loop.{is-true, is-false, unless}
 use Rattle.lent.proofs.Freed.{freed}
-use Rattle.soundness.proofs.Seeing.{unless}
 use Rattle.lending.proofs.Passing.{Over, over-open}
 use Rattle.lending.proofs.Sounding.{alone}
 use Rattle.lending.proofs.Altering.{Altered, altering}

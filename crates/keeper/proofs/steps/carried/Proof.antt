@@ -20,7 +20,7 @@ use Rattle.lent.proofs.Walk.{_≡_, refl, ap, _∙_, ℕ, _<_, _^_, List, [], _
 use Rattle.lent.proofs.Lent.{R}
 use Rattle.lent.proofs.Freed.{freed}
 use Rattle.lending.proofs.Deciding.{val}
-use Rattle.soundness.proofs.Seeing.{unless}
+use Rattle.lent.proofs.Loop.{unless}
 use Rattle.lending.proofs.Deciding.{Carries, carrying}
 use Rattle.keeper.proofs.steps.moved.Symbol as moved-def
 use Rattle.keeper.proofs.steps.moved.Met as moved-thm

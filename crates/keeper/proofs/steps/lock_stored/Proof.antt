@@ -16,10 +16,9 @@ use Rattle.step.specs.Decided.{lockedAt}
 use Rattle.step.specs.CarryLaws.{index, lock-none}
 use Rattle.lent.proofs.Walk.{_≡_, refl, sym, ap, _∙_, ℕ, _<_, _^_, List, [], _∷_, URA, fullShare, named, w8, w64, Val, vint, vptr, SProp, ent, GName, Lft, Share, ftrue, fat, flft, fobs, fbor, Memory, Routine, Heap, Calls, Loops, WpFn, Atoms, Fun, givenOf, tables, Given, ‵, _⊛_, ⋆, _$_, _∵_, !, qed, by, move, drop, split, join, rewrite, fsplit, fsplit3, fjoin, fjoin3, feqI, suffices, frame, done, look, init, forget, stop, hop, fld, from, load, lit, addr, of-opd, and-then, no-more, assigns, land, returns, enter, alloc1, alloc0, params1, pass1, pass0, Body, FmC, owns, Is, mem, uint-vals, uint-tells, uint-makes, uint-lawful, u8, RefT, MutRef, ptr-vals, mut-tells, plain, only, owned, nothing, Triple, onEntry, cited, says, Stays, stay-ref, stay-none, walkOf, goes-ref, goes-none, ends-at, yes, exported}
 use Rattle.lent.proofs.Lent.{R, opened, closed, Equates, applied}
-use Rattle.lent.proofs.Loop.{at-end}
+use Rattle.lent.proofs.Loop.{at-end, unless}
 use Rattle.lent.proofs.Freed.{freed}
 use Rattle.lending.proofs.Placed.{locked-is, store-lock}
-use Rattle.soundness.proofs.Seeing.{unless}
 use Rattle.keeper.proofs.steps.lock_stored.Key.{name}
 use Rattle.keeper.proofs.steps.lock_stored as f
 use Rattle.keeper.proofs.steps.lock_stored.Statement.{statement}

@@ -32,12 +32,11 @@ use Rattle.numbers.proofs.step_number.Symbol as number
 use Rattle.numbers.proofs.step_number.Met as number-thm
 use Rattle.lent.proofs.Walk.{_≡_, refl, ap, _∙_, ℕ, _<_, _^_, List, [], _∷_, URA, fullShare, named, w8, w64, Val, vint, vptr, SProp, ent, emp, id⊢, GName, Lft, Share, ftrue, fat, flft, fobs, fbor, Memory, Routine, Heap, Calls, Loops, WpFn, Atoms, Fun, givenOf, tables, Given, ‵, raw, _⊛_, ⋆, _$_, _∵_, !, qed, by, move, drop, split, join, rewrite, fsplit, fsplit3, fjoin, fjoin3, feqI, suffices, frame, done, look, init, forget, stop, hop, fld, from, load, lit, addr, of-opd, and-then, no-more, assigns, land, returns, enter, alloc1, alloc0, params1, pass1, pass0, whole, sub, look-in, Body, FmC, owns, Is, mem, uint-vals, uint-tells, uint-makes, uint-lawful, u8, u64, RefT, MutRef, ptr-vals, mut-tells, plain, only, owned, nothing, Contract, Triple, onEntry, tripleOf, cited, says, Stays, stay-ref, stay-none, walkOf, goes-ref, goes-none, ends-at, yes, exported}
 use Rattle.lent.proofs.Lent.{R, called, Equates, applied}
-use Rattle.lent.proofs.Loop.{is-true, is-false}
+use Rattle.lent.proofs.Loop.{is-true, is-false, unless}
 use Rattle.lent.proofs.Freed.{freed}
 use Rattle.lending.proofs.Deciding.{val}
 use Rattle.lending.proofs.Altering.{Altered, altering}
 use Rattle.lending.proofs.Locking.{Locks, locking, Stages, staging}
-use Rattle.soundness.proofs.Seeing.{unless}
 use Rattle.keeper.proofs.steps.stage_stored.Symbol as stage-def
 use Rattle.keeper.proofs.steps.stage_stored.Met as stage-thm
 use Rattle.keeper.proofs.steps.lock_stored.Symbol as lock-def
