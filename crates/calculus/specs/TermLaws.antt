@@ -1,8 +1,11 @@
 -- Small laws of equivalence: chains, both sides of a parallel, and moving one part past another.
 use mathlib.Core.Path.{_≡_, ap, subst}
+use Prim.Native.Nat.{ℕ}
+use Rattle.table.specs.Kinds.{IsKind, enters, exits, opens, releases}
 use Rattle.table.specs.declared.Name.{Name}
 use Rattle.calculus.specs.Terms.{Term, amb, nil, _∣_, _≅_, struct-refl, struct-symm, struct-trans, struct-par-zero, struct-par-comm}
-use Rattle.calculus.specs.Terms.{struct-par-assoc, struct-par}
+use Rattle.calculus.specs.Terms.{struct-par-assoc, struct-par, struct-enter, struct-exit, struct-open, struct-release}
+use Rattle.calculus.specs.TermOf.{prefix}
 
 infixr 30 _⨾_
 -- (Struct Trans), to be written in a row
@@ -36,3 +39,12 @@ swap = struct-symm struct-par-assoc ⨾ struct-par struct-par-comm ⨾ struct-pa
 -- the middle two of four change places
 pub swap-middle : {P Q R S : Term} → (P ∣ Q) ∣ (R ∣ S) ≅ (P ∣ R) ∣ (Q ∣ S)
 swap-middle = struct-par-assoc ⨾ struct-par-right swap ⨾ struct-symm struct-par-assoc
+
+-- what follows an action is taken up to equivalence too: (Struct Enter), (Struct Exit), 004's (Struct Action) for open, and for release. No claim
+-- on trees asks for this, since there only actions follow an action
+pub behind : {k : ℕ} → IsKind k → (n : ℕ) {P Q : Term} → P ≅ Q → prefix k n P ≅ prefix k n Q
+unfolding prefix
+behind enters n e = struct-enter e
+behind exits n e = struct-exit e
+behind opens n e = struct-open e
+behind releases n e = struct-release e
