@@ -1,4 +1,4 @@
--- Small laws of equivalence: chains, both sides of a parallel, and moving one part past another.
+-- Small laws of equivalence: chains, both sides of a parallel, moving one part past another, and what follows an action.
 use mathlib.Core.Path.{_≡_, ap, subst}
 use Prim.Native.Nat.{ℕ}
 use Rattle.table.specs.Kinds.{IsKind, enters, exits, opens, releases}
