@@ -1,4 +1,7 @@
 // Ask, then commit: what a step would give, and the step made only if it is still that.
+
+#![tactic(auto)]
+
 mod number;
 
 ghost use Rattle.std.specs.Prelude.{◌≡◌};

@@ -4,6 +4,9 @@
 // 2,097,152 bytes or more and a final listing of 65,536 or more are not read. Where one of the three cannot be read, an absent one
 // among them, it writes why to standard error, and nothing to standard output: it says nothing of what it has not read. What it reads of
 // the files decides the finding, and the text holds every line whole (`auditing::write_audit`).
+
+#![tactic(auto)]
+
 ghost use Rattle.std.specs.Prelude.{◌≡◌, length};
 ghost use Rattle.files.specs.Inputs.{Within};
 ghost use Rattle.audit.specs.Names.{naming_by};
@@ -14,7 +17,7 @@ use files::Input;
 use libc::{STDERR_FILENO, STDOUT_FILENO};
 
 // Where the three files' names come from: their own, or three arguments.
-#[derive(Drop)]
+#[derive(Clone, Copy)]
 enum Naming {
     Usual,
     Given,

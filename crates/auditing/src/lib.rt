@@ -1,5 +1,8 @@
 // What audit writes: the finding on the files that its buffers hold, as one line. Nothing that was not read could change it, and none
 // of it is cut.
+
+#![tactic(auto)]
+
 ghost use Rattle.std.specs.Prelude.{◌≡◌, List, ◌++◌, ℕ, ◌<◌, take};
 ghost use Rattle.text.specs.Wrote.{Wrote};
 ghost use Rattle.meaning.specs.Text.{ascii};

@@ -1,5 +1,8 @@
 // Checking a trail, for hosts in C and Rust (Level B): one call, in a library of its own, so that the keeper's are compiled as they
 // are without it.
+
+#![tactic(auto)]
+
 ghost use Rattle.std.specs.Prelude.{◌≡◌};
 ghost use Rattle.trail.specs.Trail.{finding, finding_number};
 

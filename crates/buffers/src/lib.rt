@@ -1,5 +1,8 @@
 // The report of the files of which walk's buffers hold the first bytes. Nothing that was not read could change it, and none of
 // it is cut.
+
+#![tactic(auto)]
+
 mod typed;
 
 ghost use Rattle.std.specs.Prelude.{◌≡◌, List, ℕ, take};

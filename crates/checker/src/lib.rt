@@ -2,6 +2,9 @@
 //
 // No lock is taken and no stage is read. An enter and an exit are two stores into the table; an opening and a release are one call of
 // `moves::shift`, whose time is bounded by the 64 places and agents.
+
+#![tactic(auto)]
+
 mod making;
 mod rules;
 mod turns;
@@ -18,7 +21,7 @@ use trail::Finding;
 use turns::{count_used, turn_of};
 
 // What one move of a trail comes to.
-#[derive(Drop)]
+#[derive(Clone, Copy)]
 pub enum Turn {
     // It is denied for this reason.
     Deny(u8),
@@ -30,7 +33,7 @@ pub enum Turn {
 
 // What becomes of a file and the moves of a trail: the verdict on the file; how many moves are made; the reason why the next is denied, 0
 // where none is; and the table after them.
-#[derive(Drop)]
+#[derive(Clone, Copy)]
 pub struct Played {
     pub verdict: Verdict,
     pub made: usize,

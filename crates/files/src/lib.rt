@@ -1,12 +1,15 @@
 // The files that the programs read: the bytes of one, by its name or by the argument that names it. Where it cannot be read, a line on
 // standard error says why; `program` is the name at the line's start.
+
+#![tactic(auto)]
+
 ghost use Rattle.std.specs.Prelude.{length};
 ghost use Rattle.files.specs.Inputs.{Within};
 
 use libc::{ENOENT, STDERR_FILENO};
 
 // What was read of a file: so many bytes; nothing, and a line has said why; or nothing, since the argument that would name it is empty.
-#[derive(Drop)]
+#[derive(Clone, Copy)]
 pub enum Input {
     Bytes(usize),
     Failed,

@@ -1,4 +1,7 @@
 // What hosts call (Level B): by value here, over a lent cell in `exports`. No call asks anything of its caller.
+
+#![tactic(auto)]
+
 mod card;
 mod exports;
 mod steps;

@@ -1,7 +1,9 @@
 // The machine that reads a listing byte by byte: its states and what a byte does, as values that code and written meaning share.
 
+#![tactic(auto)]
+
 // Which number is being read; the keys carry what was read before them.
-#[derive(Drop)]
+#[derive(Clone, Copy)]
 pub enum Field {
     // A place's name.
     PlaceName,
@@ -16,7 +18,7 @@ pub enum Field {
 }
 
 // What has been read last.
-#[derive(Drop)]
+#[derive(Clone, Copy)]
 pub enum Control {
     // Nothing yet.
     Begin,
@@ -45,7 +47,7 @@ pub enum Control {
 }
 
 // What a byte adds to the cell.
-#[derive(Drop)]
+#[derive(Clone, Copy)]
 pub enum Event {
     Nothing,
     // An agent begins here.
@@ -61,7 +63,7 @@ pub enum Event {
 }
 
 // What a byte does: what has been read then, how many places are open, and what it adds; or no text continues so.
-#[derive(Drop)]
+#[derive(Clone, Copy)]
 pub enum Moved {
     To(Control, usize, Event),
     Off,

@@ -1,1 +1,3 @@
 // Rules for the exports: what is seen of a lent cell, asked of it and stored in it. No code.
+
+#![tactic(auto)]

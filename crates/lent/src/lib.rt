@@ -1,1 +1,3 @@
 // Rules for walks over a lent cell: it is looked into, its elements are read, a function is called. No code.
+
+#![tactic(auto)]

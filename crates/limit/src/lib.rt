@@ -1,4 +1,7 @@
 // How many step calls can still change a cell, at most.
+
+#![tactic(auto)]
+
 ghost use Rattle.std.specs.Prelude.{◌≡◌, ◌-◌};
 ghost use Rattle.sets.specs.Word.{bit};
 ghost use Rattle.table.specs.Cell.{cell_of, row_end};

@@ -1,4 +1,7 @@
 // The lines that walk writes.
+
+#![tactic(auto)]
+
 ghost use Rattle.std.specs.Prelude.{[], ◌∷◌, ◌++◌};
 ghost use Rattle.text.specs.Wrote.{Wrote, Placed};
 ghost use Rattle.meaning.specs.Text.{ascii, decimal};

@@ -1,4 +1,7 @@
 // The listing call: refused, or the listing in the lent buffer. What it writes, lister writes.
+
+#![tactic(auto)]
+
 ghost use Rattle.std.specs.Prelude.{◌≡◌};
 ghost use Rattle.table.specs.Cell.{cell_of};
 ghost use Rattle.meaning.specs.Listing.{listing, list_answer, list_buffer};

@@ -1,5 +1,8 @@
 // Where a place is: the nearest enclosing place of a name, and the innermost that holds or is both of two. A place on its way is read at its
 // destination.
+
+#![tactic(auto)]
+
 mod both;
 mod named;
 

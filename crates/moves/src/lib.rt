@@ -1,4 +1,7 @@
 // A place moves: it goes on its way, it is linked, it is dissolved, or a new one is put.
+
+#![tactic(auto)]
+
 mod open;
 mod places;
 mod putting;
@@ -16,7 +19,7 @@ pub use putting::new_place;
 use table::{Agent, Cell};
 
 // How a place moves.
-#[derive(Drop)]
+#[derive(Clone, Copy)]
 pub enum Motion {
     // The agent's own place goes on its way to this destination.
     Leave(u8),

@@ -1,4 +1,7 @@
 // A place moves in a lent cell: nothing but what changes is written.
+
+#![tactic(auto)]
+
 mod counts;
 mod plan;
 mod rows;

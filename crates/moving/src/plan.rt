@@ -13,7 +13,7 @@ use updates::{at_stage, released};
 
 // Whether place q is opened into p, and if not, the places p, q and r whose sleepers are woken; what the place that moves becomes; the locks, the
 // places in use, the touches of the place that moves and the row; what the agent becomes; and the word that is answered.
-#[derive(Drop)]
+#[derive(Clone, Copy)]
 pub(super) struct Plan {
     pub opens: bool,
     pub p: u8,

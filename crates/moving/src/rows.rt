@@ -8,7 +8,7 @@ use table::Place;
 use updates::released;
 
 // The places, their locks, their touches, and the row of places.
-#[derive(Drop)]
+#[derive(Clone, Copy)]
 pub(super) struct Rows {
     pub places: [Place; 64],
     pub locks: [u8; 64],

@@ -9,7 +9,7 @@ use updates::at_stage;
 
 // The walk: which agent is next, or 64; the agents left, the next one among them; whether place q is opened into p, and if not, the places p, q
 // and r whose sleepers are woken; who was woken, and who let a lock go.
-#[derive(Drop)]
+#[derive(Clone, Copy)]
 pub(super) struct Waking {
     pub at: u8,
     pub rest: Set,
@@ -22,7 +22,7 @@ pub(super) struct Waking {
 }
 
 // What a turn makes: whether the agent changes, what it becomes, and the walk after it.
-#[derive(Drop)]
+#[derive(Clone, Copy)]
 pub(super) struct Turned {
     pub changes: bool,
     pub agent: Agent,

@@ -1,4 +1,7 @@
 // Every answer as one number, for hosts in C: bits 0 to 7 are 0 or the refusal's number, what else there is to say stands above them.
+
+#![tactic(auto)]
+
 ghost use Rattle.std.specs.Prelude.{◌≡◌};
 ghost use Rattle.meaning.specs.Codes as codes;
 ghost use Rattle.trail.specs.Trail as trails;

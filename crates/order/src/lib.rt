@@ -1,4 +1,7 @@
 // A row of place numbers, the longest standing first.
+
+#![tactic(auto)]
+
 ghost use Rattle.std.specs.Prelude.{◌≡◌, ◌≤◌, ltb};
 ghost use Rattle.sets.specs.Word.{bit};
 ghost use Rattle.sets.specs.Set.{member};

@@ -1,4 +1,7 @@
 // A listing read back: the cell of a text.
+
+#![tactic(auto)]
+
 mod build;
 mod finish;
 mod machine;
@@ -22,7 +25,7 @@ use stretch::stretch;
 use table::Cell;
 
 // How many places and agents, the place whose contents are read, and whether there were too many of anything.
-#[derive(Drop)]
+#[derive(Clone, Copy)]
 pub struct Marks {
     pub places: u8,
     pub agents: u8,

@@ -6,7 +6,7 @@ use language::{Control, Field};
 use table::{Action, Agent};
 
 // An agent with its actions so far, what was read last, and the byte that comes next.
-#[derive(Drop)]
+#[derive(Clone, Copy)]
 pub(super) struct Row {
     pub agent: Agent,
     pub at: Control,

@@ -8,7 +8,7 @@ use super::machine::{is_digit, more_digits, wide};
 use language::{Control, Field};
 
 // What was read last, and the byte that comes next.
-#[derive(Drop)]
+#[derive(Clone, Copy)]
 pub(super) struct Reached {
     pub at: Control,
     pub i: usize,

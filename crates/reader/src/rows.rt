@@ -7,7 +7,7 @@ use meaning::Record;
 use table::{Action, Agent};
 
 // An agent with its actions so far, and where the next record starts.
-#[derive(Drop)]
+#[derive(Clone, Copy)]
 pub(super) struct Reached {
     pub agent: Agent,
     pub at: usize,

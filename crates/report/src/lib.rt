@@ -1,4 +1,7 @@
 // The report of a run: the listing at the start, a line for each call, the listing at the end.
+
+#![tactic(auto)]
+
 mod typed;
 
 ghost use Rattle.std.specs.Prelude.{◌≡◌, [], ◌∷◌, ◌++◌, ◌/◌, length};

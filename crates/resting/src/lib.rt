@@ -1,4 +1,7 @@
 // Whether all agents of a lent cell are asleep or done: the cell is read where it lies.
+
+#![tactic(auto)]
+
 ghost use Rattle.std.specs.Prelude.{◌≡◌};
 ghost use Rattle.table.specs.Cell.{cell_of};
 ghost use Rattle.table.specs.Idle.{idle};
@@ -8,7 +11,7 @@ use sets::Set;
 use table::Cell;
 
 // What the agents before said: which one is next, or 64; the agents left, the next one among them; and whether all before are asleep or done.
-#[derive(Drop)]
+#[derive(Clone, Copy)]
 struct Round {
     pub at: u8,
     pub left: Set,

@@ -1,10 +1,13 @@
 // A set of numbers below 64, one bit of a word for each.
+
+#![tactic(auto)]
+
 ghost use Rattle.std.specs.Prelude.{◌≡◌};
 ghost use Rattle.sets.specs.Word.{count_of, lowest_of};
 ghost use Rattle.sets.specs.Set.{member, inserted, inserted_if, removed, united};
 
 #[repr(C)]
-#[derive(Drop)]
+#[derive(Clone, Copy)]
 pub struct Set {
     pub bits: u64,
 }

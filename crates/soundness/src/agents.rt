@@ -12,7 +12,7 @@ use table::{Action, Agent, Place, linked_to};
 // ---- actions
 
 // Whether an agent's unused actions are in range, and the kind of its next one, if so.
-#[derive(Drop)]
+#[derive(Clone, Copy)]
 pub(super) struct Row {
     pub fit: bool,
     pub kind: u8,

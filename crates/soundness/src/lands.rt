@@ -156,7 +156,7 @@ fn all_lead(up: [u8; 64], used: Set, known: Set) -> bool
 
 // What the places before said, the floor first: which one is next, or 64; the places in use; those left, the next one among them; the places
 // whose locks agents hold, and those that they move; those of the places so far that are known to lead to the floor; and whether all of them fit.
-#[derive(Drop)]
+#[derive(Clone, Copy)]
 pub(super) struct Climb {
     pub at: u8,
     pub used: Set,

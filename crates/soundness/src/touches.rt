@@ -8,7 +8,7 @@ use sets::Set;
 const MOST: u64 = 1000000000000;
 
 // Whether the touches sum to at most that, and how many more may come.
-#[derive(Drop)]
+#[derive(Clone, Copy)]
 pub struct Left {
     pub fits: bool,
     pub room: u64,

@@ -11,7 +11,7 @@ use table::{Agent, Place, at, linked_to};
 
 // What the agents before said: which one is next, or 64; the places in use; the agents left, the next one among them; the places whose locks
 // those before hold, and the places that they move; and whether all of them fit.
-#[derive(Drop)]
+#[derive(Clone, Copy)]
 pub(super) struct Walk {
     pub at: u8,
     pub used: Set,
@@ -23,7 +23,7 @@ pub(super) struct Walk {
 
 // What an agent says by itself: whether it holds locks or is on its way, and so is to be asked more; if not, whether it fits; and the kind of
 // its next action, its home, its chosen place and the place that it locked first, if so.
-#[derive(Drop)]
+#[derive(Clone, Copy)]
 pub(super) struct Sight {
     pub busy: bool,
     pub fit: bool,

@@ -2,6 +2,9 @@
 //
 // Each writer is handed a position and lent the part of the buffer from there on. It writes as much of its text as there is
 // room for and answers the position after the whole text.
+
+#![tactic(auto)]
+
 ghost use Rattle.std.specs.Prelude.{◌≡◌, [], ◌∷◌, ◌+◌, ◌-◌};
 ghost use Rattle.meaning.specs.Text.{digits, decimal};
 ghost use Rattle.text.specs.Wrote.{Wrote, Placed, capped, least as least_of};

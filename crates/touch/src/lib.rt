@@ -1,4 +1,7 @@
 // Touch calls: a number is added to the touches of a place, or they are asked for.
+
+#![tactic(auto)]
+
 ghost use Rattle.std.specs.Prelude.{◌≡◌};
 ghost use Rattle.meaning.specs.Touch.{touch_of, touches_of};
 ghost use Rattle.touch.specs.Known.{refusing, counting, known_touch, known_touches};
@@ -8,7 +11,7 @@ use sets::Set;
 use table::Cell;
 
 // What a touch call does: the touches that its place then has, and the answer.
-#[derive(Drop)]
+#[derive(Clone, Copy)]
 pub struct TouchDecision {
     pub count: u64,
     pub answer: Touching,

@@ -1,4 +1,7 @@
 // The small changes and tests that the reader, the parser, the stages and the moves share.
+
+#![tactic(auto)]
+
 ghost use Rattle.std.specs.Prelude.{◌≡◌, ◌&&◌, cond, eqb, leb, get_or};
 ghost use Rattle.table.specs.Base.{tab};
 ghost use Rattle.meaning.specs.Update.{at_stage, with_home};

@@ -6,6 +6,9 @@
 // 0). A text of 65,536 bytes or more is not read. Where anything else keeps it from reading, it writes why to standard error, and
 // nothing to standard output. What it reads of the files decides their report, and the text holds every report whole
 // (`buffers::write_whole`, `buffers::write_typed`).
+
+#![tactic(auto)]
+
 ghost use Rattle.std.specs.Prelude.{◌≡◌, length};
 ghost use Rattle.files.specs.Inputs.{Within};
 ghost use Rattle.walk.specs.Names.{naming_by};
@@ -15,7 +18,7 @@ use files::Input;
 use libc::{STDERR_FILENO, STDOUT_FILENO};
 
 // Where the two files' names come from: their own, two arguments, or two arguments after `--text`.
-#[derive(Drop)]
+#[derive(Clone, Copy)]
 enum Naming {
     Usual,
     Given,

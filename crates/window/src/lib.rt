@@ -1,4 +1,7 @@
 // The register window of a card: eight bytes, and what a command and a clear make of them.
+
+#![tactic(auto)]
+
 mod flags;
 
 ghost use Rattle.std.specs.Prelude.{◌≡◌};
@@ -10,7 +13,7 @@ use table::Cell;
 
 // "Eight bytes: command, agent, wish, answer, woken, flags, mask, line".
 #[repr(C)]
-#[derive(Drop)]
+#[derive(Clone, Copy)]
 pub struct Window {
     pub command: u8,
     pub agent: u8,
@@ -23,7 +26,7 @@ pub struct Window {
 }
 
 // A cell and a window after a command.
-#[derive(Drop)]
+#[derive(Clone, Copy)]
 pub struct Commanded {
     pub cell: Cell,
     pub window: Window,

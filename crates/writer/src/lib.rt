@@ -1,4 +1,7 @@
 // The two bytes that a move adds to a trail, by what an ask told right before its step: a host writes a run's trail with it.
+
+#![tactic(auto)]
+
 ghost use Rattle.std.specs.Prelude.{◌≡◌};
 ghost use Rattle.trail.specs.Written.{word_moves, tells_move, told_answer, told_buffer};
 
