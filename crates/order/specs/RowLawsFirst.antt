@@ -1,6 +1,6 @@
 -- The first of a row that passes a test: it passes, it stands before every other that does, and where there is none none passes. Assumes nothing.
 use Rattle.std.specs.Prelude.{◌≡◌, refl, ◌≢◌, Bool, true, false, List, [], ◌∷◌, ℕ, suc, ◌+◌, ◌≤◌, ◌<◌, eqb, length, get_or, drop}
-use Rattle.std.proofs.Common.{sym, ap, ◌∙◌, arith, drop_of_length-le, drop-cons, eqb-true, eq-eqb}
+use Rattle.std.proofs.Common.{subst, sym, ap, ◌∙◌, arith, drop_of_length-le, drop-cons, eqb-true, eq-eqb}
 use Rattle.sets.specs.ToldLaws.{Told, yea, nay, told, clash}
 use Rattle.order.specs.Row.{first_in, occurs, position_of}
 
@@ -37,7 +37,10 @@ first_before f (r ∷ row) l q t n = go (told (f r)) (told (eqb q r)) (told (eqb
     go (yea e) (nay m) _ h = rw (e, position_of, eq-eqb r r refl, m) (omega arith)
     go (nay e) (yea m) _ h = clash (sym (ap f (eqb-true q r m)) ∙ t) e
     go (nay e) (nay m) (yea k) h = clash (sym (ap f (eqb-true (first_in f row) r k)) ∙ first_fits f row (omega (arith, rw (e, first_in) at l))) e
-    go (nay e) (nay m) (nay k) h = rw (e, position_of, k, m) (let z = h (omega (arith, rw (e, first_in) at l)) q t (λ x. n (x ∙ sym (rw (e, first_in)))) in omega arith)
+    go (nay e) (nay m) (nay k) h =
+        let s : first_in f (r ∷ row) ≡ first_in f row = rw (e, first_in) in
+        subst (λ (y : ℕ). position_of y (r ∷ row) < position_of q (r ∷ row)) (sym s)
+        (rw (position_of, k, m) (let z = h (omega (arith, rw (e, first_in) at l)) q t (λ x. n (x ∙ sym s)) in omega arith))
 
 -- where it is 64, and only numbers below 64 pass, none of the row does
 pub first_none : (f : ℕ → Bool) (row : List ℕ) → ((q : ℕ) → f q ≡ true → q < 64) → 64 ≤ first_in f row → (q : ℕ) → occurs q row ≡ true → f q ≡ false

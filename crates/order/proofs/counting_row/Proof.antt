@@ -6,14 +6,14 @@ use Rattle.order.specs.RowLawsLoops.{Counted, counted_start, counted_turn, count
 use Rattle.order.proofs.counting_row.Statement.{statement}
 use Rattle.order.proofs.counting_row.Tie as tie
 
-abbrev invariant_loop : tie.invariant_loop
+abbrev invariant_loop : tie.invariant-loop-q
 invariant_loop row₀ q₀ row q = Counted row q
 
-abbrev decreases_loop : tie.decreases_loop
+abbrev decreases_loop : tie.decreases-loop-q
 decreases_loop row₀ q₀ row q = 64 - q
 
 pub counting_row_spec : {M : Type 1} → statement M
 counting_row_spec =
     tie.close
     (tie.spec invariant_loop decreases_loop (λ c. counted_start) (λ c. search rules) (λ c. omega arith) (λ c. omega arith) (λ c. omega arith)
-    (λ c. counted_turn c.before.loop.invariant c.loop_test.true) (λ c. counted_end c.before.loop.invariant c.loop_test.false))
+    (λ c. counted_turn c.before.loop-q.invariant c.loop-q-test.true) (λ c. counted_end c.before.loop-q.invariant c.loop-q-test.false))

@@ -8,26 +8,26 @@ use Rattle.order.specs.RowLawsGather.{Gathered, gathered_start, gathered_turn, g
 use Rattle.order.proofs.is_row.Statement.{statement}
 use Rattle.order.proofs.is_row.Tie as tie
 
-abbrev invariant_loop : tie.invariant_loop
+abbrev invariant_loop : tie.invariant-loop-j
 invariant_loop order bits seen₀ j₀ seen j = Gathered order seen j
 
-abbrev decreases_loop : tie.decreases_loop
+abbrev decreases_loop : tie.decreases-loop-j
 decreases_loop order bits seen₀ j₀ seen j = 64 - j
 
-returns : tie.Need-returns invariant_loop decreases_loop
-returns c = large_none _ (sym c.before.bits_of.ensures ∙ le-ltb c.before.bits_of.result 64 c.if1.true)
+returns : tie.Need-returns-then-bits-ge64 invariant_loop decreases_loop
+returns c = large_none _ (sym c.before.bits_of-bits.ensures ∙ le-ltb c.before.bits_of-bits.result 64 c.if-bits-ge64.true)
 
-loop_again : tie.Need-loop-preserved invariant_loop decreases_loop
+loop_again : tie.Need-loop-j-preserved invariant_loop decreases_loop
 loop_again c =
     let l = c.before in
     let b = l.before.before in
-    gathered_turn b.before.well_formed.0.1.0.1 (sym b.bits_of.ensures ∙ lt-ltb b.bits_of.result 64 l.before.if1.false) l.loop.invariant c.loop_test.true
+    gathered_turn b.before.well_formed.0.1.0.1 (sym b.bits_of-bits.ensures ∙ lt-ltb b.bits_of-bits.result 64 l.before.if-bits-ge64.false) l.loop-j.invariant c.loop-j-test.true
 
-returns_2 : tie.Need-returns-2 invariant_loop decreases_loop
+returns_2 : tie.Need-returns invariant_loop decreases_loop
 returns_2 c =
     let l = c.before in
     let b = l.before.before in
-    gathered_all b.before.well_formed.0.1.0.1 (sym b.bits_of.ensures ∙ lt-ltb b.bits_of.result 64 l.before.if1.false) l.loop.invariant c.loop_test.false
+    gathered_all b.before.well_formed.0.1.0.1 (sym b.bits_of-bits.ensures ∙ lt-ltb b.bits_of-bits.result 64 l.before.if-bits-ge64.false) l.loop-j.invariant c.loop-j-test.false
 
 pub is_row_spec : {M : Type 1} → statement M
 is_row_spec =

@@ -13,51 +13,51 @@ use Rattle.order.proofs.later.Lts as lts
 use Rattle.order.proofs.one_if.Reads as one_if_reads
 use Rattle.sets.proofs.Set.has.Reads as has_reads
 
-abbrev invariant_loop : tie.invariant_loop
+abbrev invariant_loop : tie.invariant-loop-j
 invariant_loop s order row₀ members₀ n₀ m₀ j₀ row members n m j = Parted (member s) order row members n m j
 
-abbrev decreases_loop : tie.decreases_loop
+abbrev decreases_loop : tie.decreases-loop-j
 decreases_loop s order row₀ members₀ n₀ m₀ j₀ row members n m j = 64 - j
 
-abbrev invariant_loop2 : tie.invariant_loop2
+abbrev invariant_loop2 : tie.invariant-loop-n
 invariant_loop2 row₀ members n₀ m j i₀ row n i = Rest row₀ members n₀ row n i
 
-abbrev decreases_loop2 : tie.decreases_loop2
+abbrev decreases_loop2 : tie.decreases-loop-n
 decreases_loop2 row₀ members n₀ m j i₀ row n i = 64 - n
 
-loop_holds : tie.Need-loop-init invariant_loop decreases_loop invariant_loop2 decreases_loop2
-loop_holds c = parted_start (member c.args.s) c.args.t1 c.well_formed.0.1.0.1
+loop_holds : tie.Need-loop-j-init invariant_loop decreases_loop invariant_loop2 decreases_loop2
+loop_holds c = parted_start (member c.args.s) c.args.order c.well_formed.0.1.0.1
 
 -- so many are written, and no more than the turns before
-room : (c : tie.After-one-if invariant_loop decreases_loop invariant_loop2 decreases_loop2) → let l = c.before.before.before.loop in (l.n < 64) × (l.m < 64)
+room : (c : tie.After-one_if-one invariant_loop decreases_loop invariant_loop2 decreases_loop2) → let l = c.before.before.before.loop-j in (l.n < 64) × (l.m < 64)
 room c =
-    let l = c.before.before.before.loop in
-    (omega (arith, l.invariant.others.few, c.before.before.loop_test.true), omega (arith, l.invariant.those.few, c.before.before.loop_test.true))
+    let l = c.before.before.before.loop-j in
+    (omega (arith, l.invariant.others.few, c.before.before.loop-j-test.true), omega (arith, l.invariant.those.few, c.before.before.loop-j-test.true))
 
-loop_again : tie.Need-loop-preserved invariant_loop decreases_loop invariant_loop2 decreases_loop2
+loop_again : tie.Need-loop-j-preserved invariant_loop decreases_loop invariant_loop2 decreases_loop2
 loop_again c =
     let l = c.before.before.before in
-    parted_turn (member l.before.args.s) l.before.well_formed.0.1.0.1 l.loop.invariant c.before.before.loop_test.true
-    (c.one_if.ensures.0 ∙ ap bit c.before.has.ensures)
+    parted_turn (member l.before.args.s) l.before.well_formed.0.1.0.1 l.loop-j.invariant c.before.before.loop-j-test.true
+    (c.one_if-one.ensures.0 ∙ ap bit c.before.has.ensures)
 
-loop2_holds : tie.Need-loop2-init invariant_loop decreases_loop invariant_loop2 decreases_loop2
+loop2_holds : tie.Need-loop-n-init invariant_loop decreases_loop invariant_loop2 decreases_loop2
 loop2_holds c =
-    let l = c.before.loop in
+    let l = c.before.loop-j in
     rest_start l.row l.members l.n l.invariant.others.full (omega (arith, l.invariant.others.few, l.invariant.end))
 
-loop2_again : tie.Need-loop2-preserved invariant_loop decreases_loop invariant_loop2 decreases_loop2
-loop2_again c = rest_turn c.before.loop2.invariant c.loop2_test.true c.before.before.before.loop.invariant.those.full _ refl
+loop2_again : tie.Need-loop-n-preserved invariant_loop decreases_loop invariant_loop2 decreases_loop2
+loop2_again c = rest_turn c.before.loop-n.invariant c.loop-n-test.true c.before.before.before.loop-j.invariant.those.full _ refl
 
 returns : tie.Need-returns invariant_loop decreases_loop invariant_loop2 decreases_loop2
 returns c =
     let l = c.before.before.before in
-    parted_end (member l.before.args.s) l.before.args.t1 l.before.well_formed.0.1.0.1 l.loop.invariant c.before.before.loop_test.false
-    c.before.loop2.invariant c.loop2_test.false
+    parted_end (member l.before.args.s) l.before.args.order l.before.well_formed.0.1.0.1 l.loop-j.invariant c.before.before.loop-j-test.false
+    c.before.loop-n.invariant c.loop-n-test.false
 
 pub later_spec : {M : Type 1} → statement M
 later_spec =
     tie.close
     (tie.spec invariant_loop decreases_loop invariant_loop2 decreases_loop2 loop_holds (λ c. omega arith) (λ c κs. search rules) (λ c κs. search rules) (λ c. (room c).0)
-    (λ c. (room c).1) (λ c. c.one_if.ensures.1) (λ c. let r = (room c).0 in omega arith) (λ c. let r = (room c).1 in omega arith) (λ c. omega arith)
-    (λ c. omega arith) loop_again loop2_holds (λ c. omega (arith, c.before.loop2.invariant.many, c.loop2_test.true)) (λ c. omega arith)
+    (λ c. (room c).1) (λ c. c.one_if-one.ensures.1) (λ c. let r = (room c).0 in omega arith) (λ c. let r = (room c).1 in omega arith) (λ c. omega arith)
+    (λ c. omega arith) loop_again loop2_holds (λ c. omega (arith, c.before.loop-n.invariant.many, c.loop-n-test.true)) (λ c. omega arith)
     (λ c. omega arith) (λ c. omega arith) (λ c. omega arith) loop2_again returns)

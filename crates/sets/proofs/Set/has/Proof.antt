@@ -12,4 +12,4 @@ has_spec =
     tie.close
     (tie.spec
     (λ c. search rules) (λ c. refl)
-    (λ c. sym (has_past 64 c.before.args.self.bits c.before.args.i (search rules) c.if1.false)))
+    (λ c. sym (has_past 64 c.before.args.self.bits c.before.args.i (search rules) c.if-i-lt64.false)))

@@ -9,5 +9,5 @@ insert_spec =
     tie.close
     (tie.spec
     (λ c. search rules)
-    (λ c. let a = c.before.before.args in set_eq (or_inserted a.self a.i (search rules) c.before.if1.true))
-    (λ c. inserted_past c.before.args.self c.before.args.i (search rules) c.if1.false))
+    (λ c. let a = c.before.before.args in set_eq (or_inserted a.self a.i (search rules) c.before.if-i-lt64.true))
+    (λ c. inserted_past c.before.args.self c.before.args.i (search rules) c.if-i-lt64.false))

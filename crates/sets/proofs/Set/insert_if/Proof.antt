@@ -7,4 +7,4 @@ pub insert_if_spec : {M : Type 1} → statement M
 insert_if_spec =
     tie.close
     (tie.spec
-    (λ c κs. search rules) (λ c. rw c.before.if1.true c.insert.ensures) (λ c. search rules))
+    (λ c κs. search rules) (λ c. rw c.before.if-b.true c.insert.ensures) (λ c. search rules))

@@ -13,7 +13,7 @@ remove_spec =
     (λ c κs. search rules) (λ c. search rules)
     (λ c.
     let a = c.before.before.before.before.args in
-    set_eq (xor_removed a.self a.i (search rules) c.before.before.before.if1.true
-    (sym c.before.before.has.ensures ∙ c.before.if2.true)))
-    (λ c. let a = c.before.before.before.args in removed_none a.self a.i (search rules) (sym c.before.has.ensures ∙ c.if2.false))
-    (λ c. let a = c.before.args in removed_none a.self a.i (search rules) (has_past 64 a.self.bits a.i (search rules) c.if1.false)))
+    set_eq (xor_removed a.self a.i (search rules) c.before.before.before.if-i-lt64.true
+    (sym c.before.before.has.ensures ∙ c.before.if-has.true)))
+    (λ c. let a = c.before.before.before.args in removed_none a.self a.i (search rules) (sym c.before.has.ensures ∙ c.if-has.false))
+    (λ c. let a = c.before.args in removed_none a.self a.i (search rules) (has_past 64 a.self.bits a.i (search rules) c.if-i-lt64.false)))

@@ -11,5 +11,5 @@ rest_spec =
     tie.close
     (tie.spec
     (λ c. omega arith)
-    (λ c. removed_empty c.before.before.args.self c.if1.true)
+    (λ c. removed_empty c.before.before.args.self c.if-self-eq0.true)
     (λ c. set_eq (and_removed c.before.before.before.before.args.self (search rules) (omega arith))))
