@@ -7,5 +7,5 @@ pub linked_to_spec : {M : Type 1} → statement M
 linked_to_spec =
     tie.close
     (tie.spec
-    (λ c. rw (c.before.before.before.if1.true, eq-eqb _ _ c.before.if2.true))
-    (λ c. rw (c.before.before.if1.true, ne_eqb _ _ c.if2.false)) (λ c. rw c.if1.false))
+    (λ c. rw (c.before.before.before.if-known.true, eq-eqb _ _ c.before.if-x-eq0.true))
+    (λ c. rw (c.before.before.if-known.true, ne_eqb _ _ c.if-x-eq0.false)) (λ c. rw c.if-known.false))

@@ -29,4 +29,4 @@ next_action_spec =
     (tie.spec
     (λ c. search rules) (λ c. search rules) (λ c. search rules) (λ c κs. search rules) (λ c κs. search rules)
     (λ c. found _ (omega arith) (omega arith)) (λ c. c.no_action.ensures ∙ past_the_row _ (omega arith) (omega arith))
-    (λ c. c.no_action2.ensures ∙ none_left _ (omega arith)))
+    (λ c. c.no_action-else-a.ensures ∙ none_left _ (omega arith)))

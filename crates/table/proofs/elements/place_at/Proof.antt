@@ -11,4 +11,4 @@ place_at_spec =
     tie.close
     (tie.spec
     (λ c. search rules) (λ c. search rules) (λ c κs. search rules) (λ c. search rules)
-    (λ c. let f = c.before.before in c.no_place.ensures ∙ sym (read_past no_place f.args.t1 _ f.well_formed.0.1.0.1 c.before.if1.false)))
+    (λ c. let f = c.before.before in c.no_place.ensures ∙ sym (read_past no_place f.args.ps _ f.well_formed.0.1.0.1 c.before.if-q-lt64.false)))

@@ -11,5 +11,5 @@ with_place_spec =
     tie.close
     (tie.spec
     (λ c. search rules) (λ c. search rules)
-    (λ c. let a = c.before.args in set_list no_place a.ps 64 a.q a.x c.before.well_formed.0.1.0.1 c.if1.true)
-    (λ c. store_past no_place _ _ _ c.before.well_formed.0.1.0.1 c.if1.false))
+    (λ c. let a = c.before.args in set_list no_place a.ps 64 a.q a.x c.before.well_formed.0.1.0.1 c.if-q-lt64.true)
+    (λ c. store_past no_place _ _ _ c.before.well_formed.0.1.0.1 c.if-q-lt64.false))

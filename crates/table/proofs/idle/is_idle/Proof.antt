@@ -24,60 +24,60 @@ rests t j = cond (has t.given.bits j) (rests_at (get_or t.agents j no_agent).sta
 not_given : (t : Cell) (j : ℕ) → has t.given.bits j ≡ false → rests t j ≡ true
 not_given t j e = rw e
 
-abbrev invariant_loop : tie.invariant_loop
+abbrev invariant_loop : tie.invariant-loop-rest
 invariant_loop c rest₀ rest = Tested (has c.given.bits) (rests c) rest
 
-abbrev decreases_loop : tie.decreases_loop
+abbrev decreases_loop : tie.decreases-loop-rest
 decreases_loop c rest₀ rest = rest.bits
 
 -- the agent of this turn is below 64, and is given
-small : (c : tie.After-rest2 invariant_loop decreases_loop) → c.before.first.result < 64
+small : (c : tie.After-rest-rest invariant_loop decreases_loop) → c.before.first-i.result < 64
 small c =
-    let l = c.before.before.before.before.loop in
-    subst (λ (n : ℕ). n < 64) (sym c.before.first.ensures) (rest_lt l.invariant.left (pos_of_ne-zero c.before.before.if1.true))
+    let l = c.before.before.before.before.loop-rest in
+    subst (λ (n : ℕ). n < 64) (sym c.before.first-i.ensures) (rest_lt l.invariant.left (pos_of_ne-zero c.before.before.loop-rest-test.true))
 
-at_rest : (c : tie.After-rest2 invariant_loop decreases_loop) → let a = c.before.before.before.before.before.before.args.t1 in
-    rests a c.before.first.result ≡ rests_at (get_or a.agents c.before.first.result no_agent).stage
+at_rest : (c : tie.After-rest-rest invariant_loop decreases_loop) → let a = c.before.before.before.before.before.before.args.c in
+    rests a c.before.first-i.result ≡ rests_at (get_or a.agents c.before.first-i.result no_agent).stage
 at_rest c =
     let l = c.before.before.before.before in
-    let x = l.before.before.args.t1 in
-    let e : has x.given.bits c.before.first.result ≡ true =
-    ap (has x.given.bits) c.before.first.ensures ∙ rest_member l.loop.invariant.left (pos_of_ne-zero c.before.before.if1.true) in
+    let x = l.before.before.args.c in
+    let e : has x.given.bits c.before.first-i.result ≡ true =
+    ap (has x.given.bits) c.before.first-i.ensures ∙ rest_member l.loop-rest.invariant.left (pos_of_ne-zero c.before.before.loop-rest-test.true) in
     rw e
 
-loop_holds : tie.Need-loop-init invariant_loop decreases_loop
+loop_holds : tie.Need-loop-rest-init invariant_loop decreases_loop
 loop_holds c =
-    let x = c.before.args.t1 in
+    let x = c.before.args.c in
     tested_start (has x.given.bits) (rests x) x.given (rest_start x.given (sized x c.before.well_formed.0).given)
 
-returns : tie.Need-returns invariant_loop decreases_loop
+returns : tie.Need-returns-then-stage-lt7 invariant_loop decreases_loop
 unfolding idle cell_of
 returns c =
     let l = c.before.before.before.before.before in
-    let x = l.before.before.args.t1 in
-    sym (tested_stop (has x.given.bits) (rests x) (not_given x) l.loop.invariant (pos_of_ne-zero c.before.before.before.if1.true)
-    (ap (rests x) (sym c.before.before.first.ensures) ∙ at_rest c.before ∙ lt-leb 7 _ c.if2.true))
+    let x = l.before.before.args.c in
+    sym (tested_stop (has x.given.bits) (rests x) (not_given x) l.loop-rest.invariant (pos_of_ne-zero c.before.before.before.loop-rest-test.true)
+    (ap (rests x) (sym c.before.before.first-i.ensures) ∙ at_rest c.before ∙ lt-leb 7 _ c.if-stage-lt7.true))
 
-loop_less : tie.Need-loop-smaller invariant_loop decreases_loop
+loop_less : tie.Need-loop-rest-smaller invariant_loop decreases_loop
 loop_less c =
-    let l = c.before.before.before.before.before.loop in
-    subst (λ (z : Set). z.bits < l.rest.bits) (sym c.before.rest2.ensures)
-    (removed_less l.rest l.invariant.left.small (pos_of_ne-zero c.before.before.before.if1.true))
+    let l = c.before.before.before.before.before.loop-rest in
+    subst (λ (z : Set). z.bits < l.rest.bits) (sym c.before.rest-rest.ensures)
+    (removed_less l.rest l.invariant.left.small (pos_of_ne-zero c.before.before.before.loop-rest-test.true))
 
-loop_again : tie.Need-loop-preserved invariant_loop decreases_loop
+loop_again : tie.Need-loop-rest-preserved invariant_loop decreases_loop
 loop_again c =
     let l = c.before.before.before.before.before in
-    let x = l.before.before.args.t1 in
-    subst (Tested (has x.given.bits) (rests x)) (sym c.before.rest2.ensures)
-    (tested_more (has x.given.bits) (rests x) (not_given x) l.loop.invariant (pos_of_ne-zero c.before.before.before.if1.true)
-    (ap (rests x) (sym c.before.before.first.ensures) ∙ at_rest c.before ∙ le-leb 7 _ c.if2.false))
+    let x = l.before.before.args.c in
+    subst (Tested (has x.given.bits) (rests x)) (sym c.before.rest-rest.ensures)
+    (tested_more (has x.given.bits) (rests x) (not_given x) l.loop-rest.invariant (pos_of_ne-zero c.before.before.before.loop-rest-test.true)
+    (ap (rests x) (sym c.before.before.first-i.ensures) ∙ at_rest c.before ∙ le-leb 7 _ c.if-stage-lt7.false))
 
-returns_2 : tie.Need-returns-2 invariant_loop decreases_loop
+returns_2 : tie.Need-returns invariant_loop decreases_loop
 unfolding idle cell_of
 returns_2 c =
     let l = c.before.before in
-    let x = l.before.before.args.t1 in
-    sym (tested_end (has x.given.bits) (rests x) (not_given x) l.loop.invariant c.if1.false)
+    let x = l.before.before.args.c in
+    sym (tested_end (has x.given.bits) (rests x) (not_given x) l.loop-rest.invariant c.loop-rest-test.false)
 
 pub is_idle_spec : {M : Type 1} → statement M
 is_idle_spec =
