@@ -1,3 +1,1 @@
 pub mod Held
-pub mod HeldLaws
-pub mod TypedHeldLaws

@@ -1,7 +1,1 @@
 pub mod OnTable
-pub mod BackLaws
-pub mod IntoLaws
-pub mod MadeLaws
-pub mod TestLaws
-pub mod TurnLaws
-pub mod JudgeLaws

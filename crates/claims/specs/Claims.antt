@@ -10,7 +10,7 @@ use Rattle.meaning.specs.Listing.{listing}
 use Rattle.meaning.specs.Plain.{plain_of, says_move}
 use Rattle.meaning.specs.Run.{Call, agent_of, wish_of, call_of}
 use Rattle.calculus.specs.Formed.{Formed}
-use Rattle.calculus.specs.Published.{Moves}
+use Rattle.calculus.specs.Moves.{Moves}
 use Rattle.calculus.specs.Terms.{Term, ◌≅◌, ◌⟶*◌}
 use Rattle.calculus.specs.TermListing.{listed}
 use Rattle.calculus.specs.TermOf.{term}

@@ -1,5 +1,1 @@
 pub mod Claims
-pub mod FollowsLaws
-pub mod ReductionLaws
-pub mod RunLaws
-pub mod AskedLaws

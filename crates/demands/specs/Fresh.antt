@@ -5,7 +5,7 @@ use Rattle.table.specs.Cell.{State, none, no_place, fresh_agent, kind_of, unused
 use Rattle.table.specs.Bounds.{Bounded}
 use Rattle.table.specs.declared.Agent.{Agent}
 use Rattle.demands.specs.Invariant.{Places, Fit}
-use Rattle.demands.specs.Facts.{Whole}
+use Rattle.demands.specs.Whole.{Whole}
 
 -- "an agent loaded without actions is at 8, one loaded with some at 0"
 pub data Starts (a : Agent) : Type 0 where

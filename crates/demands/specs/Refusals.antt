@@ -26,7 +26,7 @@ use Rattle.meaning.specs.Ask.{ask_of, commit_of}
 use Rattle.meaning.specs.Where.{nearest_of, common_of}
 use Rattle.language.specs.Grammar.{Text, Contents, floor_typed, Belongs}
 use Rattle.language.specs.Layout.{fits}
-use Rattle.language.specs.Prefixes.{LongestViable}
+use Rattle.language.specs.Viable.{LongestViable}
 use Rattle.language.specs.Read.{read_of}
 use Rattle.demands.specs.FileFaults.{Fault}
 

@@ -21,7 +21,7 @@ use Rattle.meaning.specs.Run.{step_of}
 use Rattle.meaning.specs.Codes.{step_number}
 use Rattle.window.specs.declared.Window.{Window}
 use Rattle.window.specs.Window.{command_of}
-use Rattle.window.specs.StoredLaws.{stored, stored_flags}
+use Rattle.window.proofs.StoredLaws.{stored, stored_flags}
 use Rattle.window.specs.contracts.Window as T
 use Rattle.window.proofs.Window.TheLaws as T'
 use Rattle.lent.proofs.Walk.{refl, ℕ, ◌<◌, ◌^◌, List, [], ◌∷◌, Ura, full_share, w8, Val, vint, GName, Lft, Share, flft, fobs, fbor, ‵, ◌$◌, ◌∵◌, !, qed, fjoin, done, Body, RattleType, Is, mem, uint_Makes, u8, u64, plain, owned, nothing, yes}

@@ -1,1 +1,2 @@
 pub mod LentWindow
+pub mod Known

@@ -1,11 +1,5 @@
 -- What a call whether all agents are asleep or done answers, told whether the table is sound and whether they are: `idleOf` is the case where it was told the truth.
-use Rattle.std.specs.Prelude.{◌≡◌, Bool, cond}
-use Rattle.std.proofs.Common.{ap₂}
-use Rattle.table.specs.Cell.{cell_of}
-use Rattle.table.specs.Sound.{sound}
-use Rattle.table.specs.Idle.{idle}
-use Rattle.table.specs.declared.Cell.{Cell}
-use Rattle.meaning.specs.Codes.{idle_of}
+use Rattle.std.specs.Prelude.{Bool, cond}
 use Rattle.meaning.specs.Refusals.{unsound_table}
 use Rattle.meaning.specs.declared.Idled.{Idled}
 use Rattle.meaning.specs.declared.Idled.TheVariants.{Idle, Busy, Unknown}
@@ -13,8 +7,3 @@ use Rattle.meaning.specs.declared.Idled.TheVariants.{Idle, Busy, Unknown}
 -- refused by 10, else whether they are
 unfoldable pub known_idle : Bool → Bool → Idled
 known_idle known rest = cond known (cond rest Idle Busy) (Unknown unsound_table)
-
--- told the truth of the table, it is the call
-pub idle_told : (t : Cell) (known rest : Bool) → known ≡ sound (cell_of t) → rest ≡ idle (cell_of t) → known_idle known rest ≡ idle_of t
-unfolding known_idle idle_of
-idle_told t known rest e r = ap₂ known_idle e r

@@ -1,3 +1,1 @@
 pub mod Known
-pub mod LimitLaws
-pub mod WalkLaws

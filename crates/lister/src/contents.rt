@@ -5,7 +5,7 @@
 ghost use Rattle.std.specs.Prelude.{◌<◌};
 ghost use Rattle.sets.specs.Word.{has};
 ghost use Rattle.sets.specs.Set.{member};
-ghost use Rattle.sets.specs.WalkLaws.{Rest};
+ghost use Rattle.sets.specs.Walk.{Rest};
 ghost use Rattle.meaning.specs.Listing.{texts_of};
 ghost use Rattle.text.specs.Wrote.{Wrote};
 ghost use Rattle.lister.specs.Sheet.{row_text, sheet_of, HaveTexts, OnPage, contents_on, place_on};

@@ -1,4 +1,2 @@
 pub mod Outwards
-pub mod OutwardsLaws
 pub mod Known
-pub mod KnownLaws

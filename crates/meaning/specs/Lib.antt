@@ -26,7 +26,6 @@ pub mod BenchSound
 pub mod BenchUnsound
 pub mod BenchCalls
 pub mod BenchAfter
-pub mod BenchTouch
 pub mod BenchAsk
 pub mod BenchWhere
 pub mod BenchCeiling
@@ -34,13 +33,4 @@ pub mod BenchOrder
 pub mod BenchKeys
 pub mod BenchPlain
 pub mod BenchRelease
-pub mod Bench
-pub mod BenchRelations
-pub mod FileLaws
-pub mod OrderLaws
-pub mod AskLaws
-pub mod WhereLaws
 pub mod Every
-pub mod SortedLaws
-pub mod InsertLaws
-pub mod TextsLaws

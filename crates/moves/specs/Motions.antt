@@ -1,5 +1,5 @@
 -- What a motion makes of a cell: the step in which a place moves.
-use Rattle.std.specs.Prelude.{◌≡◌, ℕ, ◌&&◌, refl}
+use Rattle.std.specs.Prelude.{ℕ, ◌&&◌}
 use Rattle.sets.specs.Word.{count_of}
 use Rattle.table.specs.Base.{upd}
 use Rattle.table.specs.Cell.{State}
@@ -33,11 +33,3 @@ woken_in c a (Leave d) = woken_on c a.remembered a.home a.home
 woken_in c a (Arrive d) = woken_on c a.home d (beyond c.land d)
 woken_in c a Dissolve = count_of 64 (λ y. c.given y && woken_by a.remembered a.chosen (c.agent y))
 woken_in c a (Put q) = woken_on c a.remembered a.remembered a.remembered
-
--- that is the number that the motion answers
-pub shifted_woken : (c : State) (x : ℕ) (a : Agent) (m : Motion) → (shifted c x a m).woken ≡ woken_in c a m
-unfolding leave arrive dissolve put
-shifted_woken c x a (Leave d) = refl
-shifted_woken c x a (Arrive d) = refl
-shifted_woken c x a Dissolve = refl
-shifted_woken c x a (Put q) = refl

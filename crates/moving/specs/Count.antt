@@ -1,7 +1,7 @@
 -- The walk over the agents that are given, which tells whom a motion would wake, as the program goes about it.
 use Rattle.std.specs.Prelude.{true, false, ◌&&◌, cond, eqb}
 use Rattle.sets.specs.Set.{member, inserted_if, removed}
-use Rattle.sets.specs.WalkLaws.{lowest_in}
+use Rattle.sets.specs.Walk.{lowest_in}
 use Rattle.sets.specs.declared.Set.{Set}
 use Rattle.table.specs.Cell.{none}
 use Rattle.table.specs.declared.Place.{Place}

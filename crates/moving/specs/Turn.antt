@@ -1,8 +1,8 @@
 -- The walk over the agents that are given, once a place moves: what becomes of one, and what of all of them.
 use Rattle.std.specs.Prelude.{ℕ, Bool, true, false, ◌&&◌, cond, List, eqb, get_or}
 use Rattle.sets.specs.Set.{member, set_of, inserted_if, removed}
-use Rattle.sets.specs.SetLaws.{empty_set}
-use Rattle.sets.specs.WalkLaws.{lowest_in}
+use Rattle.sets.specs.Set.{empty_set}
+use Rattle.sets.specs.Walk.{lowest_in}
 use Rattle.sets.specs.declared.Set.{Set}
 use Rattle.table.specs.Base.{tab}
 use Rattle.table.specs.Cell.{no_agent}

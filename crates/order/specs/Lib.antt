@@ -1,7 +1,1 @@
 pub mod Row
-pub mod RowLaws
-pub mod RowLawsFirst
-pub mod RowLawsLater
-pub mod RowLawsLoops
-pub mod RowLawsLoaded
-pub mod RowLawsGather

@@ -1,12 +1,3 @@
 pub mod Site
-pub mod CodeLaws
-pub mod SoFar
-pub mod Depth
-pub mod RowSoFar
-pub mod Events
-pub mod EventLaws
-pub mod ReadLaws
 pub mod Stretches
-pub mod StretchLaws
 pub mod Rows
-pub mod RowLaws

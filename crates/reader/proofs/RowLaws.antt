@@ -14,7 +14,7 @@ use lib.Seq.{get_or-set_same, set-set}
 use borrow.Author.Tests.{eqb-true, le-ltb, lt-leb, ltb-false}
 use Rattle.sets.specs.Set.{member, inserted_if}
 use Rattle.sets.specs.declared.Set.{Set}
-use Rattle.table.specs.BaseLaws.{length_tab}
+use Rattle.table.proofs.BaseLaws.{length_tab}
 use Rattle.table.specs.Cell.{no_agent, last_kind, table_of, put_agents}
 use Rattle.table.specs.declared.Agent.{Agent}
 use Rattle.table.specs.declared.Cell.{Cell}
@@ -22,11 +22,11 @@ use Rattle.meaning.specs.contracts.Record as rec
 use Rattle.meaning.specs.declared.Record.{Record}
 use Rattle.meaning.specs.declared.Record.TheVariants.{PlaceRecord, AgentRecord, ActionRecord, EndRecord, TouchRecord, Faulty}
 use Rattle.meaning.specs.File.{byte_at, name_at, action_record, Known, record_at, with_action}
-use Rattle.meaning.specs.FileLaws.{Fits, action, record_fits}
+use Rattle.meaning.proofs.FileLaws.{Fits, action, record_fits}
 use Rattle.reader.specs.KnownSets.{known_by}
 use Rattle.reader.specs.ActionRow.{own_record, after_record, with_row}
-use Rattle.reader.specs.LoadRest.{Rest}
-use Rattle.reader.specs.LoadLaws.{rest_action}
+use Rattle.reader.proofs.LoadRest.{Rest}
+use Rattle.reader.proofs.LoadLaws.{rest_action}
 use Rattle.reader.specs.declared.rows.Reached.{Reached}
 
 -- ---- one record of the row

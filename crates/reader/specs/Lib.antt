@@ -1,4 +1,2 @@
 pub mod KnownSets
 pub mod ActionRow
-pub mod LoadRest
-pub mod LoadLaws

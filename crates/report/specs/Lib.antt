@@ -1,4 +1,1 @@
 pub mod Run
-pub mod RunLaws
-pub mod ReportLaws
-pub mod TypedLaws

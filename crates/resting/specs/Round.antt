@@ -1,7 +1,7 @@
 -- The round of the agents as the program goes about it, one at a time.
 use Rattle.std.specs.Prelude.{ℕ, true, false, cond}
 use Rattle.sets.specs.Set.{removed}
-use Rattle.sets.specs.WalkLaws.{lowest_in}
+use Rattle.sets.specs.Walk.{lowest_in}
 use Rattle.sets.specs.declared.Set.{Set}
 use Rattle.table.specs.Idle.{rests_at}
 use Rattle.resting.specs.declared.Round.{Round}

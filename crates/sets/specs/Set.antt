@@ -27,3 +27,7 @@ removed s i = set_of (λ j. not (eqb j i) && member s j)
 -- the members of either
 abbrev pub united : Set → Set → Set
 united s t = set_of (λ j. member s j || member t j)
+
+-- the set without members
+abbrev pub empty_set : Set
+empty_set = record { bits = 0 }

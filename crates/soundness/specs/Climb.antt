@@ -1,8 +1,8 @@
 -- The walk over the places as the program goes about it, after the agents, one turn at a time.
 use Rattle.std.specs.Prelude.{ℕ, ◌≡◌, true, false, cond, List}
 use Rattle.sets.specs.Set.{member, inserted_if, removed}
-use Rattle.sets.specs.SetLaws.{empty_set}
-use Rattle.sets.specs.WalkLaws.{lowest_in}
+use Rattle.sets.specs.Set.{empty_set}
+use Rattle.sets.specs.Walk.{lowest_in}
 use Rattle.sets.specs.declared.Set.{Set}
 use Rattle.table.specs.declared.Place.{Place}
 use Rattle.soundness.specs.Lead.{Ways}

@@ -1,17 +1,6 @@
 pub mod Pass
-pub mod RowLaws
-pub mod AgentLaws
-pub mod PassLaws
 pub mod Lead
-pub mod LeadLaws
-pub mod AllLeadLaws
-pub mod LandLaws
-pub mod SoundLaws
 pub mod Seen
 pub mod Left
-pub mod LeftLaws
 pub mod Turn
-pub mod TurnLaws
-pub mod StageLaws
 pub mod Climb
-pub mod ClimbLaws

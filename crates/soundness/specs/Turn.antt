@@ -3,8 +3,8 @@
 use Rattle.std.specs.Prelude.{ℕ, ◌%◌, ◌≡◌, Bool, true, false, ◌&&◌, cond, List, eqb}
 use Rattle.sets.specs.Word.{has}
 use Rattle.sets.specs.Set.{member, inserted, removed}
-use Rattle.sets.specs.SetLaws.{empty_set}
-use Rattle.sets.specs.WalkLaws.{lowest_in}
+use Rattle.sets.specs.Set.{empty_set}
+use Rattle.sets.specs.Walk.{lowest_in}
 use Rattle.sets.specs.declared.Set.{Set}
 use Rattle.order.specs.Row.{row_fits}
 use Rattle.table.specs.Cell.{has_action, kind_of, cell_of}

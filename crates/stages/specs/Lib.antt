@@ -1,5 +1,1 @@
 pub mod Changes
-pub mod ChangeLaws
-pub mod RowlessLaws
-pub mod ChooseLaws
-pub mod ChildLaws

@@ -1,14 +1,5 @@
 pub mod Base
-pub mod BaseLaws
-pub mod SumLaws
-pub mod SweepLaws
 pub mod Cell
 pub mod Bounds
-pub mod ElementLaws
-pub mod CellLaws
 pub mod Sound
-pub mod SoundParts
 pub mod Idle
-pub mod Kinds
-pub mod FreshLaws
-pub mod TestLaws

@@ -12,7 +12,7 @@ use Rattle.meaning.specs.Report.{Pair, report_of}
 use Rattle.meaning.specs.Run.{Call, step_of, says_rest, rests, settled}
 use Rattle.calculus.specs.Terms.{◌≅◌}
 use Rattle.calculus.specs.TermListing.{listed}
-use Rattle.calculus.specs.TreeNumbers.{Numbers16}
+use Rattle.calculus.specs.Numbers.{Numbers16}
 use Rattle.demands.specs.Fresh.{Fresh}
 use Rattle.demands.specs.AfterCalls.{reached, answered, plain_after, AfterCalls}
 use Rattle.demands.specs.TwoSteps.{MovesReached}

@@ -1,2 +1,0 @@
-pub mod UpdateLaws
-pub mod GatherLaws

@@ -5,7 +5,7 @@ use Rattle.table.proofs.Facts.{sized}
 use Rattle.soundness.specs.declared.sound.Seen.{Seen}
 use Rattle.step.specs.Decided.{decided}
 use Rattle.asking.specs.Asked.{asked_of}
-use Rattle.asking.specs.AskedLaws.{told_of, decided_ask}
+use Rattle.asking.proofs.AskedLaws.{told_of, decided_ask}
 use Rattle.asking.proofs.ask.Statement.{statement}
 use Rattle.asking.proofs.ask.Tie as tie
 

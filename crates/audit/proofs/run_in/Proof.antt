@@ -1,7 +1,7 @@
 -- The part of the text that is shown is the line, which the text holds.
 use mathlib.Core.Path.{sym}
 use lib.Seq.{length-take-le}
-use Rattle.buffers.specs.HeldLaws.{whole_within}
+use Rattle.buffers.proofs.HeldLaws.{whole_within}
 use borrow.Author.Rules.{rules}
 use Rattle.audit.proofs.run_in.Statement.{statement}
 use Rattle.audit.proofs.run_in.Tie as tie

@@ -2,7 +2,7 @@
 use native.Mathlib.Omega.{arith}
 use lib.ListN.{take}
 use Rattle.trail.specs.Trail.{finding}
-use Rattle.auditing.specs.CountedLaws.{line_whole, files_found}
+use Rattle.auditing.proofs.CountedLaws.{line_whole, files_found}
 use borrow.Author.Rules.{rules}
 use Rattle.auditing.proofs.write_audit.Statement.{statement}
 use Rattle.auditing.proofs.write_audit.Tie as tie

@@ -5,7 +5,7 @@ use Prim.Native.Nat.{ℕ}
 use native.Mathlib.Omega.{arith}
 use Rattle.table.specs.Base.{tab}
 use Rattle.meaning.specs.Text.{ascii, decimal}
-use Rattle.text.specs.TextLaws.{least_le, next, wrote_length, wrote_as}
+use Rattle.text.proofs.TextLaws.{least_le, next, wrote_length, wrote_as}
 use Rattle.trail.specs.AuditLine.{reason_text, audit_line}
 use borrow.Author.Rules.{rules}
 use Rattle.auditing.proofs.write_denied.Statement.{statement}

@@ -1,7 +1,7 @@
 -- The finding is one of three, and each has its own writer of the line.
 use mathlib.Core.Path.{subst}
 use Rattle.table.specs.Base.{tab}
-use Rattle.text.specs.TextLaws.{moved, wrote_length}
+use Rattle.text.proofs.TextLaws.{moved, wrote_length}
 use Rattle.trail.specs.AuditLine.{audit_line}
 use Rattle.auditing.specs.Counted.{Counted}
 use borrow.Author.Rules.{rules}

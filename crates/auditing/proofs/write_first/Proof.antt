@@ -2,10 +2,10 @@
 use mathlib.Core.Path.{subst, sym, ap, ◌∙◌}
 use native.Mathlib.Omega.{arith}
 use lib.Seq.{length-take-le}
-use Rattle.text.specs.TextLaws.{least_le, wrote_as}
+use Rattle.text.proofs.TextLaws.{least_le, wrote_as}
 use Rattle.trail.specs.AuditLine.{audit_line}
 use Rattle.auditing.specs.Counted.{Counted}
-use Rattle.auditing.specs.CountedLaws.{counted, found_taken}
+use Rattle.auditing.proofs.CountedLaws.{counted, found_taken}
 use borrow.Author.Rules.{rules}
 use Rattle.auditing.proofs.write_first.Statement.{statement}
 use Rattle.auditing.proofs.write_first.Tie as tie

@@ -2,8 +2,8 @@
 use mathlib.Core.Path.{sym, ap₂}
 use lib.Seq.{length-take-le}
 use Rattle.meaning.specs.Report.{report}
-use Rattle.text.specs.TextLaws.{least_le, wrote_as}
-use Rattle.buffers.specs.HeldLaws.{taken}
+use Rattle.text.proofs.TextLaws.{least_le, wrote_as}
+use Rattle.buffers.proofs.HeldLaws.{taken}
 use borrow.Author.Rules.{rules}
 use Rattle.buffers.proofs.write_first.Statement.{statement}
 use Rattle.buffers.proofs.write_first.Tie as tie

@@ -1,6 +1,6 @@
 -- The buffers' sizes are those of their types, and large enough.
 use native.Mathlib.Omega.{arith}
-use Rattle.buffers.specs.HeldLaws.{read_whole, files_whole}
+use Rattle.buffers.proofs.HeldLaws.{read_whole, files_whole}
 use borrow.Author.Rules.{rules}
 use Rattle.buffers.proofs.write_whole.Statement.{statement}
 use Rattle.buffers.proofs.write_whole.Tie as tie

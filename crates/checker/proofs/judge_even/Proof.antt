@@ -2,7 +2,7 @@
 use mathlib.Core.Path.{◌∙◌}
 use native.Mathlib.Omega.{arith}
 use borrow.Author.Rules.{rules}
-use Rattle.checker.specs.JudgeLaws.{even_found, listing_same, listing_other}
+use Rattle.checker.proofs.JudgeLaws.{even_found, listing_same, listing_other}
 use Rattle.checker.proofs.judge_even.Statement.{statement}
 use Rattle.checker.proofs.judge_even.Tie as tie
 

@@ -2,7 +2,7 @@
 use mathlib.Core.Path.{◌∙◌}
 use native.Mathlib.Omega.{arith}
 use borrow.Author.Rules.{rules}
-use Rattle.checker.specs.JudgeLaws.{odd_found}
+use Rattle.checker.proofs.JudgeLaws.{odd_found}
 use Rattle.checker.proofs.judge_odd.Statement.{statement}
 use Rattle.checker.proofs.judge_odd.Tie as tie
 

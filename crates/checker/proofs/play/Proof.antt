@@ -1,7 +1,7 @@
 -- What the load answered decides: the moves are made, or there is a refusal.
 use mathlib.Core.Path.{refl}
 use borrow.Author.Rules.{rules}
-use Rattle.checker.specs.JudgeLaws.{accepted_ready, plays_on, plays_not}
+use Rattle.checker.proofs.JudgeLaws.{accepted_ready, plays_on, plays_not}
 use Rattle.checker.proofs.play.Statement.{statement}
 use Rattle.checker.proofs.play.Tie as tie
 

@@ -10,8 +10,8 @@ use Rattle.table.specs.Cell.{cell_of}
 use Rattle.meaning.specs.Plain.{tree_of}
 use Rattle.trail.specs.Trail.{judged}
 use Rattle.checker.specs.OnTable.{Ready, Makes, by_listing}
-use Rattle.checker.specs.JudgeLaws.{Left, denied_why, left_more, left_denied, left_none}
-use Rattle.checker.specs.TurnLaws.{Decided, decided, comes_told, comes_into, comes_shift}
+use Rattle.checker.proofs.JudgeLaws.{Left, denied_why, left_more, left_denied, left_none}
+use Rattle.checker.proofs.TurnLaws.{Decided, decided, comes_told, comes_into, comes_shift}
 use Rattle.checker.proofs.run.Statement.{statement}
 use Rattle.checker.proofs.run.Tie as tie
 

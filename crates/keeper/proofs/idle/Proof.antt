@@ -1,7 +1,7 @@
 -- What `idled` answers, told what `is_sound` and `is_idle` answered.
 use mathlib.Core.Path.{◌∙◌}
 use borrow.Author.Rules.{rules}
-use Rattle.keeper.specs.Known.{idle_told}
+use Rattle.keeper.proofs.Known.{idle_told}
 use Rattle.keeper.proofs.idle.Statement.{statement}
 use Rattle.keeper.proofs.idle.Tie as tie
 

@@ -1,5 +1,5 @@
 -- Each branch knows where the stage is.
-use Rattle.limit.specs.LimitLaws.{away_before, away_between, away_after}
+use Rattle.limit.proofs.LimitLaws.{away_before, away_between, away_after}
 use Rattle.limit.proofs.away.Statement.{statement}
 use Rattle.limit.proofs.away.Tie as tie
 

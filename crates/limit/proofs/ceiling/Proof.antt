@@ -1,7 +1,7 @@
 -- What is known, told what `is_sound` and `moves_of` answered, is the answer.
 use mathlib.Core.Path.{◌∙◌}
 use borrow.Author.Rules.{rules}
-use Rattle.limit.specs.LimitLaws.{ceiling_told}
+use Rattle.limit.proofs.LimitLaws.{ceiling_told}
 use Rattle.limit.proofs.ceiling.Statement.{statement}
 use Rattle.limit.proofs.ceiling.Tie as tie
 

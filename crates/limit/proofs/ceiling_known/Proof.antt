@@ -3,9 +3,9 @@ use mathlib.Core.Path.{refl, sym, subst}
 use Prim.Native.Nat.{ℕ, ◌+◌, ◌*◌, ◌≤◌, ◌<◌, ◌^◌}
 use native.Mathlib.Omega.{arith}
 use borrow.Author.Rules.{rules}
-use Rattle.sets.specs.WordLaws.{count_most}
+use Rattle.sets.proofs.WordLaws.{count_most}
 use Rattle.limit.specs.Known.{known_ceiling}
-use Rattle.limit.specs.LimitLaws.{number_most}
+use Rattle.limit.proofs.LimitLaws.{number_most}
 use Rattle.limit.proofs.ceiling_known.Statement.{statement}
 use Rattle.limit.proofs.ceiling_known.Tie as tie
 

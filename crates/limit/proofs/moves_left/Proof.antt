@@ -22,7 +22,8 @@ use denote.Builtin.{u16}
 use denote.Memory.{cell_at, pointee}
 use Rattle.sets.specs.Word.{has}
 use Rattle.sets.specs.Set.{removed}
-use Rattle.sets.specs.WalkLaws.{rest_start, rest_lt, removed_less, lowest_in}
+use Rattle.sets.proofs.WalkLaws.{rest_start, rest_lt, removed_less}
+use Rattle.sets.specs.Walk.{lowest_in}
 use Rattle.sets.specs.declared.Set.{Set}
 use Rattle.sets.specs.contracts.Set as Set'
 use Rattle.sets.proofs.Set.TheLaws as set_laws
@@ -39,8 +40,8 @@ use Rattle.table.proofs.Cell.TheLaws as T'
 use Rattle.table.proofs.Facts.{sized}
 use Rattle.meaning.specs.Limit.{moves_of, moves_left}
 use Rattle.limit.specs.Known.{moves_at}
-use Rattle.limit.specs.LimitLaws.{moves_read, moves_most}
-use Rattle.limit.specs.WalkLaws.{Added, added_start, added_most, added_end, added_more}
+use Rattle.limit.proofs.LimitLaws.{moves_read, moves_most}
+use Rattle.limit.proofs.WalkLaws.{Added, added_start, added_most, added_end, added_more}
 use Rattle.limit.specs.contracts.moves_at as counts
 use Rattle.limit.proofs.moves_at.Symbol as counts_def
 use Rattle.limit.proofs.moves_at.Met as counts_thm

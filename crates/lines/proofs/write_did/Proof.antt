@@ -4,8 +4,8 @@ use native.Mathlib.Omega.{arith}
 use Rattle.table.specs.Base.{tab}
 use Rattle.meaning.specs.Text.{decimal}
 use Rattle.meaning.specs.Report.{word_text, step_line}
-use Rattle.text.specs.TextLaws.{least_le, next, placed_on, wrote_length, wrote_as}
-use Rattle.lines.specs.LineLaws.{did_grouped}
+use Rattle.text.proofs.TextLaws.{least_le, next, placed_on, wrote_length, wrote_as}
+use Rattle.lines.proofs.LineLaws.{did_grouped}
 use borrow.Author.Rules.{rules}
 use Rattle.lines.proofs.write_did.Statement.{statement}
 use Rattle.lines.proofs.write_did.Tie as tie

@@ -1,5 +1,5 @@
 -- The number, and the byte after it.
-use Rattle.text.specs.TextLaws.{least_le, next, wrote_length}
+use Rattle.text.proofs.TextLaws.{least_le, next, wrote_length}
 use borrow.Author.Rules.{rules}
 use Rattle.lines.proofs.write_ended.Statement.{statement}
 use Rattle.lines.proofs.write_ended.Tie as tie

@@ -1,6 +1,6 @@
 -- The word, and the number after it with its byte.
 use Rattle.table.specs.Base.{tab}
-use Rattle.text.specs.TextLaws.{least_le, next, placed_on, wrote_length}
+use Rattle.text.proofs.TextLaws.{least_le, next, placed_on, wrote_length}
 use borrow.Author.Rules.{rules}
 use Rattle.lines.proofs.write_refusal.Statement.{statement}
 use Rattle.lines.proofs.write_refusal.Tie as tie

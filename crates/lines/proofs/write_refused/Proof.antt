@@ -4,8 +4,8 @@ use native.Mathlib.Omega.{arith}
 use Rattle.table.specs.Base.{tab}
 use Rattle.meaning.specs.Text.{ascii, decimal}
 use Rattle.meaning.specs.Report.{refused_line}
-use Rattle.text.specs.TextLaws.{least_le, next, placed_on, wrote_length, wrote_as, moved}
-use Rattle.lines.specs.LineLaws.{refused_grouped}
+use Rattle.text.proofs.TextLaws.{least_le, next, placed_on, wrote_length, wrote_as, moved}
+use Rattle.lines.proofs.LineLaws.{refused_grouped}
 use borrow.Author.Rules.{rules}
 use Rattle.lines.proofs.write_refused.Statement.{statement}
 use Rattle.lines.proofs.write_refused.Tie as tie

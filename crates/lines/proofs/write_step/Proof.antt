@@ -1,5 +1,5 @@
 -- The answer is one of two, and each has its own writer of the line.
-use Rattle.text.specs.TextLaws.{moved, wrote_length}
+use Rattle.text.proofs.TextLaws.{moved, wrote_length}
 use borrow.Author.Rules.{rules}
 use Rattle.lines.proofs.write_step.Statement.{statement}
 use Rattle.lines.proofs.write_step.Tie as tie

@@ -4,8 +4,8 @@ use native.Mathlib.Omega.{arith}
 use Rattle.table.specs.Base.{tab}
 use Rattle.meaning.specs.Text.{ascii, decimal}
 use Rattle.meaning.specs.Report.{step_line}
-use Rattle.text.specs.TextLaws.{least_le, next, placed_on, wrote_length, wrote_as}
-use Rattle.lines.specs.LineLaws.{turned_grouped}
+use Rattle.text.proofs.TextLaws.{least_le, next, placed_on, wrote_length, wrote_as}
+use Rattle.lines.proofs.LineLaws.{turned_grouped}
 use borrow.Author.Rules.{rules}
 use Rattle.lines.proofs.write_turned_away.Statement.{statement}
 use Rattle.lines.proofs.write_turned_away.Tie as tie

@@ -3,7 +3,7 @@ use mathlib.Core.Path.{ap, ◌∙◌}
 use borrow.Author.Rules.{rules}
 use Rattle.text.specs.Same.{same_text}
 use Rattle.lister.specs.Sheet.{sheet_of, floor_on}
-use Rattle.lister.specs.WriteLaws.{page_fits, page_holds, page_within, page_cut}
+use Rattle.lister.proofs.WriteLaws.{page_fits, page_holds, page_within, page_cut}
 use Rattle.lister.proofs.is_floor.Statement.{statement}
 use Rattle.lister.proofs.is_floor.Tie as tie
 

@@ -3,8 +3,8 @@ use mathlib.Core.Path.{ap, ◌∙◌}
 use borrow.Author.Rules.{rules}
 use Rattle.table.proofs.Facts.{names16}
 use Rattle.text.specs.Same.{same_text}
-use Rattle.lister.specs.SheetLaws.{floor_is, drawn_texts}
-use Rattle.lister.specs.DrawnLaws.{drawn_short}
+use Rattle.lister.proofs.SheetLaws.{floor_is, drawn_texts}
+use Rattle.lister.proofs.DrawnLaws.{drawn_short}
 use Rattle.lister.proofs.is_listing.Statement.{statement}
 use Rattle.lister.proofs.is_listing.Tie as tie
 

@@ -5,7 +5,7 @@ use native.Mathlib.Omega.{arith}
 use native.Mathlib.Numerals.{add-one}
 use lib.ListN.{length, drop}
 use Rattle.text.specs.Same.{same_text}
-use Rattle.text.specs.SameLaws.{same_step, same_differ, same_end, same_length}
+use Rattle.text.proofs.SameLaws.{same_step, same_differ, same_end, same_length}
 use Rattle.lister.proofs.same.Statement.{statement}
 use Rattle.lister.proofs.same.Tie as tie
 

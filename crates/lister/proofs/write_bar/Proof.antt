@@ -8,8 +8,8 @@ use lib.ListN.{length, length-set}
 use borrow.Author.Tests.{eq-eqb, ne_eqb}
 use Rattle.table.specs.Base.{tab}
 use Rattle.text.specs.Wrote.{Fits}
-use Rattle.text.specs.TextLaws.{begun, wrote_length}
-use Rattle.text.specs.RoomLaws.{fits_as, stores}
+use Rattle.text.proofs.TextLaws.{begun, wrote_length}
+use Rattle.text.proofs.RoomLaws.{fits_as, stores}
 use Rattle.lister.specs.Sheet.{bar}
 use Rattle.lister.proofs.write_bar.Statement.{statement}
 use Rattle.lister.proofs.write_bar.Tie as tie

@@ -1,8 +1,8 @@
 -- Where the contents have no length there is nothing in the buffer yet.
 use native.Mathlib.Omega.{arith}
-use Rattle.text.specs.TextLaws.{wrote_length}
+use Rattle.text.proofs.TextLaws.{wrote_length}
 use Rattle.lister.specs.Sheet.{sheet_of}
-use Rattle.lister.specs.WriteLaws.{floor_page, zero_in, floor_none, floor_some}
+use Rattle.lister.proofs.WriteLaws.{floor_page, zero_in, floor_none, floor_some}
 use Rattle.lister.proofs.write_floor.Statement.{statement}
 use Rattle.lister.proofs.write_floor.Tie as tie
 

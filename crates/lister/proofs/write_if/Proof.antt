@@ -2,11 +2,11 @@
 use native.Mathlib.Omega.{arith}
 use borrow.Author.Rules.{rules}
 use Rattle.table.proofs.Facts.{names16}
-use Rattle.lengths.specs.ListingLength.{listing_longest}
-use Rattle.text.specs.TextLaws.{moved, wrote_as, wrote_length}
-use Rattle.lister.specs.SheetLaws.{floor_is, drawn_texts}
-use Rattle.lister.specs.DrawnLaws.{drawn_short}
-use Rattle.lister.specs.WriteLaws.{long_fits, wrote_if_as, wrote_if_length, wholly}
+use Rattle.lengths.proofs.ListingLength.{listing_longest}
+use Rattle.text.proofs.TextLaws.{moved, wrote_as, wrote_length}
+use Rattle.lister.proofs.SheetLaws.{floor_is, drawn_texts}
+use Rattle.lister.proofs.DrawnLaws.{drawn_short}
+use Rattle.lister.proofs.WriteLaws.{long_fits, wrote_if_as, wrote_if_length, wholly}
 use Rattle.lister.proofs.write_if.Statement.{statement}
 use Rattle.lister.proofs.write_if.Tie as tie
 

@@ -4,9 +4,9 @@ use Prim.Native.Nat.{ℕ, ◌+◌}
 use native.Mathlib.Omega.{arith}
 use borrow.Author.Rules.{rules}
 use Rattle.text.specs.Wrote.{capped}
-use Rattle.text.specs.TextLaws.{wrote_as, wrote_length}
+use Rattle.text.proofs.TextLaws.{wrote_as, wrote_length}
 use Rattle.lister.specs.Sheet.{sheet_of, floor_on}
-use Rattle.lister.specs.WriteLaws.{page_fits, page_long, page_holds, page_within, page_cut, wholly, partly, not_at_all}
+use Rattle.lister.proofs.WriteLaws.{page_fits, page_long, page_holds, page_within, page_cut, wholly, partly, not_at_all}
 use Rattle.lister.proofs.write_page.Statement.{statement}
 use Rattle.lister.proofs.write_page.Tie as tie
 

@@ -1,6 +1,6 @@
 -- What `list_known` says, told what `is_sound` answered.
 use borrow.Author.Rules.{rules}
-use Rattle.listing.specs.CallLaws.{list_told}
+use Rattle.listing.proofs.CallLaws.{list_told}
 use Rattle.listing.proofs.list.Statement.{statement}
 use Rattle.listing.proofs.list.Tie as tie
 

@@ -2,7 +2,7 @@
 use native.Mathlib.Omega.{arith}
 use borrow.Author.Rules.{rules}
 use Rattle.table.specs.Cell.{cell_of}
-use Rattle.listing.specs.CallLaws.{refused_unsound, refused_long, listed}
+use Rattle.listing.proofs.CallLaws.{refused_unsound, refused_long, listed}
 use Rattle.listing.proofs.list_known.Statement.{statement}
 use Rattle.listing.proofs.list_known.Tie as tie
 

@@ -1,7 +1,7 @@
 -- What the bits say of the numbers so far; in the end it is all of the row.
 use Prim.Native.Nat.{◌-◌}
 use native.Mathlib.Omega.{arith}
-use Rattle.order.specs.RowLawsGather.{Below, below_start, below_turn, below_end}
+use Rattle.order.proofs.RowLawsGather.{Below, below_start, below_turn, below_end}
 use Rattle.order.proofs.bits_of.Statement.{statement}
 use Rattle.order.proofs.bits_of.Tie as tie
 

@@ -2,7 +2,7 @@
 use Prim.Native.Nat.{◌-◌}
 use native.Mathlib.Omega.{arith}
 use borrow.Author.Rules.{rules}
-use Rattle.order.specs.RowLawsLoops.{Counted, counted_start, counted_turn, counted_end}
+use Rattle.order.proofs.RowLawsLoops.{Counted, counted_start, counted_turn, counted_end}
 use Rattle.order.proofs.counting_row.Statement.{statement}
 use Rattle.order.proofs.counting_row.Tie as tie
 

@@ -5,7 +5,7 @@ use native.Mathlib.Omega.{arith}
 use lib.ListN.{drop}
 use Rattle.sets.specs.Set.{member}
 use Rattle.order.specs.Row.{first_in}
-use Rattle.order.specs.RowLawsFirst.{first_more, first_found, first_end}
+use Rattle.order.proofs.RowLawsFirst.{first_more, first_found, first_end}
 use Rattle.order.proofs.first_in.Statement.{statement}
 use Rattle.order.proofs.first_in.Tie as tie
 

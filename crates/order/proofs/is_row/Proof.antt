@@ -4,7 +4,7 @@ use Prim.Native.Nat.{◌-◌}
 use native.Mathlib.Omega.{arith}
 use borrow.Author.Rules.{rules}
 use borrow.Author.Tests.{lt-ltb, le-ltb}
-use Rattle.order.specs.RowLawsGather.{Gathered, gathered_start, gathered_turn, gathered_all, large_none}
+use Rattle.order.proofs.RowLawsGather.{Gathered, gathered_start, gathered_turn, gathered_all, large_none}
 use Rattle.order.proofs.is_row.Statement.{statement}
 use Rattle.order.proofs.is_row.Tie as tie
 

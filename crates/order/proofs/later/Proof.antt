@@ -5,7 +5,7 @@ use native.Mathlib.Omega.{arith}
 use borrow.Author.Rules.{rules}
 use Rattle.sets.specs.Word.{bit}
 use Rattle.sets.specs.Set.{member}
-use Rattle.order.specs.RowLawsLoops.{Parted, parted_start, parted_turn, parted_end, Rest, rest_start, rest_turn}
+use Rattle.order.proofs.RowLawsLoops.{Parted, parted_start, parted_turn, parted_end, Rest, rest_start, rest_turn}
 use Rattle.order.proofs.later.Statement.{statement}
 use Rattle.order.proofs.later.Tie as tie
 use Rattle.order.proofs.later.Reads as reads

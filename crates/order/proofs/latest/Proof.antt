@@ -2,7 +2,7 @@
 use Prim.Native.Nat.{◌-◌, ◌<◌}
 use native.Mathlib.Omega.{arith}
 use borrow.Author.Rules.{rules}
-use Rattle.order.specs.RowLawsLoops.{Without, without_start, without_turn, Filled, filled_start, filled_turn, filled_end}
+use Rattle.order.proofs.RowLawsLoops.{Without, without_start, without_turn, Filled, filled_start, filled_turn, filled_end}
 use Rattle.order.proofs.latest.Statement.{statement}
 use Rattle.order.proofs.latest.Tie as tie
 use Rattle.order.proofs.latest.Reads as reads

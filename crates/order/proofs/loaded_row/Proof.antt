@@ -9,8 +9,8 @@ use borrow.Author.Rules.{rules}
 use Rattle.sets.specs.Word.{bit}
 use Rattle.sets.specs.Set.{member}
 use Rattle.order.specs.Row.{keep, counting}
-use Rattle.order.specs.RowLawsLoops.{Rest, rest_turn}
-use Rattle.order.specs.RowLawsLoaded.{Others, others_start, others_more, others_rest, others_end, counting_long}
+use Rattle.order.proofs.RowLawsLoops.{Rest, rest_turn}
+use Rattle.order.proofs.RowLawsLoaded.{Others, others_start, others_more, others_rest, others_end, counting_long}
 use Rattle.order.proofs.loaded_row.Statement.{statement}
 use Rattle.order.proofs.loaded_row.Tie as tie
 

@@ -5,9 +5,9 @@ use mathlib.Core.Path.{refl, ap, ◌∙◌}
 use Prim.Native.Nat.{suc, ◌+◌, ◌-◌, ◌%◌, ◌≤◌}
 use lib.ListN.{length, set}
 use Rattle.table.specs.Cell.{put_places, put_agents, put_used, put_given}
-use Rattle.parser.specs.ReadLaws.{Rest, rest_start, rest_off, rest_nothing, rest_written, rest_places, rest_end}
-use Rattle.parser.specs.StretchLaws.{stretch_up, stretch_within, rest_stretch}
-use Rattle.parser.specs.RowLaws.{row_up, rest_row}
+use Rattle.parser.proofs.ReadLaws.{Rest, rest_start, rest_off, rest_nothing, rest_written, rest_places, rest_end}
+use Rattle.parser.proofs.StretchLaws.{stretch_up, stretch_within, rest_stretch}
+use Rattle.parser.proofs.RowLaws.{row_up, rest_row}
 use Rattle.parser.proofs.read.Statement.{statement}
 use Rattle.parser.proofs.read.Tie as tie
 

@@ -5,8 +5,8 @@ use mathlib.Core.Path.{refl, ◌∙◌, sym}
 use Prim.Native.Nat.{ℕ, ◌-◌, ◌<◌}
 use lib.ListN.{length}
 use Rattle.meaning.specs.File.{byte_at}
-use Rattle.reader.specs.LoadRest.{Rest, five_bytes, eleven_bytes, rest_all, answer_refused, answer_accepted, answer_empty}
-use Rattle.reader.specs.LoadLaws.{stopped, past_end, ended, finished, has_place, rest_place, rest_touches, rest_agent, short}
+use Rattle.reader.proofs.LoadRest.{Rest, five_bytes, eleven_bytes, rest_all, answer_refused, answer_accepted, answer_empty}
+use Rattle.reader.proofs.LoadLaws.{stopped, past_end, ended, finished, has_place, rest_place, rest_touches, rest_agent, short}
 use Rattle.reader.proofs.Tags.{is_end}
 use Rattle.reader.proofs.RowLaws.{row_later, rest_row}
 use Rattle.reader.proofs.load.Statement.{statement}

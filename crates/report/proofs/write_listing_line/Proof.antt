@@ -1,5 +1,5 @@
 -- The line is the word, the listing and a line end, one after another.
-use Rattle.text.specs.TextLaws.{least_le, next, wrote_length}
+use Rattle.text.proofs.TextLaws.{least_le, next, wrote_length}
 use borrow.Author.Rules.{rules}
 use Rattle.report.proofs.write_listing_line.Statement.{statement}
 use Rattle.report.proofs.write_listing_line.Tie as tie

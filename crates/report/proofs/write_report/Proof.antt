@@ -1,6 +1,6 @@
 -- What the load answered decides: the report of the run, or the one line of a refused file.
-use Rattle.text.specs.TextLaws.{wrote_as}
-use Rattle.report.specs.ReportLaws.{report_accepted, report_refused}
+use Rattle.text.proofs.TextLaws.{wrote_as}
+use Rattle.report.proofs.ReportLaws.{report_accepted, report_refused}
 use borrow.Author.Rules.{rules}
 use Rattle.report.proofs.write_report.Statement.{statement}
 use Rattle.report.proofs.write_report.Tie as tie

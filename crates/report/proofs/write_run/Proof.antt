@@ -7,9 +7,9 @@ use borrow.Author.Rules.{rules}
 use Rattle.meaning.specs.Report.{listing_line, report_run}
 use Rattle.text.specs.Wrote.{Wrote, Placed}
 use Rattle.table.specs.Base.{tab}
-use Rattle.text.specs.TextLaws.{least_le, next, placed_on, wrote_length}
+use Rattle.text.proofs.TextLaws.{least_le, next, placed_on, wrote_length}
 use Rattle.report.specs.Run.{report_from}
-use Rattle.report.specs.RunLaws.{calls_from, pairs_more, pairs_none, Left, left_more, left_none}
+use Rattle.report.proofs.RunLaws.{calls_from, pairs_more, pairs_none, Left, left_more, left_none}
 use Rattle.report.proofs.write_run.Statement.{statement}
 use Rattle.report.proofs.write_run.Tie as tie
 

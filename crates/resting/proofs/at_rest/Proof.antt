@@ -33,7 +33,7 @@ use Rattle.table.specs.contracts.Cell as C
 use Rattle.table.proofs.Cell.TheLaws as T'
 use Rattle.table.proofs.Facts.{sized}
 use Rattle.resting.specs.Round.{standing_at, passed_of}
-use Rattle.resting.specs.RoundLaws.{Reaches, turns, start_reaches, turn_reaches, turn_less, round_ends}
+use Rattle.resting.proofs.RoundLaws.{Reaches, turns, start_reaches, turn_reaches, turn_less, round_ends}
 use Rattle.resting.specs.declared.Round.{Round}
 use Rattle.resting.specs.contracts.Round as Round'
 use Rattle.resting.proofs.Round.TheLaws as round_laws

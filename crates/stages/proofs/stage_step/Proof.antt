@@ -7,7 +7,7 @@ use borrow.Author.Tests.{ne_eqb}
 use Rattle.table.specs.Cell.{Land}
 use Rattle.table.specs.declared.Agent.{Agent}
 use Rattle.stages.specs.Changes.{change_at}
-use Rattle.stages.specs.RowlessLaws.{acts_rowless, own_seen}
+use Rattle.stages.proofs.RowlessLaws.{acts_rowless, own_seen}
 use Rattle.stages.proofs.stage_step.Statement.{statement}
 use Rattle.stages.proofs.stage_step.Tie as tie
 

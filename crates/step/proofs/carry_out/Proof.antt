@@ -10,7 +10,7 @@ use Rattle.meaning.specs.Run.{made}
 use Rattle.meaning.specs.Update.{at_stage}
 use Rattle.moves.specs.Motions.{shifted}
 use Rattle.step.specs.Decided.{carried_out}
-use Rattle.step.specs.CarryLaws.{locks_put}
+use Rattle.step.proofs.CarryLaws.{locks_put}
 use borrow.Author.Rules.{rules}
 use Rattle.step.proofs.carry_out.Statement.{statement}
 use Rattle.step.proofs.carry_out.Tie as tie

@@ -4,7 +4,7 @@ use borrow.Author.Rules.{rules}
 use Rattle.table.proofs.Facts.{sized}
 use Rattle.soundness.specs.declared.sound.Seen.{Seen}
 use Rattle.step.specs.Decided.{decided, carried_out}
-use Rattle.step.specs.CarryLaws.{decided_step}
+use Rattle.step.proofs.CarryLaws.{decided_step}
 use Rattle.step.proofs.step.Statement.{statement}
 use Rattle.step.proofs.step.Tie as tie
 

@@ -4,7 +4,7 @@ use Prim.Native.Nat.{ℕ, ◌-◌, ◌<◌, zero-le}
 use native.Mathlib.Omega.{arith}
 use borrow.Author.Rules.{rules}
 use Rattle.text.specs.Wrote.{least}
-use Rattle.text.specs.TextLaws.{least_low}
+use Rattle.text.proofs.TextLaws.{least_low}
 use Rattle.text.proofs.offset.Statement.{statement}
 use Rattle.text.proofs.offset.Tie as tie
 

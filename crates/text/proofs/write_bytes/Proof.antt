@@ -5,7 +5,7 @@ use native.Mathlib.Omega.{arith}
 use Prim.Native.Nat.{◌-◌}
 use lib.ListN.{length, take}
 use Rattle.meaning.specs.Text.{overlay}
-use Rattle.text.specs.TextLaws.{bytes_none, bytes_more, bytes_all, least_le, over_length}
+use Rattle.text.proofs.TextLaws.{bytes_none, bytes_more, bytes_all, least_le, over_length}
 use Rattle.text.proofs.write_bytes.Statement.{statement}
 use Rattle.text.proofs.write_bytes.Tie as tie
 

@@ -1,6 +1,6 @@
 -- Twenty digits hold every number; the position that was handed over is added.
 use borrow.Author.Rules.{rules}
-use Rattle.text.specs.TextLaws.{moved}
+use Rattle.text.proofs.TextLaws.{moved}
 use Rattle.text.proofs.write_number.Statement.{statement}
 use Rattle.text.proofs.write_number.Tie as tie
 

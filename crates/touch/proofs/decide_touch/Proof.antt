@@ -13,7 +13,7 @@ use Rattle.table.specs.Sound.{most_touches}
 use Rattle.soundness.specs.Left.{total_of, left_of}
 use Rattle.soundness.specs.declared.touches.Left.{Left}
 use Rattle.touch.specs.Known.{refusing, counting, count_at, known_touch}
-use Rattle.touch.specs.KnownLaws.{count_most, known_last}
+use Rattle.touch.proofs.KnownLaws.{count_most, known_last}
 use Rattle.touch.specs.declared.TouchDecision.{TouchDecision}
 use Rattle.touch.proofs.decide_touch.Statement.{statement}
 use Rattle.touch.proofs.decide_touch.Tie as tie

@@ -6,7 +6,7 @@ use borrow.Author.Rules.{rules}
 use Rattle.table.specs.Cell.{put_touches}
 use Rattle.table.proofs.Facts.{sized}
 use Rattle.touch.specs.Known.{tallied}
-use Rattle.touch.specs.KnownLaws.{touch_told}
+use Rattle.touch.proofs.KnownLaws.{touch_told}
 use Rattle.touch.proofs.touch.Statement.{statement}
 use Rattle.touch.proofs.touch.Tie as tie
 

@@ -1,7 +1,7 @@
 -- What is known, told what `is_sound` answered, is the answer.
 use mathlib.Core.Path.{◌∙◌}
 use borrow.Author.Rules.{rules}
-use Rattle.touch.specs.KnownLaws.{touches_told}
+use Rattle.touch.proofs.KnownLaws.{touches_told}
 use Rattle.touch.proofs.touches.Statement.{statement}
 use Rattle.touch.proofs.touches.Tie as tie
 

@@ -3,7 +3,7 @@ use mathlib.Core.Path.{◌∙◌}
 use lib.ListN.{get_or}
 use borrow.Author.Rules.{rules}
 use Rattle.table.specs.Base.{upd}
-use Rattle.updates.specs.UpdateLaws.{store_tab}
+use Rattle.updates.proofs.UpdateLaws.{store_tab}
 use Rattle.updates.proofs.released.Statement.{statement}
 use Rattle.updates.proofs.released.Tie as tie
 

@@ -1,7 +1,7 @@
 -- The part of the text that is shown is the report, which the text holds.
 use mathlib.Core.Path.{sym}
 use lib.Seq.{length-take-le}
-use Rattle.buffers.specs.HeldLaws.{whole_within}
+use Rattle.buffers.proofs.HeldLaws.{whole_within}
 use borrow.Author.Rules.{rules}
 use Rattle.walk.proofs.run_cell.Statement.{statement}
 use Rattle.walk.proofs.run_cell.Tie as tie

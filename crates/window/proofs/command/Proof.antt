@@ -3,7 +3,7 @@ use borrow.Author.Rules.{rules}
 use mathlib.Core.Path.{ap, ◌∙◌}
 use Rattle.meaning.specs.declared.Stepped.{Stepped}
 use Rattle.meaning.specs.Codes.{step_number}
-use Rattle.window.specs.NotedLaws.{command_step, command_other}
+use Rattle.window.proofs.NotedLaws.{command_step, command_other}
 use Rattle.window.proofs.command.Statement.{statement}
 use Rattle.window.proofs.command.Tie as tie
 

@@ -2,7 +2,7 @@
 use mathlib.Core.Path.{sym, ◌∙◌}
 use native.Mathlib.Omega.{arith}
 use borrow.Author.Rules.{rules}
-use Rattle.writer.specs.WriteLaws.{no_move, no_room, room}
+use Rattle.writer.proofs.WriteLaws.{no_move, no_room, room}
 use Rattle.writer.proofs.write_move.Statement.{statement}
 use Rattle.writer.proofs.write_move.Tie as tie
 

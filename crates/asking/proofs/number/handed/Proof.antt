@@ -10,7 +10,7 @@ use Rattle.soundness.specs.declared.sound.Seen.{Seen}
 use Rattle.step.specs.Decided.{decided}
 use Rattle.step.specs.declared.Decision.{Decision}
 use Rattle.asking.specs.Asked.{asked_of, made_if}
-use Rattle.asking.specs.AskedLaws.{told_of, made_handed}
+use Rattle.asking.proofs.AskedLaws.{told_of, made_handed}
 use Rattle.asking.proofs.number.handed.Statement.{statement}
 use Rattle.asking.proofs.number.handed.Tie as tie
 

@@ -2,8 +2,8 @@
 use mathlib.Core.Path.{sym, ap₂}
 use lib.Seq.{length-take-le}
 use Rattle.language.specs.TypedReport.{typed_report}
-use Rattle.text.specs.TextLaws.{least_le, wrote_as}
-use Rattle.buffers.specs.HeldLaws.{taken}
+use Rattle.text.proofs.TextLaws.{least_le, wrote_as}
+use Rattle.buffers.proofs.HeldLaws.{taken}
 use borrow.Author.Rules.{rules}
 use Rattle.buffers.proofs.typed.write_first_typed.Statement.{statement}
 use Rattle.buffers.proofs.typed.write_first_typed.Tie as tie

@@ -1,6 +1,6 @@
 -- The buffers' sizes are those of their types, and large enough.
 use native.Mathlib.Omega.{arith}
-use Rattle.buffers.specs.TypedHeldLaws.{typed_whole, typed_orders}
+use Rattle.buffers.proofs.TypedHeldLaws.{typed_whole, typed_orders}
 use borrow.Author.Rules.{rules}
 use Rattle.buffers.proofs.typed.write_typed.Statement.{statement}
 use Rattle.buffers.proofs.typed.write_typed.Tie as tie

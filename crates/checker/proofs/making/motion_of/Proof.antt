@@ -3,7 +3,7 @@ use mathlib.Core.Path.{sym, ap, ◌∙◌}
 use borrow.Author.Rules.{rules}
 use Rattle.sets.specs.Set.{member}
 use Rattle.table.specs.declared.Action.{Action}
-use Rattle.checker.specs.TestLaws.{motion_open, motion_release}
+use Rattle.checker.proofs.TestLaws.{motion_open, motion_release}
 use Rattle.checker.proofs.making.motion_of.Statement.{statement}
 use Rattle.checker.proofs.making.motion_of.Tie as tie
 

@@ -2,7 +2,7 @@
 use mathlib.Core.Path.{ap, ◌∙◌}
 use borrow.Author.Rules.{rules}
 use Rattle.checker.specs.OnTable.{name_of}
-use Rattle.checker.specs.TestLaws.{allow_enter, allow_open, allow_exit, allow_release, allow_byte, allow_none}
+use Rattle.checker.proofs.TestLaws.{allow_enter, allow_open, allow_exit, allow_release, allow_byte, allow_none}
 use Rattle.checker.proofs.rules.allowed.Statement.{statement}
 use Rattle.checker.proofs.rules.allowed.Tie as tie
 

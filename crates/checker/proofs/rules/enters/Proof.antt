@@ -5,7 +5,7 @@ use borrow.Author.Rules.{rules}
 use Rattle.table.specs.declared.Name.{Name}
 use Rattle.meaning.specs.Calculus.{stands_at, may_enter}
 use Rattle.checker.specs.OnTable.{one_agent}
-use Rattle.checker.specs.TestLaws.{and_yes, and_no, differs, equals, name_there}
+use Rattle.checker.proofs.TestLaws.{and_yes, and_no, differs, equals, name_there}
 use Rattle.checker.proofs.rules.enters.Statement.{statement}
 use Rattle.checker.proofs.rules.enters.Tie as tie
 

@@ -5,7 +5,7 @@ use borrow.Author.Tests.{eq-eqb}
 use Rattle.table.specs.declared.Name.{Name}
 use Rattle.meaning.specs.Calculus.{may_exit}
 use Rattle.checker.specs.OnTable.{parent_of}
-use Rattle.checker.specs.TestLaws.{and_yes, and_no, differs, equals}
+use Rattle.checker.proofs.TestLaws.{and_yes, and_no, differs, equals}
 use Rattle.checker.proofs.rules.exits.Statement.{statement}
 use Rattle.checker.proofs.rules.exits.Tie as tie
 

@@ -4,7 +4,7 @@ use lib.Dec.{eqb}
 use borrow.Author.Rules.{rules}
 use Rattle.table.specs.declared.Name.{Name}
 use Rattle.meaning.specs.Calculus.{may_open}
-use Rattle.checker.specs.TestLaws.{and_yes, and_no, name_there}
+use Rattle.checker.proofs.TestLaws.{and_yes, and_no, name_there}
 use Rattle.checker.proofs.rules.opens.Statement.{statement}
 use Rattle.checker.proofs.rules.opens.Tie as tie
 

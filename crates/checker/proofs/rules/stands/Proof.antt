@@ -1,7 +1,7 @@
 -- Test by test.
 use mathlib.Core.Path.{sym, ◌∙◌}
 use borrow.Author.Rules.{rules}
-use Rattle.checker.specs.TestLaws.{stands_unused, stands_floor, stands_placed}
+use Rattle.checker.proofs.TestLaws.{stands_unused, stands_floor, stands_placed}
 use Rattle.checker.proofs.rules.stands.Statement.{statement}
 use Rattle.checker.proofs.rules.stands.Tie as tie
 

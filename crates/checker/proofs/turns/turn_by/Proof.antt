@@ -1,5 +1,5 @@
 -- By the kind.
-use Rattle.checker.specs.TestLaws.{turn_enter, turn_exit, turn_other}
+use Rattle.checker.proofs.TestLaws.{turn_enter, turn_exit, turn_other}
 use Rattle.checker.proofs.turns.turn_by.Statement.{statement}
 use Rattle.checker.proofs.turns.turn_by.Tie as tie
 

@@ -3,7 +3,7 @@ use mathlib.Core.Path.{sym, ap, ◌∙◌}
 use borrow.Author.Rules.{rules}
 use Rattle.table.specs.Cell.{cell_of}
 use Rattle.checker.specs.declared.Turn.TheVariants.{Deny}
-use Rattle.checker.specs.TurnLaws.{seen, turn_absent, turn_allowed, turn_denied}
+use Rattle.checker.proofs.TurnLaws.{seen, turn_absent, turn_allowed, turn_denied}
 use Rattle.checker.proofs.turns.turn_of.Statement.{statement}
 use Rattle.checker.proofs.turns.turn_of.Tie as tie
 

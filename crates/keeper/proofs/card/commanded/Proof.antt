@@ -17,7 +17,7 @@ use Rattle.window.specs.declared.Window.{Window}
 use Rattle.window.specs.declared.Commanded.{Commanded}
 use Rattle.window.specs.Window.{lined, command_of}
 use Rattle.window.specs.Noted.{noted_of}
-use Rattle.window.specs.NotedLaws.{command_step, command_other}
+use Rattle.window.proofs.NotedLaws.{command_step, command_other}
 use Rattle.window.specs.contracts.Window as Window'
 use Rattle.window.proofs.Window.TheLaws as window_laws
 use Rattle.window.specs.contracts.noted as notes

@@ -9,7 +9,7 @@ use types.Part.{store_in}
 use denote.Struct.Laws as LL
 use Rattle.window.specs.declared.Window.{Window}
 use Rattle.window.specs.Window.{clear_of}
-use Rattle.window.specs.StoredLaws.{stored_flags, clear_stored}
+use Rattle.window.proofs.StoredLaws.{stored_flags, clear_stored}
 use Rattle.window.specs.contracts.Window as Window'
 use Rattle.window.proofs.Window.TheLaws as window_laws
 use Rattle.window.specs.contracts.clear as clears

@@ -10,7 +10,7 @@ use denote.Struct.Laws as LL
 use Rattle.table.specs.declared.Cell.{Cell}
 use Rattle.window.specs.declared.Window.{Window}
 use Rattle.window.specs.Window.{command_of}
-use Rattle.window.specs.StoredLaws.{stored, command_stored}
+use Rattle.window.proofs.StoredLaws.{stored, command_stored}
 use Rattle.window.specs.contracts.Window as Window'
 use Rattle.window.proofs.Window.TheLaws as window_laws
 use Rattle.lent.proofs.Walk.{◌≡◌, refl, ap, subst, ℕ, List, [], ◌∷◌, Ura, full_share, named, Val, vptr, SProp, ent, GName, Lft, Share, ftrue, fat, flft, fobs, fbor, Memory, Routine, Calls, Loops, WpFn, Fun, AllOutlive, tables, ‵, ◌⊛◌, ⋆, ◌$◌, ◌∵◌, !, qed, by, move, drop, split, join, rewrite, fsplit, fsplit3, fjoin, fjoin3, feq_i, suffices, frame, done, look, look_raw, init, forget, stop, hop, fld, from, load, addr, of_opd, and_then, no_more, assigns, land, returns, enter, alloc1, alloc0, params1, pass1, pass0, whole, sub, look_in, Body, FmC, owns, Is, mem, RefT, MutRef, ptr_vals, mut_Tells, plain, only, nothing, Triple, on_entry, cited, says, Stays, stay_ref, walk_of, Goes-ref, ends_at, exported}

@@ -14,7 +14,7 @@ use Rattle.step.specs.Decided.{agent_at}
 use Rattle.step.specs.contracts.Decision as Decision'
 use Rattle.step.proofs.Decision.TheLaws as decision_laws
 use Rattle.asking.specs.Asked.{asked_of}
-use Rattle.asking.specs.AskedLaws.{decided_ask}
+use Rattle.asking.proofs.AskedLaws.{decided_ask}
 use Rattle.numbers.proofs.ask_number.Symbol as number
 use Rattle.numbers.proofs.ask_number.Met as number_thm
 use Rattle.lent.proofs.Walk.{◌≡◌, refl, ap, ◌∙◌, ℕ, ◌<◌, ◌^◌, List, [], ◌∷◌, Ura, named, w8, w64, Val, vint, vptr, SProp, ent, GName, Lft, Share, ftrue, flft, fres, fshr_bor, Memory, Routine, Calls, Loops, WpFn, Fun, tables, ‵, ◌⊛◌, ⋆, ◌$◌, ◌∵◌, !, qed, by, move, drop, split, join, fsplit, fjoin, fjoin3, feq_i, suffices, frame, done, look, init, forget, stop, from, load, and_then, no_more, land, returns, enter, alloc1, alloc0, params1, pass1, pass0, FmC, owns, Is, part_at, uint_vals, uint_Tells, uint_Makes, uint_Lawful, u8, u64, RefT, ShrRef, ptr_vals, shr_Tells, plain, owned, nothing, Triple, on_entry, cited, says, Stays, stay_none, stay_none_ref, walk_of, Goes-none, Goes-none_ref, ends_at, yes, exported}

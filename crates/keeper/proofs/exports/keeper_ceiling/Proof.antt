@@ -14,7 +14,7 @@ use Rattle.table.specs.Cell.{cell_of}
 use Rattle.table.specs.declared.Cell.{Cell}
 use Rattle.table.proofs.Cell.TheLaws as T'
 use Rattle.limit.specs.Known.{known_ceiling}
-use Rattle.limit.specs.LimitLaws.{ceiling_told}
+use Rattle.limit.proofs.LimitLaws.{ceiling_told}
 use Rattle.limit.proofs.moves_left.Symbol as moves_def
 use Rattle.limit.proofs.moves_left.Met as moves_thm
 use Rattle.meaning.specs.Limit.{moves_left, ceiling_of}

@@ -8,7 +8,8 @@ use denote.Plain.{bool_Makes}
 use denote.Builtin.{bool}
 use denote.Enum.Laws as EL
 use Rattle.table.specs.declared.Cell.{Cell}
-use Rattle.keeper.specs.Known.{known_idle, idle_told}
+use Rattle.keeper.proofs.Known.{idle_told}
+use Rattle.keeper.specs.Known.{known_idle}
 use Rattle.meaning.specs.contracts.Idled as Idled'
 use Rattle.meaning.proofs.Idled.TheLaws as idled_laws
 use Rattle.meaning.specs.Codes.{idle_of, idle_number}

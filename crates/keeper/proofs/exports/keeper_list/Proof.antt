@@ -14,7 +14,7 @@ use Rattle.table.specs.Cell.{cell_of}
 use Rattle.meaning.specs.Listing.{list_answer, list_buffer}
 use Rattle.meaning.specs.Codes.{list_number}
 use Rattle.listing.specs.Known.{known_answer, known_buffer}
-use Rattle.listing.specs.CallLaws.{list_told}
+use Rattle.listing.proofs.CallLaws.{list_told}
 use Rattle.lent.proofs.Walk.{◌≡◌, refl, ap, ◌∙◌, ℕ, List, [], ◌∷◌, Ura, named, w64, Val, vptr, SProp, ent, id⊢, GName, Lft, Share, Fml, ftrue, flft, fres, fshr_bor, Memory, Routine, Calls, Loops, WpFn, Fun, AllOutlive, tables, ‵, raw, ◌⊛◌, ⋆, ◌$◌, ◌∵◌, !, qed, by, move, keep, drop, split, join, fsplit, fsplit3, fjoin, fjoin3, feq_i, feq_l, suffices, frame, done, look, look_raw, init, forget, stop, hop, fld, from, load, addr, of_opd, and_then, no_more, assigns, land, returns, enter, alloc1, alloc0, params1, pass1, pass0, agg, whole, sub, look_in, FmC, owns, Is, part_at, uint_Lawful, u8, u64, RefT, ShrRef, ptr_vals, shr_Tells, MutSlice, Room, finally, slice_vals, mut_slice_Tells, plain, only, owned, nothing, Contract, Triple, on_entry, triple_of, cited, says, Stays, stay_none_ref, gave_slice, walk_of, Goes-none_ref, Goes-gave_slice, ends_at, yes, exported}
 use Rattle.lent.proofs.Lent.{R, mach, is_typed, had, looked, shut, called}
 use Rattle.lent.proofs.Freed.{freed}

@@ -12,7 +12,7 @@ use Rattle.table.specs.declared.Cell.{Cell}
 use Rattle.meaning.specs.Where.{nearest_of}
 use Rattle.meaning.specs.Codes.{found_number}
 use Rattle.locating.specs.Known.{known_nearest}
-use Rattle.locating.specs.KnownLaws.{nearest_told}
+use Rattle.locating.proofs.KnownLaws.{nearest_told}
 use Rattle.lent.proofs.Walk.{◌≡◌, refl, ap, ◌∙◌, ℕ, ◌<◌, ◌^◌, List, [], ◌∷◌, Ura, named, w8, w64, Val, vint, vptr, SProp, ent, emp, id⊢, GName, Lft, Share, ftrue, flft, fres, fshr_bor, Memory, Routine, Calls, Loops, WpFn, Fun, tables, ‵, raw, ◌⊛◌, ⋆, ◌$◌, ◌∵◌, !, qed, by, move, keep, drop, split, join, fsplit, fjoin, fjoin3, feq_i, suffices, frame, done, look, look_raw, init, forget, stop, hop, from, load, of_opd, and_then, no_more, assigns, land, returns, enter, alloc1, alloc0, params1, pass1, pass0, FmC, owns, Is, part_at, uint_vals, uint_Tells, uint_Makes, uint_Lawful, u8, u64, RefT, ShrRef, ptr_vals, shr_Tells, plain, owned, nothing, Contract, Triple, on_entry, triple_of, cited, says, Stays, stay_none, stay_none_ref, walk_of, Goes-none, Goes-none_ref, ends_at, yes, exported}
 use Rattle.lent.proofs.Lent.{R, mach, is_typed, had, looked, shut, called}
 use Rattle.lent.proofs.Freed.{freed}

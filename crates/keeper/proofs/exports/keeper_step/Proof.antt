@@ -18,7 +18,7 @@ use Rattle.step.specs.Decided.{decided}
 use Rattle.step.specs.contracts.Decision as Decision'
 use Rattle.step.proofs.Decision.TheLaws as decision_laws
 use Rattle.asking.specs.Asked.{carried_if}
-use Rattle.asking.specs.AskedLaws.{carried_any}
+use Rattle.asking.proofs.AskedLaws.{carried_any}
 use Rattle.lent.proofs.Walk.{◌≡◌, refl, ap, ◌∙◌, ℕ, ◌<◌, ◌^◌, List, [], ◌∷◌, Ura, named, w8, w64, Val, vint, vptr, SProp, ent, GName, Lft, Share, ftrue, flft, fres, Memory, Routine, Calls, Loops, WpFn, Fun, tables, ‵, ◌⊛◌, ⋆, ◌$◌, ◌∵◌, !, qed, by, move, drop, split, fsplit, fsplit3, fjoin, suffices, frame, done, look, init, forget, stop, hop, from, load, lit, addr, and_then, no_more, assigns, land, returns, enter, alloc1, alloc0, params1, pass1, pass0, FmC, owns, Is, uint_vals, uint_Tells, uint_Makes, uint_Lawful, u8, u64, RefT, MutRef, ptr_vals, mut_Tells, plain, owned, nothing, Triple, on_entry, cited, says, Stays, stay_none, walk_of, Goes-none, ends_at, yes, exported}
 use Rattle.lent.proofs.Lent.{R, mach, opened, closed}
 use Rattle.lent.proofs.Freed.{freed}

@@ -15,7 +15,7 @@ use Rattle.meaning.specs.Codes.{touch_number}
 use Rattle.meaning.specs.contracts.Touching as Touching
 use Rattle.touch.specs.declared.TouchDecision.{TouchDecision}
 use Rattle.touch.specs.Known.{known_touch, tallied}
-use Rattle.touch.specs.KnownLaws.{touch_told}
+use Rattle.touch.proofs.KnownLaws.{touch_told}
 use Rattle.table.proofs.Facts.{sized}
 use Rattle.touch.specs.contracts.TouchDecision as Decision'
 use Rattle.touch.proofs.TouchDecision.TheLaws as decision_laws

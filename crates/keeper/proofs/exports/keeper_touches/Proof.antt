@@ -19,7 +19,7 @@ use Rattle.table.proofs.Cell.TheLaws as T'
 use Rattle.meaning.specs.Touch.{touches_of}
 use Rattle.meaning.specs.Codes.{touch_number}
 use Rattle.touch.specs.Known.{known_touches}
-use Rattle.touch.specs.KnownLaws.{touches_told}
+use Rattle.touch.proofs.KnownLaws.{touches_told}
 use Rattle.soundness.proofs.sound_lent.Symbol as sound_def
 use Rattle.soundness.proofs.sound_lent.Met as sound_thm
 use Rattle.lent.proofs.Walk.{◌≡◌, refl, ap, ◌∙◌, ℕ, ◌<◌, ◌^◌, List, [], ◌∷◌, Ura, named, w8, w64, Val, vint, vptr, SProp, ent, id⊢, GName, Lft, Share, ftrue, flft, fres, fshr_bor, Memory, Routine, Calls, Loops, WpFn, Fun, tables, ‵, raw, ◌⊛◌, ⋆, ◌$◌, ◌∵◌, !, qed, by, move, keep, drop, use1, split, join, fsplit, fjoin, fjoin3, feq_i, suffices, frame, done, look, init, forget, stop, hop, fld, from, load, addr, of_opd, and_then, no_more, assigns, land, returns, enter, alloc1, alloc0, params1, pass1, pass0, whole, sub, look_in, FmC, owns, Is, part_at, uint_vals, uint_Tells, uint_Makes, uint_Lawful, u8, u64, RefT, ShrRef, ptr_vals, shr_Tells, plain, owned, nothing, Contract, Triple, on_entry, triple_of, cited, says, Stays, stay_none, stay_none_ref, walk_of, Goes-none, Goes-none_ref, ends_at, yes, exported}

@@ -32,7 +32,7 @@ use Rattle.table.proofs.Cell.TheLaws as T'
 use Rattle.table.proofs.at.Symbol as at_def
 use Rattle.table.proofs.at.Met as at_thm
 use Rattle.stages.specs.Changes.{own_place, own_land, own_change}
-use Rattle.stages.specs.RowlessLaws.{own_seen}
+use Rattle.stages.proofs.RowlessLaws.{own_seen}
 use Rattle.stages.specs.declared.Change.{Change}
 use Rattle.stages.specs.contracts.Change as Change'
 use Rattle.stages.proofs.Change.TheLaws as change_laws

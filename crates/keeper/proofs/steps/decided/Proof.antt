@@ -36,7 +36,7 @@ use Rattle.stages.specs.contracts.Change as Change'
 use Rattle.stages.proofs.Change.TheLaws as change_laws
 use Rattle.step.specs.declared.Decision.{Decision}
 use Rattle.step.specs.Decided.{wanted_by, settling, refusing, decided}
-use Rattle.step.specs.CarryLaws.{step_decided, none_decided}
+use Rattle.step.proofs.CarryLaws.{step_decided, none_decided}
 use Rattle.step.specs.contracts.Decision as Decision'
 use Rattle.step.proofs.Decision.TheLaws as decision_laws
 use Rattle.step.specs.contracts.is_step as is_step

@@ -15,7 +15,7 @@ use Rattle.table.proofs.Facts.{sized}
 use Rattle.table.proofs.at.Symbol as at_def
 use Rattle.table.proofs.at.Met as at_thm
 use Rattle.step.specs.Decided.{locked_at}
-use Rattle.step.specs.CarryLaws.{index, lock_none}
+use Rattle.step.proofs.CarryLaws.{index, lock_none}
 use Rattle.lent.proofs.Walk.{◌≡◌, refl, sym, ap, ◌∙◌, ℕ, ◌<◌, ◌^◌, List, [], ◌∷◌, Ura, full_share, named, w8, w64, Val, vint, vptr, SProp, ent, GName, Lft, Share, ftrue, fat, flft, fobs, fbor, Memory, Routine, Calls, Loops, WpFn, Fun, tables, ‵, ◌⊛◌, ⋆, ◌$◌, ◌∵◌, !, qed, by, move, drop, split, join, rewrite, fsplit, fsplit3, fjoin, fjoin3, feq_i, suffices, frame, done, look, init, forget, stop, hop, fld, from, load, lit, addr, of_opd, and_then, no_more, assigns, land, returns, enter, alloc1, alloc0, params1, pass1, pass0, Body, FmC, owns, Is, mem, uint_vals, uint_Tells, uint_Makes, uint_Lawful, u8, RefT, MutRef, ptr_vals, mut_Tells, plain, only, owned, nothing, Triple, on_entry, cited, says, Stays, stay_ref, stay_none, walk_of, Goes-ref, Goes-none, ends_at, yes, exported}
 use Rattle.lent.proofs.Lent.{R, opened, closed, Equates, applied}
 use Rattle.lent.proofs.Loop.{at_end, unless}

@@ -36,7 +36,7 @@ use Rattle.step.specs.Decided.{agent_at, motion_word}
 use Rattle.step.specs.contracts.Decision as Decision'
 use Rattle.step.proofs.Decision.TheLaws as decision_laws
 use Rattle.asking.specs.Asked.{goes_on, moved_if}
-use Rattle.asking.specs.AskedLaws.{motion_answer, only_goes, only_differs}
+use Rattle.asking.proofs.AskedLaws.{motion_answer, only_goes, only_differs}
 use Rattle.numbers.proofs.step_number.Symbol as number
 use Rattle.numbers.proofs.step_number.Met as number_thm
 use Rattle.lent.proofs.Walk.{◌≡◌, refl, sym, ap, ◌∙◌, ℕ, ◌<◌, ◌^◌, List, [], ◌∷◌, Ura, full_share, named, w8, w64, Val, vint, vptr, SProp, ent, GName, Lft, Share, ftrue, fat, flft, fobs, fbor, Memory, Routine, Calls, Loops, WpFn, Fun, tables, ‵, ◌⊛◌, ⋆, ◌$◌, ◌∵◌, !, qed, by, move, drop, split, join, rewrite, fsplit, fsplit3, fjoin, fjoin3, feq_i, suffices, frame, done, look, init, forget, stop, hop, fld, from, load, lit, addr, of_opd, and_then, no_more, assigns, land, returns, enter, alloc1, alloc0, params1, pass1, pass0, whole, sub, look_in, Body, FmC, owns, Is, mem, uint_vals, uint_Tells, uint_Makes, uint_Lawful, u8, u64, RefT, MutRef, ptr_vals, mut_Tells, plain, only, owned, nothing, Triple, on_entry, cited, says, Stays, stay_ref, stay_none, walk_of, Goes-ref, Goes-none, ends_at, yes, exported}

@@ -26,7 +26,7 @@ use Rattle.step.specs.Decided as decisions
 use Rattle.step.specs.contracts.Decision as Decision'
 use Rattle.step.proofs.Decision.TheLaws as decision_laws
 use Rattle.asking.specs.Asked.{goes_on, settled_if}
-use Rattle.asking.specs.AskedLaws.{only_goes, only_differs}
+use Rattle.asking.proofs.AskedLaws.{only_goes, only_differs}
 use Rattle.asking.specs.contracts.goes_on as goes_on
 use Rattle.asking.proofs.goes_on.Symbol as goes_def
 use Rattle.asking.proofs.goes_on.Met as goes_thm

@@ -30,7 +30,7 @@ use Rattle.step.specs.Decided.{agent_at}
 use Rattle.step.specs.contracts.Decision as Decision'
 use Rattle.step.proofs.Decision.TheLaws as decision_laws
 use Rattle.asking.specs.Asked.{tell_of, asked_of}
-use Rattle.asking.specs.AskedLaws.{told_of}
+use Rattle.asking.proofs.AskedLaws.{told_of}
 use Rattle.asking.specs.contracts.asked as asking
 use Rattle.asking.proofs.asked.Symbol as asked_def
 use Rattle.asking.proofs.asked.Met as asked_thm

@@ -4,8 +4,8 @@ use native.Mathlib.Omega.{arith}
 use borrow.Author.Rules.{rules}
 use Rattle.meaning.specs.Text.{decimal}
 use Rattle.meaning.specs.Listing.{kind_text}
-use Rattle.text.specs.TextLaws.{wrote_length}
-use Rattle.text.specs.RoomLaws.{fits_first, fits_exactly, first_in, fits_next, then_next}
+use Rattle.text.proofs.TextLaws.{wrote_length}
+use Rattle.text.proofs.RoomLaws.{fits_first, fits_exactly, first_in, fits_next, then_next}
 use Rattle.lister.proofs.agents.write_action.Statement.{statement}
 use Rattle.lister.proofs.agents.write_action.Tie as tie
 

@@ -4,9 +4,9 @@ use Prim.Native.Nat.{◌*◌}
 use native.Mathlib.Omega.{arith}
 use lib.ListN.{get_or}
 use borrow.Author.Rules.{rules}
-use Rattle.text.specs.TextLaws.{least_le, wrote_as, wrote_length}
-use Rattle.text.specs.RoomLaws.{fits_as}
-use Rattle.lister.specs.RowLaws.{row_laid}
+use Rattle.text.proofs.TextLaws.{least_le, wrote_as, wrote_length}
+use Rattle.text.proofs.RoomLaws.{fits_as}
+use Rattle.lister.proofs.RowLaws.{row_laid}
 use Rattle.lister.proofs.agents.write_agent.Statement.{statement}
 use Rattle.lister.proofs.agents.write_agent.Tie as tie
 

@@ -8,8 +8,8 @@ use lib.ListN.{length}
 use borrow.Author.Tests.{eq-eqb, ne_eqb}
 use Rattle.table.specs.Base.{tab}
 use Rattle.text.specs.Wrote.{Fits}
-use Rattle.text.specs.TextLaws.{begun, wrote_length}
-use Rattle.text.specs.RoomLaws.{fits_as, stores}
+use Rattle.text.proofs.TextLaws.{begun, wrote_length}
+use Rattle.text.proofs.RoomLaws.{fits_as, stores}
 use Rattle.lister.specs.Sheet.{dot}
 use Rattle.lister.proofs.agents.write_dot.Statement.{statement}
 use Rattle.lister.proofs.agents.write_dot.Tie as tie

@@ -8,8 +8,8 @@ use Rattle.table.specs.Base.{tab}
 use Rattle.table.specs.Cell.{enter_kind, exit_kind, open_kind}
 use Rattle.meaning.specs.Listing.{kind_text}
 use Rattle.text.specs.Wrote.{Fits}
-use Rattle.text.specs.TextLaws.{wrote_length}
-use Rattle.text.specs.RoomLaws.{stores}
+use Rattle.text.proofs.TextLaws.{wrote_length}
+use Rattle.text.proofs.RoomLaws.{stores}
 use Rattle.lister.proofs.agents.write_kind.Statement.{statement}
 use Rattle.lister.proofs.agents.write_kind.Tie as tie
 

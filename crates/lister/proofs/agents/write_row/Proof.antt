@@ -7,10 +7,10 @@ use native.Mathlib.Omega.{arith}
 use borrow.Author.Rules.{rules}
 use Rattle.meaning.specs.Text.{joined}
 use Rattle.text.specs.Wrote.{Wrote, Fits}
-use Rattle.text.specs.TextLaws.{begun, wrote_as, wrote_length, join_more}
+use Rattle.text.proofs.TextLaws.{begun, wrote_as, wrote_length, join_more}
 use Rattle.lister.specs.Sheet.{dot, action_on, row_from}
-use Rattle.lister.specs.PartLaws.{turn_fits, begun_before, between_in, between_fits, parted_after, part_in, part_fits, turned}
-use Rattle.lister.specs.RowLaws.{in_row, text_to, one_unused, text_start, text_end}
+use Rattle.lister.proofs.PartLaws.{turn_fits, begun_before, between_in, between_fits, parted_after, part_in, part_fits, turned}
+use Rattle.lister.proofs.RowLaws.{in_row, text_to, one_unused, text_start, text_end}
 use Rattle.lister.proofs.agents.write_row.Statement.{statement}
 use Rattle.lister.proofs.agents.write_row.Tie as tie
 

@@ -7,15 +7,15 @@ use borrow.Author.Rules.{rules}
 use borrow.Fn.Kinds.{In}
 use borrow.Fn.PlainCycle.{Measures, is, falls, and}
 use Rattle.sets.specs.Set.{member}
-use Rattle.sets.specs.WalkLaws.{rest_start}
+use Rattle.sets.proofs.WalkLaws.{rest_start}
 use Rattle.meaning.specs.Listing.{texts_of}
-use Rattle.text.specs.TextLaws.{begun, wrote_as, wrote_length}
+use Rattle.text.proofs.TextLaws.{begun, wrote_as, wrote_length}
 use Rattle.lister.specs.Sheet.{bar, sheet_of, place_on}
 use Rattle.lister.specs.Marked.{grouped}
-use Rattle.lister.specs.SheetLaws.{contents_none, agents_filled, places_filled, head_fits, head_before, contents_in, contents_page, contents_before, bracket_in, bracket_placed, place_written}
-use Rattle.lister.specs.SheetLaws.{set_texts, no_texts, some_texts, agents_page, agents_alone, both_fit, places_page, both_written}
-use Rattle.lister.specs.PartLaws.{left_less, begun_before, between_in, between_fits, parted_after, part_in, part_fits, turned}
-use Rattle.lister.specs.TurnLaws.{Walked, walked_none, turn_low, turn_room, turn_page, turn_slot, turn_after, mark_small, walked_more, walked_marked, walked_all}
+use Rattle.lister.proofs.SheetLaws.{contents_none, agents_filled, places_filled, head_fits, head_before, contents_in, contents_page, contents_before, bracket_in, bracket_placed, place_written}
+use Rattle.lister.proofs.SheetLaws.{set_texts, no_texts, some_texts, agents_page, agents_alone, both_fit, places_page, both_written}
+use Rattle.lister.proofs.PartLaws.{left_less, begun_before, between_in, between_fits, parted_after, part_in, part_fits, turned}
+use Rattle.lister.proofs.TurnLaws.{Walked, walked_none, turn_low, turn_room, turn_page, turn_slot, turn_after, mark_small, walked_more, walked_marked, walked_all}
 use Rattle.lister.proofs.contents.write_contents.Reads as write_contents
 use Rattle.lister.proofs.contents.write_contents.Kinds as write_contents_kinds
 use Rattle.lister.proofs.contents.+write_contents_write_place_write_places.Lts-write_contents as write_contents_lts

@@ -1,6 +1,6 @@
 -- The walk over a set starts with all its members.
 use borrow.Author.Rules.{rules}
-use Rattle.sets.specs.WalkLaws.{rest_start}
+use Rattle.sets.proofs.WalkLaws.{rest_start}
 use Rattle.lister.proofs.contents.members.Statement.{statement}
 use Rattle.lister.proofs.contents.members.Tie as tie
 

@@ -4,10 +4,10 @@ use native.Mathlib.Omega.{arith}
 use borrow.Author.Rules.{rules}
 use Rattle.sets.specs.Word.{has}
 use Rattle.meaning.specs.Listing.{texts_of}
-use Rattle.text.specs.TextLaws.{wrote_length}
+use Rattle.text.proofs.TextLaws.{wrote_length}
 use Rattle.lister.specs.Sheet.{bar, row_text}
-use Rattle.lister.specs.PartLaws.{left_less, begun_before, between_in, between_fits, parted_after, part_in, part_fits, turned}
-use Rattle.lister.specs.TurnLaws.{Walked, walked_none, turn_low, turn_room, turn_slot, turn_after, mark_small, walked_more, walked_marked, walked_all}
+use Rattle.lister.proofs.PartLaws.{left_less, begun_before, between_in, between_fits, parted_after, part_in, part_fits, turned}
+use Rattle.lister.proofs.TurnLaws.{Walked, walked_none, turn_low, turn_room, turn_slot, turn_after, mark_small, walked_more, walked_marked, walked_all}
 use Rattle.lister.proofs.contents.write_agents.Statement.{statement}
 use Rattle.lister.proofs.contents.write_agents.Tie as tie
 

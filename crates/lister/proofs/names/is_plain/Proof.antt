@@ -1,6 +1,6 @@
 -- One test of the whole word.
 use borrow.Author.Rules.{rules}
-use Rattle.lister.specs.PackLaws.{plain_word}
+use Rattle.lister.proofs.PackLaws.{plain_word}
 use Rattle.lister.proofs.names.is_plain.Statement.{statement}
 use Rattle.lister.proofs.names.is_plain.Tie as tie
 

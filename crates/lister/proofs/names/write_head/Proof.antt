@@ -5,8 +5,8 @@ use native.Mathlib.Omega.{arith}
 use lib.ListN.{length-append}
 use Rattle.table.specs.Base.{tab}
 use Rattle.meaning.specs.Listing.{name_text}
-use Rattle.text.specs.TextLaws.{wrote_length}
-use Rattle.text.specs.RoomLaws.{fits_first, fits_exactly, store_in, stored}
+use Rattle.text.proofs.TextLaws.{wrote_length}
+use Rattle.text.proofs.RoomLaws.{fits_first, fits_exactly, store_in, stored}
 use Rattle.lister.specs.Sheet.{unpacked_of, head_text}
 use Rattle.lister.proofs.names.write_head.Statement.{statement}
 use Rattle.lister.proofs.names.write_head.Tie as tie

@@ -3,7 +3,7 @@ use mathlib.Core.Path.{refl}
 use native.Mathlib.Omega.{arith}
 use borrow.Author.Rules.{rules}
 use Rattle.meaning.specs.Text.{decimal}
-use Rattle.text.specs.RoomLaws.{fits_first, fits_exactly, first_in, fits_next, then_next}
+use Rattle.text.proofs.RoomLaws.{fits_first, fits_exactly, first_in, fits_next, then_next}
 use Rattle.lister.specs.Sheet.{keys_text, keyed_text}
 use Rattle.lister.proofs.names.write_keyed.Statement.{statement}
 use Rattle.lister.proofs.names.write_keyed.Tie as tie

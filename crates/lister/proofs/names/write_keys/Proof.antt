@@ -1,7 +1,7 @@
 -- One key after another.
 use mathlib.Core.Path.{refl}
 use borrow.Author.Rules.{rules}
-use Rattle.lister.specs.KeyLaws.{entering_fits, entering_before, exiting_in, exiting_fits, exiting_before, opening_in, opening_fits, keys_written}
+use Rattle.lister.proofs.KeyLaws.{entering_fits, entering_before, exiting_in, exiting_fits, exiting_before, opening_in, opening_fits, keys_written}
 use Rattle.lister.proofs.names.write_keys.Statement.{statement}
 use Rattle.lister.proofs.names.write_keys.Tie as tie
 

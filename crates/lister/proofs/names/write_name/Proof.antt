@@ -1,10 +1,10 @@
 -- The number alone, or the number and the keys.
 use mathlib.Core.Path.{sym}
 use borrow.Author.Rules.{rules}
-use Rattle.text.specs.TextLaws.{wrote_as}
-use Rattle.text.specs.RoomLaws.{fits_as}
+use Rattle.text.proofs.TextLaws.{wrote_as}
+use Rattle.text.proofs.RoomLaws.{fits_as}
 use Rattle.lister.specs.Sheet.{unpacked_of}
-use Rattle.lister.specs.KeyLaws.{plain_text, keyed_text_lem}
+use Rattle.lister.proofs.KeyLaws.{plain_text, keyed_text_lem}
 use Rattle.lister.proofs.names.write_name.Statement.{statement}
 use Rattle.lister.proofs.names.write_name.Tie as tie
 

@@ -1,8 +1,8 @@
 -- The slash, and the key after it.
 use native.Mathlib.Omega.{arith}
 use borrow.Author.Rules.{rules}
-use Rattle.text.specs.TextLaws.{wrote_length}
-use Rattle.lister.specs.KeyLaws.{slash_in, slash_placed, key_in, key_fits, key_written}
+use Rattle.text.proofs.TextLaws.{wrote_length}
+use Rattle.lister.proofs.KeyLaws.{slash_in, slash_placed, key_in, key_fits, key_written}
 use Rattle.lister.proofs.names.write_slashed.Statement.{statement}
 use Rattle.lister.proofs.names.write_slashed.Tie as tie
 

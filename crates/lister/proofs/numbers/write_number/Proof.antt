@@ -5,9 +5,9 @@ use native.Mathlib.Omega.{arith}
 use lib.ListN.{length, length-set}
 use borrow.Author.Rules.{rules}
 use Rattle.meaning.specs.Text.{decimal}
-use Rattle.text.specs.TextLaws.{wrote_as, wrote_length}
-use Rattle.text.specs.RoomLaws.{fits_as, stores}
-use Rattle.lister.specs.DigitLaws.{one_digit, digit_more}
+use Rattle.text.proofs.TextLaws.{wrote_as, wrote_length}
+use Rattle.text.proofs.RoomLaws.{fits_as, stores}
+use Rattle.lister.proofs.DigitLaws.{one_digit, digit_more}
 use Rattle.lister.proofs.numbers.write_number.Statement.{statement}
 use Rattle.lister.proofs.numbers.write_number.Tie as tie
 

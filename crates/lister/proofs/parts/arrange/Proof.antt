@@ -2,7 +2,7 @@
 use mathlib.Core.Path.{refl}
 use native.Mathlib.Omega.{arith}
 use borrow.Author.Rules.{rules}
-use Rattle.lister.specs.HeldLaws.{marked_held, marked_inside, marked_last, kept_arranged, few_arranged}
+use Rattle.lister.proofs.HeldLaws.{marked_held, marked_inside, marked_last, kept_arranged, few_arranged}
 use Rattle.lister.proofs.parts.arrange.Statement.{statement}
 use Rattle.lister.proofs.parts.arrange.Tie as tie
 

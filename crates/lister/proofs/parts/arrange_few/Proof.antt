@@ -7,7 +7,7 @@ use lib.ListN.{length, length-replicate}
 use lib.Seq.{length-take-le}
 use borrow.Author.Rules.{rules}
 use Rattle.lister.specs.Marked.{Marked}
-use Rattle.lister.specs.HeldLaws.{Held, marked_held, marked_last, copied, copy_rewritable, copy_arranged}
+use Rattle.lister.proofs.HeldLaws.{Held, marked_held, marked_last, copied, copy_rewritable, copy_arranged}
 use Rattle.lister.proofs.parts.arrange_few.Statement.{statement}
 use Rattle.lister.proofs.parts.arrange_few.Tie as tie
 

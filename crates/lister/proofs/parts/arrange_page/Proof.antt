@@ -8,7 +8,7 @@ use lib.Seq.{length-take-le}
 use borrow.Author.Rules.{rules}
 use Rattle.lengths.specs.Longest.{longest_listing}
 use Rattle.lister.specs.Marked.{Marked}
-use Rattle.lister.specs.HeldLaws.{Held, marked_held, marked_last, copied, copy_rewritable, copy_arranged}
+use Rattle.lister.proofs.HeldLaws.{Held, marked_held, marked_last, copied, copy_rewritable, copy_arranged}
 use Rattle.lister.proofs.parts.arrange_page.Statement.{statement}
 use Rattle.lister.proofs.parts.arrange_page.Tie as tie
 

@@ -4,9 +4,9 @@ use Prim.Native.Nat.{◌+◌, ◌-◌, ◌≤◌, ◌<◌}
 use native.Mathlib.Omega.{arith}
 use borrow.Author.Rules.{rules}
 use Rattle.meaning.specs.Sorted.{leq}
-use Rattle.text.specs.TextLaws.{least_le}
+use Rattle.text.proofs.TextLaws.{least_le}
 use Rattle.lister.specs.Cuts.{cut}
-use Rattle.lister.specs.CutLaws.{alike_at, from_all, from_less, from_more, from_same, from_end}
+use Rattle.lister.proofs.CutLaws.{alike_at, from_all, from_less, from_more, from_same, from_end}
 use Rattle.lister.proofs.parts.comes_first.Statement.{statement}
 use Rattle.lister.proofs.parts.comes_first.Tie as tie
 use Rattle.lister.proofs.parts.comes_first.Reads as reads

@@ -4,8 +4,8 @@ use mathlib.Core.List.{List}
 use Prim.Native.Nat.{ℕ, ◌+◌, ◌-◌, ◌≤◌, ◌<◌}
 use native.Mathlib.Omega.{arith}
 use Rattle.lister.specs.Cuts.{Ordering}
-use Rattle.lister.specs.RankLaws.{order_start, order_more}
-use Rattle.lister.specs.RewriteLaws.{inside_less}
+use Rattle.lister.proofs.RankLaws.{order_start, order_more}
+use Rattle.lister.proofs.RewriteLaws.{inside_less}
 use Rattle.lister.proofs.parts.order.Statement.{statement}
 use Rattle.lister.proofs.parts.order.Tie as tie
 use Rattle.lister.proofs.parts.order.Reads as reads

@@ -5,7 +5,7 @@ use Prim.Native.Nat.{◌-◌, ◌≤◌}
 use native.Mathlib.Omega.{arith}
 use borrow.Author.Tests.{not-false}
 use Rattle.lister.specs.Cuts.{alike}
-use Rattle.lister.specs.CutLaws.{alike_none, alike_more}
+use Rattle.lister.proofs.CutLaws.{alike_none, alike_more}
 use Rattle.lister.proofs.parts.pass.Statement.{statement}
 use Rattle.lister.proofs.parts.pass.Tie as tie
 

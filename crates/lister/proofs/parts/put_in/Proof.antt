@@ -3,7 +3,7 @@ use mathlib.Core.Path.{◌≡◌, refl, sym, ap, ◌∙◌}
 use Prim.Native.Nat.{ℕ, ◌-◌, ◌≤◌}
 use native.Mathlib.Omega.{arith}
 use Rattle.lister.specs.Cuts.{put_in}
-use Rattle.lister.specs.PutLaws.{put_step, put_end}
+use Rattle.lister.proofs.PutLaws.{put_step, put_end}
 use Rattle.lister.proofs.parts.put_in.Statement.{statement}
 use Rattle.lister.proofs.parts.put_in.Tie as tie
 

@@ -4,7 +4,7 @@ use native.Mathlib.Omega.{arith}
 use borrow.Author.Rules.{rules}
 use borrow.Author.Tests.{not-true}
 use Rattle.lister.specs.Cuts.{part_at}
-use Rattle.lister.specs.RankLaws.{Between, asked, row_low, rank_none, rank_last, rank_first, search_all, search_up, search_down, search_end}
+use Rattle.lister.proofs.RankLaws.{Between, asked, row_low, rank_none, rank_last, rank_first, search_all, search_up, search_down, search_end}
 use Rattle.lister.proofs.parts.rank.Statement.{statement}
 use Rattle.lister.proofs.parts.rank.Tie as tie
 

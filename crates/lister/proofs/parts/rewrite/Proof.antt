@@ -7,11 +7,11 @@ use borrow.Author.Rules.{rules}
 use lib.ListN.{length}
 use Rattle.meaning.specs.Text.{joined, joined_all, overlay}
 use Rattle.text.specs.Wrote.{Wrote, Fits}
-use Rattle.text.specs.TextLaws.{wrote_length}
+use Rattle.text.proofs.TextLaws.{wrote_length}
 use Rattle.lister.specs.Sheet.{bar}
 use Rattle.lister.specs.Cuts.{cut, part_at, in_row}
-use Rattle.lister.specs.PartLaws.{between_in, between_fits, part_in, turned}
-use Rattle.lister.specs.RewriteLaws.{turn_low, turn_after, turn_within, turn_fits, turn_done, turns_start}
+use Rattle.lister.proofs.PartLaws.{between_in, between_fits, part_in, turned}
+use Rattle.lister.proofs.RewriteLaws.{turn_low, turn_after, turn_within, turn_fits, turn_done, turns_start}
 use Rattle.lister.proofs.parts.rewrite.Statement.{statement}
 use Rattle.lister.proofs.parts.rewrite.Tie as tie
 use Rattle.lister.proofs.parts.rewrite.Reads as reads

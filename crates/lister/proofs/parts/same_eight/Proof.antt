@@ -1,6 +1,6 @@
 -- The two numbers are equal exactly if the bytes are.
 use borrow.Author.Rules.{rules}
-use Rattle.lister.specs.EightLaws.{eight_alike}
+use Rattle.lister.proofs.EightLaws.{eight_alike}
 use Rattle.lister.proofs.parts.same_eight.Statement.{statement}
 use Rattle.lister.proofs.parts.same_eight.Tie as tie
 

@@ -1,6 +1,6 @@
 -- The first part starts at 0, and any other after a bar.
 use borrow.Author.Rules.{rules}
-use Rattle.lister.specs.PutLaws.{start_none, start_more}
+use Rattle.lister.proofs.PutLaws.{start_none, start_more}
 use Rattle.lister.proofs.parts.start.Statement.{statement}
 use Rattle.lister.proofs.parts.start.Tie as tie
 

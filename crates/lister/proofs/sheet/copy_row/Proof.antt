@@ -4,9 +4,9 @@ use mathlib.Core.Logic.{◌⊎◌, inl, inr}
 use Prim.Native.Nat.{◌≤◌, ◌-◌}
 use native.Mathlib.Omega.{arith}
 use borrow.Author.Rules.{rules}
-use Rattle.text.specs.TextLaws.{least_le}
+use Rattle.text.proofs.TextLaws.{least_le}
 use Rattle.lister.specs.Sheet.{kind_of, number_of, Copied}
-use Rattle.lister.specs.RowLaws.{copied_none, copied_more, copied_all}
+use Rattle.lister.proofs.RowLaws.{copied_none, copied_more, copied_all}
 use Rattle.lister.proofs.sheet.copy_row.Statement.{statement}
 use Rattle.lister.proofs.sheet.copy_row.Tie as tie
 

@@ -1,7 +1,7 @@
 -- The names and words of the places, then those of the agents with their rows.
 use borrow.Author.Rules.{rules}
 use Rattle.table.proofs.Facts.{names16}
-use Rattle.lister.specs.DrawnLaws.{drawn}
+use Rattle.lister.proofs.DrawnLaws.{drawn}
 use Rattle.lister.proofs.sheet.lay.Statement.{statement}
 use Rattle.lister.proofs.sheet.lay.Tie as tie
 

@@ -7,15 +7,16 @@ use native.Mathlib.Omega.{arith}
 use lib.ListN.{length, length-set, get_or}
 use borrow.Author.Rules.{rules}
 use Rattle.sets.specs.Set.{member}
-use Rattle.sets.specs.WalkLaws.{lowest_in, Rest, rest_start, rest_member, rest_skip, rest_end}
+use Rattle.sets.proofs.WalkLaws.{rest_start, rest_member, rest_skip, rest_end}
+use Rattle.sets.specs.Walk.{lowest_in, Rest}
 use Rattle.sets.specs.declared.Set.{Set}
-use Rattle.table.specs.BaseLaws.{get_d_tab}
+use Rattle.table.proofs.BaseLaws.{get_d_tab}
 use Rattle.table.specs.Cell.{no_agent, has_unused}
 use Rattle.table.specs.declared.Agent.{Agent}
 use Rattle.lister.specs.Sheet.{is_listed, homes_of, Rows}
-use Rattle.lister.specs.PartLaws.{taken_lt, left_over, left_less}
-use Rattle.lister.specs.GroupLaws.{words_to, words_none, words_filed, words_left, words_all}
-use Rattle.lister.specs.RowLaws.{rows_none, rows_skip, rows_more}
+use Rattle.lister.proofs.PartLaws.{taken_lt, left_over, left_less}
+use Rattle.lister.proofs.GroupLaws.{words_to, words_none, words_filed, words_left, words_all}
+use Rattle.lister.proofs.RowLaws.{rows_none, rows_skip, rows_more}
 use Rattle.lister.proofs.sheet.lodge.Statement.{statement}
 use Rattle.lister.proofs.sheet.lodge.Tie as tie
 

@@ -7,16 +7,17 @@ use native.Mathlib.Omega.{arith}
 use lib.ListN.{get_or}
 use borrow.Author.Rules.{rules}
 use Rattle.sets.specs.Set.{member}
-use Rattle.sets.specs.WalkLaws.{Rest, rest_start, rest_member, rest_from, rest_skip, rest_end}
+use Rattle.sets.proofs.WalkLaws.{rest_start, rest_member, rest_from, rest_skip, rest_end}
+use Rattle.sets.specs.Walk.{Rest}
 use Rattle.sets.specs.declared.Set.{Set}
 use Rattle.table.specs.Base.{tab}
-use Rattle.table.specs.BaseLaws.{get_d_tab}
+use Rattle.table.proofs.BaseLaws.{get_d_tab}
 use Rattle.table.specs.Cell.{no_place}
-use Rattle.table.specs.SweepLaws.{below, sweep_start, sweep_skip, sweep_hit, sweep_end}
+use Rattle.table.proofs.SweepLaws.{below, sweep_start, sweep_skip, sweep_hit, sweep_end}
 use Rattle.table.specs.declared.Place.{Place}
 use Rattle.lister.specs.Sheet.{packed_of, names_of, parents_of}
-use Rattle.lister.specs.PartLaws.{taken_lt, left_over, left_less}
-use Rattle.lister.specs.GroupLaws.{row_of, words_to, words_none, words_filed, words_all}
+use Rattle.lister.proofs.PartLaws.{taken_lt, left_over, left_less}
+use Rattle.lister.proofs.GroupLaws.{row_of, words_to, words_none, words_filed, words_all}
 use Rattle.lister.proofs.sheet.stand.Statement.{statement}
 use Rattle.lister.proofs.sheet.stand.Tie as tie
 

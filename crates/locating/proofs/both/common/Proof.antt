@@ -1,7 +1,7 @@
 -- What is known, told what `is_sound` answered, is the answer.
 use mathlib.Core.Path.{◌∙◌}
 use borrow.Author.Rules.{rules}
-use Rattle.locating.specs.KnownLaws.{common_told}
+use Rattle.locating.proofs.KnownLaws.{common_told}
 use Rattle.locating.proofs.both.common.Statement.{statement}
 use Rattle.locating.proofs.both.common.Tie as tie
 

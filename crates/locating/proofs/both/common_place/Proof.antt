@@ -2,7 +2,7 @@
 use mathlib.Core.Path.{◌∙◌}
 use borrow.Author.Rules.{rules}
 use Rattle.locating.specs.Outwards.{up_in}
-use Rattle.locating.specs.OutwardsLaws.{first_common}
+use Rattle.locating.proofs.OutwardsLaws.{first_common}
 use Rattle.locating.proofs.both.common_place.Statement.{statement}
 use Rattle.locating.proofs.both.common_place.Tie as tie
 

@@ -7,7 +7,7 @@ use Rattle.sets.specs.Set.{member}
 use Rattle.table.specs.declared.Place.{Place}
 use Rattle.meaning.specs.Where.{most_outwards, outwards}
 use Rattle.locating.specs.Outwards.{up_in}
-use Rattle.locating.specs.OutwardsLaws.{out_none, out_hit, out_floor, out_more}
+use Rattle.locating.proofs.OutwardsLaws.{out_none, out_hit, out_floor, out_more}
 use Rattle.locating.proofs.both.first_among.Statement.{statement}
 use Rattle.locating.proofs.both.first_among.Tie as tie
 

@@ -6,7 +6,7 @@ use borrow.Author.Rules.{rules}
 use Rattle.sets.specs.declared.Set.{Set}
 use Rattle.table.specs.declared.Place.{Place}
 use Rattle.locating.specs.Outwards.{up_in}
-use Rattle.locating.specs.OutwardsLaws.{Chained, chain_start, chain_more, chain_floor, chain_end}
+use Rattle.locating.proofs.OutwardsLaws.{Chained, chain_start, chain_more, chain_floor, chain_end}
 use Rattle.locating.proofs.both.holders.Statement.{statement}
 use Rattle.locating.proofs.both.holders.Tie as tie
 

@@ -8,7 +8,7 @@ use borrow.Author.Tests.{eq-eqb, ne_eqb}
 use Rattle.table.specs.declared.Place.{Place}
 use Rattle.meaning.specs.Where.{most_outwards, outwards}
 use Rattle.locating.specs.Outwards.{up_in, named_in}
-use Rattle.locating.specs.OutwardsLaws.{out_none, out_hit, out_floor, out_more}
+use Rattle.locating.proofs.OutwardsLaws.{out_none, out_hit, out_floor, out_more}
 use Rattle.locating.proofs.named.first_named.Statement.{statement}
 use Rattle.locating.proofs.named.first_named.Tie as tie
 

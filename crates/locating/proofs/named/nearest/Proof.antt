@@ -1,7 +1,7 @@
 -- What is known, told what `is_sound` answered, is the answer.
 use mathlib.Core.Path.{◌∙◌}
 use borrow.Author.Rules.{rules}
-use Rattle.locating.specs.KnownLaws.{nearest_told}
+use Rattle.locating.proofs.KnownLaws.{nearest_told}
 use Rattle.locating.proofs.named.nearest.Statement.{statement}
 use Rattle.locating.proofs.named.nearest.Tie as tie
 

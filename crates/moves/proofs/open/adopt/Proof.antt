@@ -1,11 +1,12 @@
 -- Each turn takes the lowest place that is left; what holds before it is `Storing`.
 use Rattle.std.proofs.Common.{ℕ, ◌<◌, get_or, sym, ap, ◌∙◌, subst, pos_of_ne-zero, arith, rules}
-use Rattle.sets.specs.WalkLaws.{rest_lt, removed_less, lowest_in}
+use Rattle.sets.proofs.WalkLaws.{rest_lt, removed_less}
+use Rattle.sets.specs.Walk.{lowest_in}
 use Rattle.sets.specs.declared.Set.{Set}
-use Rattle.table.specs.BaseLaws.{tab_get_d}
+use Rattle.table.proofs.BaseLaws.{tab_get_d}
 use Rattle.table.specs.Cell.{no_place}
 use Rattle.meaning.specs.Step.{dissolve_place}
-use Rattle.moves.specs.StoreLaws.{Storing, storing_start, storing_at, storing_more, storing_end}
+use Rattle.moves.proofs.StoreLaws.{Storing, storing_start, storing_at, storing_more, storing_end}
 use Rattle.moves.proofs.open.adopt.Statement.{statement}
 use Rattle.moves.proofs.open.adopt.Tie as tie
 

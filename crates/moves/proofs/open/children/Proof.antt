@@ -1,10 +1,10 @@
 -- Each turn takes the lowest place that is left; what holds before it is `Gathered`.
 use Rattle.std.proofs.Common.{ℕ, ◌<◌, eqb, get_or, sym, refl, subst, pos_of_ne-zero, arith, rules}
 use Rattle.sets.specs.Set.{member}
-use Rattle.sets.specs.WalkLaws.{rest_lt, removed_less}
+use Rattle.sets.proofs.WalkLaws.{rest_lt, removed_less}
 use Rattle.sets.specs.declared.Set.{Set}
 use Rattle.table.specs.Cell.{no_place}
-use Rattle.updates.specs.GatherLaws.{Gathered, gathered_start, gathered_end, gathered_more}
+use Rattle.updates.proofs.GatherLaws.{Gathered, gathered_start, gathered_end, gathered_more}
 use Rattle.moves.proofs.open.children.Statement.{statement}
 use Rattle.moves.proofs.open.children.Tie as tie
 

@@ -1,16 +1,16 @@
 -- Each turn takes the lowest agent that is left; what holds before it is `Opening`.
 use Rattle.std.proofs.Common.{◌≡◌, ℕ, ◌<◌, cond, ◌&&◌, eqb, ltb, get_or, sym, ap, ◌∙◌, subst, ap₂, pos_of_ne-zero, arith}
 use Rattle.sets.specs.Set.{member}
-use Rattle.sets.specs.WalkLaws.{rest_lt, removed_less}
+use Rattle.sets.proofs.WalkLaws.{rest_lt, removed_less}
 use Rattle.sets.specs.declared.Set.{Set}
 use Rattle.table.specs.Cell.{no_agent}
 use Rattle.table.specs.declared.Agent.{Agent}
 use Rattle.table.proofs.Facts.{sized}
 use Rattle.meaning.specs.Update.{at_stage, use_up}
 use Rattle.meaning.specs.Step.{rest_stage, woken_by, dissolve_agent}
-use Rattle.moves.specs.StoreLaws.{stored_in, stored_past}
-use Rattle.moves.specs.OpenLaws.{Opening, opening_start, opening_more, opening_all, opening_end}
-use Rattle.sets.specs.WordLaws.{count_most}
+use Rattle.moves.proofs.StoreLaws.{stored_in, stored_past}
+use Rattle.moves.proofs.OpenLaws.{Opening, opening_start, opening_more, opening_all, opening_end}
+use Rattle.sets.proofs.WordLaws.{count_most}
 use Rattle.moves.proofs.open.dissolve.Statement.{statement}
 use Rattle.moves.proofs.open.dissolve.Tie as tie
 

@@ -1,11 +1,11 @@
 -- Each turn takes the lowest place that is left; what holds before it is `Storing`.
 use Rattle.std.proofs.Common.{ℕ, ◌<◌, cond, get_or, sym, ap, ◌∙◌, subst, pos_of_ne-zero, arith, rules}
 use Rattle.sets.specs.Set.{member}
-use Rattle.sets.specs.WalkLaws.{rest_lt, removed_less}
+use Rattle.sets.proofs.WalkLaws.{rest_lt, removed_less}
 use Rattle.sets.specs.declared.Set.{Set}
-use Rattle.table.specs.BaseLaws.{tab_get_d}
+use Rattle.table.proofs.BaseLaws.{tab_get_d}
 use Rattle.table.specs.Cell.{none}
-use Rattle.moves.specs.StoreLaws.{Storing, storing_start, storing_at, storing_more, storing_end}
+use Rattle.moves.proofs.StoreLaws.{Storing, storing_start, storing_at, storing_more, storing_end}
 use Rattle.moves.proofs.open.free_held.Statement.{statement}
 use Rattle.moves.proofs.open.free_held.Tie as tie
 

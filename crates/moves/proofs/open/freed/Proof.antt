@@ -4,7 +4,7 @@ use Rattle.sets.specs.Set.{member}
 use Rattle.sets.specs.declared.Set.{Set}
 use Rattle.order.specs.Row.{later}
 use Rattle.table.specs.Cell.{no_place}
-use Rattle.updates.specs.GatherLaws.{member_among}
+use Rattle.updates.proofs.GatherLaws.{member_among}
 use Rattle.moves.proofs.open.freed.Statement.{statement}
 use Rattle.moves.proofs.open.freed.Tie as tie
 

@@ -1,7 +1,7 @@
 -- Two stores, one after the other: the sum at p, then 0 at t.
 use Rattle.std.proofs.Common.{ℕ, ◌+◌, ◌%◌, ◌^◌, get_or, ap, ◌∙◌, ap₂, rules}
 use Rattle.table.specs.Base.{tab, upd}
-use Rattle.updates.specs.UpdateLaws.{store_tab}
+use Rattle.updates.proofs.UpdateLaws.{store_tab}
 use Rattle.moves.proofs.open.pool.Statement.{statement}
 use Rattle.moves.proofs.open.pool.Tie as tie
 

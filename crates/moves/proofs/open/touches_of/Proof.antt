@@ -1,6 +1,6 @@
 -- Past 63 the array reads 0.
 use Rattle.std.proofs.Common.{sym, rules}
-use Rattle.table.specs.ElementLaws.{read_past}
+use Rattle.table.proofs.ElementLaws.{read_past}
 use Rattle.moves.proofs.open.touches_of.Statement.{statement}
 use Rattle.moves.proofs.open.touches_of.Tie as tie
 

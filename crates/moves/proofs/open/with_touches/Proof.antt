@@ -1,7 +1,7 @@
 -- A store is one value changed; past 63 nothing is.
 use Rattle.std.proofs.Common.{rules}
-use Rattle.table.specs.BaseLaws.{set_list}
-use Rattle.table.specs.ElementLaws.{store_past}
+use Rattle.table.proofs.BaseLaws.{set_list}
+use Rattle.table.proofs.ElementLaws.{store_past}
 use Rattle.moves.proofs.open.with_touches.Statement.{statement}
 use Rattle.moves.proofs.open.with_touches.Tie as tie
 

@@ -1,14 +1,14 @@
 -- Each turn takes the lowest agent that is left; what holds before it is `Waking`.
 use Rattle.std.proofs.Common.{ℕ, ◌<◌, get_or, sym, ap, ◌∙◌, subst, pos_of_ne-zero, arith}
 use Rattle.sets.specs.Set.{member}
-use Rattle.sets.specs.WalkLaws.{rest_lt, removed_less}
+use Rattle.sets.proofs.WalkLaws.{rest_lt, removed_less}
 use Rattle.sets.specs.declared.Set.{Set}
 use Rattle.table.specs.Cell.{no_agent}
 use Rattle.table.proofs.Facts.{sized}
 use Rattle.meaning.specs.Step.{asleep_on}
-use Rattle.moves.specs.StoreLaws.{stored_in, stored_past}
-use Rattle.moves.specs.WakeLaws.{Waking, waking_start, waking_hit, waking_miss, waking_all, waking_end}
-use Rattle.sets.specs.WordLaws.{count_most}
+use Rattle.moves.proofs.StoreLaws.{stored_in, stored_past}
+use Rattle.moves.proofs.WakeLaws.{Waking, waking_start, waking_hit, waking_miss, waking_all, waking_end}
+use Rattle.sets.proofs.WordLaws.{count_most}
 use Rattle.moves.proofs.places.move_place.Statement.{statement}
 use Rattle.moves.proofs.places.move_place.Tie as tie
 

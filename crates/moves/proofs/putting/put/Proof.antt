@@ -8,7 +8,7 @@ use Rattle.meaning.specs.Step.{rest_stage}
 use Rattle.meaning.specs.Run.{made}
 use Rattle.meaning.specs.declared.Word.TheVariants.{Put}
 use Rattle.moves.specs.Motions.{move_place}
-use Rattle.moves.specs.PutLaws.{put_made}
+use Rattle.moves.proofs.PutLaws.{put_made}
 use Rattle.moves.proofs.putting.put.Statement.{statement}
 use Rattle.moves.proofs.putting.put.Tie as tie
 

@@ -1,7 +1,7 @@
 -- There are 64 at most, so the count is a byte.
 use Rattle.std.proofs.Common.{arith, rules}
 use Rattle.sets.specs.Set.{member}
-use Rattle.sets.specs.WordLaws.{count_most}
+use Rattle.sets.proofs.WordLaws.{count_most}
 use Rattle.moves.proofs.waking.counted.Statement.{statement}
 use Rattle.moves.proofs.waking.counted.Tie as tie
 

@@ -1,11 +1,11 @@
 -- Each turn takes the lowest agent that is left; what holds before it is `Gathered`.
 use Rattle.std.proofs.Common.{ℕ, ◌<◌, get_or, sym, ap, ◌∙◌, subst, pos_of_ne-zero, arith, rules}
 use Rattle.sets.specs.Set.{member}
-use Rattle.sets.specs.WalkLaws.{rest_lt, removed_less}
+use Rattle.sets.proofs.WalkLaws.{rest_lt, removed_less}
 use Rattle.sets.specs.declared.Set.{Set}
 use Rattle.table.specs.Cell.{no_agent}
 use Rattle.meaning.specs.Step.{woken_by}
-use Rattle.updates.specs.GatherLaws.{Gathered, gathered_start, gathered_end, gathered_more}
+use Rattle.updates.proofs.GatherLaws.{Gathered, gathered_start, gathered_end, gathered_more}
 use Rattle.moves.proofs.waking.freed_sleepers.Statement.{statement}
 use Rattle.moves.proofs.waking.freed_sleepers.Tie as tie
 

@@ -1,9 +1,9 @@
 -- The count of the set is that of those in it.
 use Rattle.std.proofs.Common.{◌&&◌, get_or, ap, ◌∙◌, rules}
 use Rattle.sets.specs.Word.{count_of}
-use Rattle.sets.specs.WordLaws.{count_ext}
+use Rattle.sets.proofs.WordLaws.{count_ext}
 use Rattle.sets.specs.Set.{member}
-use Rattle.sets.specs.SetLaws.{member_set}
+use Rattle.sets.proofs.SetLaws.{member_set}
 use Rattle.sets.specs.declared.Set.{Set}
 use Rattle.table.specs.Cell.{no_agent}
 use Rattle.meaning.specs.Step.{asleep_on}

@@ -42,7 +42,7 @@ use Rattle.moves.specs.contracts.Motion as Motion'
 use Rattle.moves.proofs.Motion.TheLaws as motion_laws
 use Rattle.moving.specs.Plan.{goal_of}
 use Rattle.moving.specs.Count.{before_of, passed_of}
-use Rattle.moving.specs.CountLaws.{Counts, counting_more, counting_less, counts_start, counts_end}
+use Rattle.moving.proofs.CountLaws.{Counts, counting_more, counting_less, counts_start, counts_end}
 use Rattle.moving.specs.declared.turns.Waking.{Waking}
 use Rattle.moving.proofs.Parts.{small, place_fits_lem, agent_fits_lem, fits, motion_val, Motion-is, waking_val as val, Waking-is, told_waking, sleepers_of, set_typed, agent_typed_lem, place_typed, Goal, to_goal, goes_goal}
 use Rattle.moving.specs.contracts.turns.Waking as Waking'

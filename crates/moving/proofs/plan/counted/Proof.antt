@@ -1,7 +1,7 @@
 -- There are 64 at most, so the count is a byte.
 use native.Mathlib.Omega.{arith}
 use Rattle.sets.specs.Set.{member}
-use Rattle.sets.specs.WordLaws.{count_most}
+use Rattle.sets.proofs.WordLaws.{count_most}
 use borrow.Author.Rules.{rules}
 use Rattle.moving.proofs.plan.counted.Statement.{statement}
 use Rattle.moving.proofs.plan.counted.Tie as tie

@@ -34,7 +34,7 @@ use Rattle.moves.specs.contracts.Motion as Motion'
 use Rattle.moves.proofs.Motion.TheLaws as motion_laws
 use Rattle.moving.specs.Plan.{number_of, goal_of, plan_of}
 use Rattle.moving.specs.Shift.{moved_on, opened_of, answer_of}
-use Rattle.moving.specs.ShiftLaws.{ends_on, ends_open}
+use Rattle.moving.proofs.ShiftLaws.{ends_on, ends_open}
 use Rattle.moving.specs.contracts.plan.Plan as Plan'
 use Rattle.moving.proofs.plan.Plan.TheLaws as plan_laws
 use Rattle.moving.specs.contracts.turns.Waking as Waking'

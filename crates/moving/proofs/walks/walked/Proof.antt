@@ -30,7 +30,7 @@ use Rattle.table.proofs.Agent.TheLaws as agent_laws
 use Rattle.table.proofs.Cell.TheLaws as T'
 use Rattle.table.proofs.Facts.{sized}
 use Rattle.moving.specs.Turn.{start_of, turn_of, agents_after, end_of}
-use Rattle.moving.specs.TurnLaws.{Walking, walking_start, walking_cell, walking_end}
+use Rattle.moving.proofs.TurnLaws.{Walking, walking_start, walking_cell, walking_end}
 use Rattle.moving.specs.declared.turns.Waking.{Waking}
 use Rattle.moving.proofs.Parts.{fits, agent_fits_lem as times, waking_val as val, Waking-is, told_waking, set_typed}
 use Rattle.moving.specs.contracts.turns.Waking as Waking'

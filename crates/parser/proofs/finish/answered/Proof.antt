@@ -1,6 +1,6 @@
 -- Refused where there was too much, and else the cell with its row.
 use borrow.Author.Rules.{rules}
-use Rattle.parser.specs.CodeLaws.{answered_over, answered_cell}
+use Rattle.parser.proofs.CodeLaws.{answered_over, answered_cell}
 use Rattle.parser.proofs.finish.answered.Statement.{statement}
 use Rattle.parser.proofs.finish.answered.Tie as tie
 

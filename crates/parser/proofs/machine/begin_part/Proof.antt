@@ -1,6 +1,6 @@
 -- A digit from 1 on begins a name, and what else begins is a word.
 use native.Mathlib.Omega.{arith}
-use Rattle.parser.specs.CodeLaws.{digit_low, part_digit, part_word}
+use Rattle.parser.proofs.CodeLaws.{digit_low, part_digit, part_word}
 use borrow.Author.Rules.{rules}
 use Rattle.parser.proofs.machine.begin_part.Statement.{statement}
 use Rattle.parser.proofs.machine.begin_part.Tie as tie

@@ -1,5 +1,5 @@
 -- Each test picks its case, and a place is open.
-use Rattle.parser.specs.CodeLaws.{closed_one, closed_none}
+use Rattle.parser.proofs.CodeLaws.{closed_one, closed_none}
 use Rattle.table.proofs.Rules.{tests}
 use Rattle.language.specs.Machine.{closed}
 use borrow.Author.Rules.{rules}

@@ -1,6 +1,6 @@
 -- A digit makes the number longer where it is not 0 and the longer one has 16 bits.
 use native.Mathlib.Omega.{arith}
-use Rattle.parser.specs.CodeLaws.{digit_low, longer_some, longer_large, longer_none, longer_zero}
+use Rattle.parser.proofs.CodeLaws.{digit_low, longer_some, longer_large, longer_none, longer_zero}
 use borrow.Author.Rules.{rules}
 use Rattle.parser.proofs.machine.more_digits.Statement.{statement}
 use Rattle.parser.proofs.machine.more_digits.Tie as tie

@@ -1,7 +1,7 @@
 -- The arm tells the state, and each test picks its case.
 use borrow.Author.Tests.{eq-eqb, ne_eqb}
 use native.Mathlib.Omega.{arith}
-use Rattle.parser.specs.CodeLaws.{digit_low, before_digit, before_off, next_follow, next_digit, least_lt}
+use Rattle.parser.proofs.CodeLaws.{digit_low, before_digit, before_off, next_follow, next_digit, least_lt}
 use Rattle.table.proofs.Rules.{tests}
 use Rattle.language.specs.Machine.{next}
 use borrow.Author.Rules.{rules}

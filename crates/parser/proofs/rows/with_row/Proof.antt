@@ -7,7 +7,7 @@ use Rattle.language.specs.declared.Control.TheVariants.{Dot}
 use Rattle.parser.specs.Stretches
 use Rattle.parser.specs.Rows
 use Rattle.parser.specs.Rows.{Rowed}
-use Rattle.parser.specs.RowLaws.{row_on, row_more}
+use Rattle.parser.proofs.RowLaws.{row_on, row_more}
 use Rattle.parser.proofs.rows.with_row.Statement.{statement}
 use Rattle.parser.proofs.rows.with_row.Tie as tie
 

@@ -2,7 +2,7 @@
 use native.Mathlib.Omega.{arith}
 use borrow.Author.Rules.{rules}
 use Rattle.parser.specs.Stretches
-use Rattle.parser.specs.StretchLaws.{enter_spells, exit_spells, open_spells, release_spells, stretch_action}
+use Rattle.parser.proofs.StretchLaws.{enter_spells, exit_spells, open_spells, release_spells, stretch_action}
 use Rattle.parser.proofs.stretch.action.Statement.{statement}
 use Rattle.parser.proofs.stretch.action.Tie as tie
 

@@ -6,7 +6,7 @@ use borrow.Author.Rules.{rules}
 use Rattle.language.specs.declared.Control.TheVariants.{Digits}
 use Rattle.parser.specs.Stretches
 use Rattle.parser.specs.Stretches.{Stretch}
-use Rattle.parser.specs.StretchLaws.{stretch_digit}
+use Rattle.parser.proofs.StretchLaws.{stretch_digit}
 use Rattle.parser.proofs.stretch.digits.Statement.{statement}
 use Rattle.parser.proofs.stretch.digits.Tie as tie
 

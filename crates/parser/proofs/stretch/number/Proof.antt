@@ -3,8 +3,8 @@ use native.Mathlib.Omega.{arith}
 use lib.ListN.{get_or}
 use borrow.Author.Rules.{rules}
 use Rattle.parser.specs.Stretches
-use Rattle.parser.specs.CodeLaws.{digit_low}
-use Rattle.parser.specs.StretchLaws.{stretch_first}
+use Rattle.parser.proofs.CodeLaws.{digit_low}
+use Rattle.parser.proofs.StretchLaws.{stretch_first}
 use Rattle.parser.proofs.stretch.number.Statement.{statement}
 use Rattle.parser.proofs.stretch.number.Tie as tie
 

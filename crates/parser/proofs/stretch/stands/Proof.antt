@@ -3,8 +3,8 @@ use mathlib.Core.Path.{◌≡◌, refl}
 use Prim.Native.Nat.{ℕ, ◌+◌, ◌-◌, ◌≤◌, ◌<◌}
 use native.Mathlib.Omega.{arith}
 use lib.ListN.{length, get_or}
-use Rattle.table.specs.BaseLaws.{clash}
-use Rattle.parser.specs.StretchLaws.{alike_more}
+use Rattle.table.proofs.BaseLaws.{clash}
+use Rattle.parser.proofs.StretchLaws.{alike_more}
 use Rattle.parser.proofs.stretch.stands.Statement.{statement}
 use Rattle.parser.proofs.stretch.stands.Tie as tie
 

@@ -1,5 +1,5 @@
 -- A byte of the word, and none past its end.
-use Rattle.parser.specs.CodeLaws.{past_end}
+use Rattle.parser.proofs.CodeLaws.{past_end}
 use borrow.Author.Rules.{rules}
 use Rattle.parser.proofs.words.byte_of.Statement.{statement}
 use Rattle.parser.proofs.words.byte_of.Tie as tie

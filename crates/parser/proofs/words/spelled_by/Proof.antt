@@ -1,5 +1,5 @@
 -- The byte is the one of the word, and it is the last or not.
-use Rattle.parser.specs.CodeLaws.{spelled_on, spelled_ends, spelled_off}
+use Rattle.parser.proofs.CodeLaws.{spelled_on, spelled_ends, spelled_off}
 use borrow.Author.Rules.{rules}
 use Rattle.parser.proofs.words.spelled_by.Statement.{statement}
 use Rattle.parser.proofs.words.spelled_by.Tie as tie

@@ -1,6 +1,6 @@
 -- The last byte, and the one before it, tell.
 use borrow.Author.Rules.{rules}
-use Rattle.report.specs.TypedLaws.{line_empty, line_open, line_alone, line_feed, line_both}
+use Rattle.report.proofs.TypedLaws.{line_empty, line_open, line_alone, line_feed, line_both}
 use Rattle.report.proofs.typed.line_length.Statement.{statement}
 use Rattle.report.proofs.typed.line_length.Tie as tie
 

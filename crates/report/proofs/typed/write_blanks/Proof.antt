@@ -5,8 +5,8 @@ use native.Mathlib.Omega.{arith}
 use Prim.Native.Nat.{ℕ, ◌-◌}
 use lib.ListN.{length, take, replicate, length-replicate}
 use Rattle.meaning.specs.Text.{overlay}
-use Rattle.text.specs.TextLaws.{bytes_none, least_le, over_length}
-use Rattle.report.specs.TypedLaws.{filled, blanks_more}
+use Rattle.text.proofs.TextLaws.{bytes_none, least_le, over_length}
+use Rattle.report.proofs.TypedLaws.{filled, blanks_more}
 use Rattle.report.proofs.typed.write_blanks.Statement.{statement}
 use Rattle.report.proofs.typed.write_blanks.Tie as tie
 

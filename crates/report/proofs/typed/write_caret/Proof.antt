@@ -1,6 +1,6 @@
 -- The blanks, and the caret with the line's end.
 use Rattle.table.specs.Base.{tab}
-use Rattle.text.specs.TextLaws.{least_le, next, wrote_length}
+use Rattle.text.proofs.TextLaws.{least_le, next, wrote_length}
 use Rattle.language.specs.TypedReport.{caret_line}
 use borrow.Author.Rules.{rules}
 use Rattle.report.proofs.typed.write_caret.Statement.{statement}

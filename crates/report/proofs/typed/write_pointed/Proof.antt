@@ -5,9 +5,9 @@ use Prim.Native.Nat.{ℕ, ◌-◌}
 use native.Mathlib.Omega.{arith}
 use lib.ListN.{length}
 use Rattle.table.specs.Base.{tab}
-use Rattle.text.specs.TextLaws.{least_le, next, placed_on, wrote_as, wrote_length}
+use Rattle.text.proofs.TextLaws.{least_le, next, placed_on, wrote_as, wrote_length}
 use Rattle.language.specs.TypedReport.{shown, window, caret_line, pointed}
-use Rattle.report.specs.TypedLaws.{from_within}
+use Rattle.report.proofs.TypedLaws.{from_within}
 use borrow.Author.Rules.{rules}
 use Rattle.report.proofs.typed.write_pointed.Statement.{statement}
 use Rattle.report.proofs.typed.write_pointed.Tie as tie

@@ -1,6 +1,6 @@
 -- The line of the refusal, and the text with its caret after it.
 use native.Mathlib.Omega.{arith}
-use Rattle.text.specs.TextLaws.{least_le, next, placed_on, wrote_length}
+use Rattle.text.proofs.TextLaws.{least_le, next, placed_on, wrote_length}
 use borrow.Author.Rules.{rules}
 use Rattle.report.proofs.typed.write_refused_text.Statement.{statement}
 use Rattle.report.proofs.typed.write_refused_text.Tie as tie

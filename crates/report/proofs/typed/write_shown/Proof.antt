@@ -6,8 +6,8 @@ use Prim.Native.Nat.{◌-◌}
 use lib.ListN.{length, take, length-map}
 use Rattle.meaning.specs.Text.{overlay}
 use Rattle.language.specs.TypedReport.{shown}
-use Rattle.text.specs.TextLaws.{bytes_none, least_le, over_length}
-use Rattle.report.specs.TypedLaws.{filled, shown_more}
+use Rattle.text.proofs.TextLaws.{bytes_none, least_le, over_length}
+use Rattle.report.proofs.TypedLaws.{filled, shown_more}
 use Rattle.report.proofs.typed.write_shown.Statement.{statement}
 use Rattle.report.proofs.typed.write_shown.Tie as tie
 

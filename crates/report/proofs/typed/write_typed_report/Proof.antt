@@ -4,10 +4,10 @@ use Prim.Native.Nat.{ℕ}
 use native.Mathlib.Omega.{arith}
 use lib.ListN.{take}
 use lib.Seq.{length-take-le}
-use Rattle.text.specs.TextLaws.{wrote_as}
+use Rattle.text.proofs.TextLaws.{wrote_as}
 use Rattle.language.specs.TypedReport.{line_of}
-use Rattle.report.specs.TypedLaws.{line_within}
-use Rattle.report.specs.ReportLaws.{typed_accepted, typed_refused}
+use Rattle.report.proofs.TypedLaws.{line_within}
+use Rattle.report.proofs.ReportLaws.{typed_accepted, typed_refused}
 use borrow.Author.Rules.{rules}
 use Rattle.report.proofs.typed.write_typed_report.Statement.{statement}
 use Rattle.report.proofs.typed.write_typed_report.Tie as tie

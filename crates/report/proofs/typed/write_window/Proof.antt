@@ -3,9 +3,9 @@ use mathlib.Core.List.{map}
 use mathlib.Core.Path.{ap}
 use native.Mathlib.Omega.{arith}
 use borrow.Author.Rules.{rules}
-use Rattle.text.specs.TextLaws.{least_le, wrote_as, wrote_length}
+use Rattle.text.proofs.TextLaws.{least_le, wrote_as, wrote_length}
 use Rattle.language.specs.TypedReport.{shown}
-use Rattle.report.specs.TypedLaws.{window_is}
+use Rattle.report.proofs.TypedLaws.{window_is}
 use Rattle.report.proofs.typed.write_window.Statement.{statement}
 use Rattle.report.proofs.typed.write_window.Tie as tie
 

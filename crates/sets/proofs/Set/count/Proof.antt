@@ -1,6 +1,6 @@
 -- The ones of a word are as many as its members.
 use borrow.Author.Rules.{rules}
-use Rattle.sets.specs.WordLaws.{ones_has}
+use Rattle.sets.proofs.WordLaws.{ones_has}
 use Rattle.sets.proofs.Set.count.Statement.{statement}
 use Rattle.sets.proofs.Set.count.Tie as tie
 

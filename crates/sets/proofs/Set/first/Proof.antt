@@ -1,7 +1,7 @@
 -- What lowest answers is at most 64, and so fits a byte.
 use native.Mathlib.Omega.{arith}
 use Rattle.sets.specs.Word.{has}
-use Rattle.sets.specs.WordLaws.{lowest_le}
+use Rattle.sets.proofs.WordLaws.{lowest_le}
 use borrow.Author.Rules.{rules}
 use Rattle.sets.proofs.Set.first.Statement.{statement}
 use Rattle.sets.proofs.Set.first.Tie as tie

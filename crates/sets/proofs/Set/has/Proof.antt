@@ -1,7 +1,7 @@
 -- Below 64 the code is the definition; from 64 on a word has no members.
 use mathlib.Core.Path.{refl, sym}
 use Rattle.sets.specs.Word.{has}
-use Rattle.sets.specs.WordLaws.{has_past}
+use Rattle.sets.proofs.WordLaws.{has_past}
 use borrow.Author.Rules.{rules}
 use Rattle.sets.proofs.Set.has.Statement.{statement}
 use Rattle.sets.proofs.Set.has.Tie as tie

@@ -1,5 +1,5 @@
 -- Below 64 the or with one bit inserts; from 64 on nothing is to be done.
-use Rattle.sets.specs.SetLaws.{set_eq, or_inserted, inserted_past}
+use Rattle.sets.proofs.SetLaws.{set_eq, or_inserted, inserted_past}
 use borrow.Author.Rules.{rules}
 use Rattle.sets.proofs.Set.insert.Statement.{statement}
 use Rattle.sets.proofs.Set.insert.Tie as tie

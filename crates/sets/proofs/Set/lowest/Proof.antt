@@ -1,6 +1,6 @@
 -- The trailing zeros of a word are its lowest member.
 use borrow.Author.Rules.{rules}
-use Rattle.sets.specs.WordLaws.{trailing_has}
+use Rattle.sets.proofs.WordLaws.{trailing_has}
 use Rattle.sets.proofs.Set.lowest.Statement.{statement}
 use Rattle.sets.proofs.Set.lowest.Tie as tie
 

@@ -1,6 +1,6 @@
 -- The exclusive or takes a member's bit out; what is no member is not in the set to begin with.
-use Rattle.sets.specs.WordLaws.{has_past}
-use Rattle.sets.specs.SetLaws.{set_eq, xor_removed, removed_none}
+use Rattle.sets.proofs.WordLaws.{has_past}
+use Rattle.sets.proofs.SetLaws.{set_eq, xor_removed, removed_none}
 use mathlib.Core.Path.{◌∙◌, sym}
 use borrow.Author.Rules.{rules}
 use Rattle.sets.proofs.Set.remove.Statement.{statement}

@@ -1,7 +1,7 @@
 -- The empty set has no lowest member; the and with the word before takes out that of any other.
 use native.Mathlib.Omega.{arith}
-use Rattle.sets.specs.SetLaws.{set_eq}
-use Rattle.sets.specs.WalkLaws.{and_removed, removed_empty}
+use Rattle.sets.proofs.SetLaws.{set_eq}
+use Rattle.sets.proofs.WalkLaws.{and_removed, removed_empty}
 use borrow.Author.Rules.{rules}
 use Rattle.sets.proofs.Set.rest.Statement.{statement}
 use Rattle.sets.proofs.Set.rest.Tie as tie

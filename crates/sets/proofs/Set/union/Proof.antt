@@ -1,6 +1,6 @@
 -- The or of two words has the members of either.
 use borrow.Author.Rules.{rules}
-use Rattle.sets.specs.SetLaws.{set_eq, or_united}
+use Rattle.sets.proofs.SetLaws.{set_eq, or_united}
 use Rattle.sets.proofs.Set.union.Statement.{statement}
 use Rattle.sets.proofs.Set.union.Tie as tie
 

@@ -6,7 +6,7 @@ use native.Mathlib.Omega.{arith}
 use lib.Dec.{eqb}
 use lib.ListN.{get_or}
 use Rattle.table.specs.Base.{all_below}
-use Rattle.table.specs.BaseLaws.{all_none, all_more, all_done}
+use Rattle.table.proofs.BaseLaws.{all_none, all_more, all_done}
 use Rattle.table.specs.Cell.{no_action}
 use Rattle.table.specs.Sound.{action_fits}
 use Rattle.soundness.specs.Pass.{sixteen_fit}

@@ -4,7 +4,7 @@ use borrow.Author.Tests.{eq-eqb, ne_eqb}
 use borrow.Author.Rules.{rules}
 use Rattle.table.specs.Cell.{looking, found, asleep}
 use Rattle.table.proofs.Rules.{tests}
-use Rattle.soundness.specs.AgentLaws.{awake_remembers}
+use Rattle.soundness.proofs.AgentLaws.{awake_remembers}
 use Rattle.soundness.specs.Pass.{quiet_fits}
 use Rattle.soundness.proofs.agents.quiet_fits.Statement.{statement}
 use Rattle.soundness.proofs.agents.quiet_fits.Tie as tie

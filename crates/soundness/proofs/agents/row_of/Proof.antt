@@ -7,11 +7,11 @@ use lib.Dec.{eqb}
 use lib.ListN.{get_or}
 use borrow.Author.Tests.{le-leb, lt-leb}
 use Rattle.table.specs.Base.{all_below}
-use Rattle.table.specs.BaseLaws.{and_right}
+use Rattle.table.proofs.BaseLaws.{and_right}
 use Rattle.table.specs.Cell.{no_action, last_kind}
 use Rattle.table.specs.Sound.{action_at}
 use Rattle.soundness.specs.Pass.{sixteen_fit}
-use Rattle.soundness.specs.RowLaws.{kind_some, kind_none, row_crossed, row_long, row_start, row_stop, row_more, row_end_lem, row_full}
+use Rattle.soundness.proofs.RowLaws.{kind_some, kind_none, row_crossed, row_long, row_start, row_stop, row_more, row_end_lem, row_full}
 use Rattle.soundness.proofs.agents.row_of.Statement.{statement}
 use Rattle.soundness.proofs.agents.row_of.Tie as tie
 

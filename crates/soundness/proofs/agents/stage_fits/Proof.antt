@@ -1,6 +1,6 @@
 -- Each arm is a case of the definition; past the named stages the order of numbers decides.
 use mathlib.Core.Path.{refl}
-use Rattle.table.specs.BaseLaws.{past, under, at_least}
+use Rattle.table.proofs.BaseLaws.{past, under, at_least}
 use borrow.Author.Tests.{le-leb, lt-leb, ne_eqb}
 use mathlib.Core.Path.{refl}
 use Rattle.table.specs.Sound.{stage_fits}

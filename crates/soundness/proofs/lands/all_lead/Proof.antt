@@ -6,10 +6,10 @@ use lib.Bits.{bit_xor}
 use borrow.Author.Rules.{rules}
 use borrow.Author.Tests.{not-true, not-false}
 use Rattle.sets.specs.Set.{member}
-use Rattle.sets.specs.WalkLaws.{removed_less}
+use Rattle.sets.proofs.WalkLaws.{removed_less}
 use Rattle.sets.specs.declared.Set.{Set}
 use Rattle.soundness.specs.Lead.{Followed}
-use Rattle.soundness.specs.AllLeadLaws.{Remains, remains_start, remains_small, remains_more, remains_end, remains_stop}
+use Rattle.soundness.proofs.AllLeadLaws.{Remains, remains_start, remains_small, remains_more, remains_end, remains_stop}
 use Rattle.soundness.proofs.lands.all_lead.Statement.{statement}
 use Rattle.soundness.proofs.lands.all_lead.Tie as tie
 

@@ -8,7 +8,7 @@ use borrow.Author.Tests.{not-true, not-false}
 use Rattle.sets.specs.Set.{member, inserted}
 use Rattle.sets.specs.declared.Set.{Set}
 use Rattle.table.specs.Base.{count_below}
-use Rattle.soundness.specs.LeadLaws.{count_most, count_inserted, Path, path_start, path_more, path_found, path_lost}
+use Rattle.soundness.proofs.LeadLaws.{count_most, count_inserted, Path, path_start, path_more, path_found, path_lost}
 use Rattle.soundness.proofs.lands.followed.Statement.{statement}
 use Rattle.soundness.proofs.lands.followed.Tie as tie
 

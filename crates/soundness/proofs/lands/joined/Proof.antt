@@ -6,7 +6,7 @@ use native.Mathlib.Omega.{arith}
 use lib.Bits.{bit_or, or_add_and, and_le_l, and_le_r}
 use lib.Dec.{eqb}
 use borrow.Author.Tests.{eq-eqb, eqb-true}
-use Rattle.table.specs.BaseLaws.{same_test, and_left, and_right}
+use Rattle.table.proofs.BaseLaws.{same_test, and_left, and_right}
 use Rattle.soundness.proofs.lands.joined.Statement.{statement}
 use Rattle.soundness.proofs.lands.joined.Tie as tie
 

@@ -1,5 +1,5 @@
 -- Where all in use are known to lead to the floor they do; otherwise the ways up are followed.
-use Rattle.soundness.specs.AllLeadLaws.{all_known}
+use Rattle.soundness.proofs.AllLeadLaws.{all_known}
 use Rattle.soundness.proofs.lands.led.Statement.{statement}
 use Rattle.soundness.proofs.lands.led.Tie as tie
 

@@ -8,11 +8,11 @@ use lib.ListN.{get_or}
 use borrow.Author.Rules.{rules}
 use borrow.Author.Tests.{le-leb, lt-leb}
 use Rattle.sets.specs.Set.{member}
-use Rattle.sets.specs.WalkLaws.{rest_start, rest_lt, removed_less}
+use Rattle.sets.proofs.WalkLaws.{rest_start, rest_lt, removed_less}
 use Rattle.sets.specs.declared.Set.{Set}
 use Rattle.table.specs.Sound.{most_touches}
 use Rattle.soundness.specs.Left.{left_of, total_of}
-use Rattle.soundness.specs.LeftLaws.{Taken, taken_start, taken_end, taken_stop, taken_more}
+use Rattle.soundness.proofs.LeftLaws.{Taken, taken_start, taken_end, taken_stop, taken_more}
 use Rattle.soundness.specs.declared.touches.Left.{Left}
 use Rattle.soundness.proofs.touches.touches_left.Statement.{statement}
 use Rattle.soundness.proofs.touches.touches_left.Tie as tie

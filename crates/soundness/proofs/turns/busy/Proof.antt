@@ -4,7 +4,7 @@ use mathlib.Core.Bool.{Bool, ◌&&◌}
 use Prim.Native.Nat.{ℕ}
 use Rattle.table.specs.Cell.{none}
 use Rattle.soundness.specs.Turn.{turned_of, holds_first, holds_second}
-use Rattle.soundness.specs.StageLaws.{at_two, at_three, at_four, at_five, at_six}
+use Rattle.soundness.proofs.StageLaws.{at_two, at_three, at_four, at_five, at_six}
 use Rattle.soundness.proofs.turns.busy.Statement.{statement}
 use Rattle.soundness.proofs.turns.busy.Tie as tie
 

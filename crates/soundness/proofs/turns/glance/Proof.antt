@@ -11,7 +11,7 @@ use Rattle.table.specs.Sound.{actions_fit}
 use Rattle.table.specs.declared.Agent.{Agent}
 use Rattle.soundness.specs.Pass.{remembers_at, quiet_fits}
 use Rattle.soundness.specs.Turn.{still_with, busy_with}
-use Rattle.soundness.specs.TurnLaws.{glance_out, glance_row, glance_still, glance_busy}
+use Rattle.soundness.proofs.TurnLaws.{glance_out, glance_row, glance_still, glance_busy}
 use Rattle.soundness.proofs.turns.glance.Statement.{statement}
 use Rattle.soundness.proofs.turns.glance.Tie as tie
 

@@ -7,9 +7,9 @@ use lib.Dec.{eqb}
 use borrow.Author.Rules.{rules}
 use borrow.Author.Tests.{ne_eqb}
 use Rattle.sets.specs.Set.{member}
-use Rattle.sets.specs.WordLaws.{has_lt}
+use Rattle.sets.proofs.WordLaws.{has_lt}
 use Rattle.sets.specs.declared.Set.{Set}
-use Rattle.table.specs.BaseLaws.{and_left, and_right}
+use Rattle.table.proofs.BaseLaws.{and_left, and_right}
 use Rattle.table.specs.Cell.{none}
 use Rattle.table.specs.Sound.{ready}
 use Rattle.soundness.specs.Pass.{lock_is_at}

@@ -34,7 +34,7 @@ use Rattle.table.proofs.Agent.TheLaws as agent_laws
 use Rattle.table.proofs.Cell.TheLaws as T'
 use Rattle.table.proofs.Facts.{sized}
 use Rattle.soundness.specs.Turn.{start_of, glance_of, second_of, passed_of, busy_of, Walked}
-use Rattle.soundness.specs.TurnLaws.{Reaches, left, start_reaches, walk_ends}
+use Rattle.soundness.proofs.TurnLaws.{Reaches, left, start_reaches, walk_ends}
 use Rattle.soundness.specs.declared.turns.Walk.{Walk}
 use Rattle.soundness.specs.contracts.turns.Walk as Walk'
 use Rattle.soundness.proofs.turns.Walk.TheLaws as walk_laws

@@ -38,7 +38,7 @@ use Rattle.table.proofs.Facts.{sized}
 use Rattle.soundness.specs.Pass.{all_lead, lands_fit}
 use Rattle.soundness.specs.Lead.{above}
 use Rattle.soundness.specs.Climb.{floored_of, placed_of, Led}
-use Rattle.soundness.specs.ClimbLaws.{Climbs, left, climb_led, climb_ends}
+use Rattle.soundness.proofs.ClimbLaws.{Climbs, left, climb_led, climb_ends}
 use Rattle.soundness.specs.declared.turns.Walk.{Walk}
 use Rattle.soundness.specs.declared.lands.Climb.{Climb}
 use Rattle.soundness.specs.contracts.turns.Walk as Walk'

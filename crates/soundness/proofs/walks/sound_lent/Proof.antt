@@ -23,7 +23,7 @@ use Rattle.table.specs.contracts.Cell as T
 use Rattle.table.proofs.Cell.TheLaws as T'
 use Rattle.soundness.specs.Left.{left_of}
 use Rattle.soundness.specs.Turn.{Walked, core, tell_of}
-use Rattle.soundness.specs.TurnLaws.{tell_sound}
+use Rattle.soundness.proofs.TurnLaws.{tell_sound}
 use Rattle.soundness.specs.declared.touches.Left.{Left}
 use Rattle.soundness.specs.declared.turns.Walk.{Walk}
 use Rattle.soundness.specs.contracts.turns.Walk as Walk'

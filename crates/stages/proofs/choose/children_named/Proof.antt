@@ -8,12 +8,12 @@ use lib.Dec.{eqb}
 use lib.ListN.{get_or}
 use borrow.Author.Rules.{rules}
 use Rattle.sets.specs.Set.{member}
-use Rattle.sets.specs.WalkLaws.{rest_lt, removed_less}
+use Rattle.sets.proofs.WalkLaws.{rest_lt, removed_less}
 use Rattle.sets.specs.declared.Set.{Set}
 use Rattle.table.specs.Cell.{no_place, key_of}
-use Rattle.updates.specs.GatherLaws.{Gathered, gathered_start, gathered_end, gathered_more}
+use Rattle.updates.proofs.GatherLaws.{Gathered, gathered_start, gathered_end, gathered_more}
 use Rattle.stages.specs.Changes.{rowless}
-use Rattle.stages.specs.ChildLaws.{child_split}
+use Rattle.stages.proofs.ChildLaws.{child_split}
 use Rattle.stages.proofs.choose.children_named.Statement.{statement}
 use Rattle.stages.proofs.choose.children_named.Tie as tie
 

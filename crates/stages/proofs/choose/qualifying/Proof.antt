@@ -5,7 +5,7 @@ use borrow.Author.Tests.{eq-eqb, ne_eqb}
 use Rattle.table.specs.Cell.{linked}
 use Rattle.meaning.specs.Step.{exits_from}
 use Rattle.stages.specs.Changes.{rowless}
-use Rattle.stages.specs.ChooseLaws.{enter_set, exit_set, open_set}
+use Rattle.stages.proofs.ChooseLaws.{enter_set, exit_set, open_set}
 use Rattle.stages.proofs.choose.qualifying.Statement.{statement}
 use Rattle.stages.proofs.choose.qualifying.Tie as tie
 

@@ -7,11 +7,11 @@ use native.Mathlib.Omega.{arith}
 use lib.Dec.{eqb}
 use lib.ListN.{get_or}
 use borrow.Author.Rules.{rules}
-use Rattle.sets.specs.WalkLaws.{rest_lt, removed_less, rest_start}
+use Rattle.sets.proofs.WalkLaws.{rest_lt, removed_less, rest_start}
 use Rattle.sets.specs.declared.Set.{Set}
 use Rattle.table.specs.Cell.{no_place}
 use Rattle.stages.specs.Changes.{rowless}
-use Rattle.stages.specs.ChildLaws.{Unmet, unmet_start, unmet_end, unmet_more}
+use Rattle.stages.proofs.ChildLaws.{Unmet, unmet_start, unmet_end, unmet_more}
 use Rattle.stages.proofs.choose.unawaited.Statement.{statement}
 use Rattle.stages.proofs.choose.unawaited.Tie as tie
 

@@ -8,8 +8,8 @@ use borrow.Author.Tests.{eq-eqb, ne_eqb}
 use Rattle.table.specs.Cell.{next_action}
 use Rattle.meaning.specs.Step.{fires}
 use Rattle.stages.specs.Changes.{rowless, acts}
-use Rattle.stages.specs.ChooseLaws.{fires_test}
-use Rattle.updates.specs.UpdateLaws.{kind_test}
+use Rattle.stages.proofs.ChooseLaws.{fires_test}
+use Rattle.updates.proofs.UpdateLaws.{kind_test}
 use Rattle.stages.proofs.rules.act.Statement.{statement}
 use Rattle.stages.proofs.rules.act.Tie as tie
 

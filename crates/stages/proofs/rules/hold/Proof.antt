@@ -6,9 +6,9 @@ use borrow.Author.Tests.{eq-eqb, ne_eqb}
 use Rattle.meaning.specs.Step.{stays}
 use Rattle.table.specs.Cell.{land_of}
 use Rattle.stages.specs.Changes.{locks_second, puts_or_sleeps, holds}
-use Rattle.stages.specs.ChooseLaws.{stays_test, choice_test}
-use Rattle.stages.specs.RowlessLaws.{stays_rowless}
-use Rattle.updates.specs.UpdateLaws.{kind_test}
+use Rattle.stages.proofs.ChooseLaws.{stays_test, choice_test}
+use Rattle.stages.proofs.RowlessLaws.{stays_rowless}
+use Rattle.updates.proofs.UpdateLaws.{kind_test}
 use Rattle.stages.proofs.rules.hold.Statement.{statement}
 use Rattle.stages.proofs.rules.hold.Tie as tie
 

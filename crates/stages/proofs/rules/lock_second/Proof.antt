@@ -6,7 +6,7 @@ use lib.Dec.{eqb}
 use borrow.Author.Rules.{rules}
 use borrow.Author.Tests.{eq-eqb, ne_eqb, lt-ltb, le-ltb}
 use Rattle.stages.specs.Changes.{locks_second}
-use Rattle.updates.specs.UpdateLaws.{kind_test}
+use Rattle.updates.proofs.UpdateLaws.{kind_test}
 use Rattle.stages.proofs.rules.lock_second.Statement.{statement}
 use Rattle.stages.proofs.rules.lock_second.Tie as tie
 

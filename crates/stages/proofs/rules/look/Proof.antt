@@ -5,7 +5,7 @@ use borrow.Author.Rules.{rules}
 use borrow.Author.Tests.{le-leb, lt-leb}
 use Rattle.table.specs.Cell.{looks_home, linked}
 use Rattle.stages.specs.Changes.{looks}
-use Rattle.updates.specs.UpdateLaws.{kind_tested}
+use Rattle.updates.proofs.UpdateLaws.{kind_tested}
 use Rattle.stages.proofs.rules.look.Statement.{statement}
 use Rattle.stages.proofs.rules.look.Tie as tie
 

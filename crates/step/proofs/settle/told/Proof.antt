@@ -2,7 +2,7 @@
 use mathlib.Core.Bool.{true, false}
 use borrow.Author.Rules.{rules}
 use borrow.Author.Tests.{eq-eqb, ne_eqb}
-use Rattle.updates.specs.UpdateLaws.{kind_test}
+use Rattle.updates.proofs.UpdateLaws.{kind_test}
 use Rattle.step.proofs.settle.told.Statement.{statement}
 use Rattle.step.proofs.settle.told.Tie as tie
 

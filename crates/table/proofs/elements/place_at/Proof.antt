@@ -2,7 +2,7 @@
 use mathlib.Core.Path.{sym, ◌∙◌}
 use borrow.Author.Rules.{rules}
 use Rattle.table.specs.Cell.{no_place}
-use Rattle.table.specs.ElementLaws.{read_past}
+use Rattle.table.proofs.ElementLaws.{read_past}
 use Rattle.table.proofs.elements.place_at.Statement.{statement}
 use Rattle.table.proofs.elements.place_at.Tie as tie
 

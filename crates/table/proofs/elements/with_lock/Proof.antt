@@ -1,7 +1,7 @@
 -- A store is one value changed; past 63 nothing is.
 use borrow.Author.Rules.{rules}
-use Rattle.table.specs.BaseLaws.{set_list}
-use Rattle.table.specs.ElementLaws.{store_past}
+use Rattle.table.proofs.BaseLaws.{set_list}
+use Rattle.table.proofs.ElementLaws.{store_past}
 use Rattle.table.proofs.elements.with_lock.Statement.{statement}
 use Rattle.table.proofs.elements.with_lock.Tie as tie
 

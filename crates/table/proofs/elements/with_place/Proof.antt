@@ -1,8 +1,8 @@
 -- A store is one value changed; past 63 nothing is.
 use borrow.Author.Rules.{rules}
-use Rattle.table.specs.BaseLaws.{set_list}
+use Rattle.table.proofs.BaseLaws.{set_list}
 use Rattle.table.specs.Cell.{no_place}
-use Rattle.table.specs.ElementLaws.{store_past}
+use Rattle.table.proofs.ElementLaws.{store_past}
 use Rattle.table.proofs.elements.with_place.Statement.{statement}
 use Rattle.table.proofs.elements.with_place.Tie as tie
 

@@ -2,7 +2,7 @@
 use native.Mathlib.Omega.{arith}
 use borrow.Author.Rules.{rules}
 use Rattle.sets.specs.Set.{member}
-use Rattle.table.specs.FreshLaws.{fresh_most}
+use Rattle.table.proofs.FreshLaws.{fresh_most}
 use Rattle.table.proofs.fresh.fresh_number.Statement.{statement}
 use Rattle.table.proofs.fresh.fresh_number.Tie as tie
 

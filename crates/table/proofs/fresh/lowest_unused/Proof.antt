@@ -1,6 +1,6 @@
 -- The zeros counted are as many as the smallest unused number.
 use borrow.Author.Rules.{rules}
-use Rattle.table.specs.FreshLaws.{fresh_word}
+use Rattle.table.proofs.FreshLaws.{fresh_word}
 use Rattle.table.proofs.fresh.lowest_unused.Statement.{statement}
 use Rattle.table.proofs.fresh.lowest_unused.Tie as tie
 

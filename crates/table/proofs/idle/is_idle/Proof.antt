@@ -7,11 +7,11 @@ use native.Mathlib.Omega.{arith}
 use lib.ListN.{get_or}
 use borrow.Author.Tests.{le-leb, lt-leb}
 use Rattle.sets.specs.Word.{has}
-use Rattle.sets.specs.WalkLaws.{rest_start, rest_lt, rest_member, removed_less}
+use Rattle.sets.proofs.WalkLaws.{rest_start, rest_lt, rest_member, removed_less}
 use Rattle.sets.specs.declared.Set.{Set}
 use Rattle.table.specs.Cell.{no_agent, cell_of}
 use Rattle.table.specs.Idle.{rests_at, idle}
-use Rattle.table.specs.TestLaws.{Tested, tested_start, tested_end, tested_stop, tested_more}
+use Rattle.table.proofs.TestLaws.{Tested, tested_start, tested_end, tested_stop, tested_more}
 use Rattle.table.specs.declared.Cell.{Cell}
 use Rattle.table.proofs.Facts.{sized}
 use Rattle.table.proofs.idle.is_idle.Statement.{statement}

@@ -1,6 +1,6 @@
 -- The and is empty, or it is not.
 use borrow.Author.Rules.{rules}
-use Rattle.window.specs.BitLaws.{none_shared, some_shared}
+use Rattle.window.proofs.BitLaws.{none_shared, some_shared}
 use Rattle.window.proofs.flags.line_of.Statement.{statement}
 use Rattle.window.proofs.flags.line_of.Tie as tie
 

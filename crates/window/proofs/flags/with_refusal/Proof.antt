@@ -1,7 +1,7 @@
 -- The or with one bit.
 use borrow.Author.Rules.{rules}
 use lib.Dec.{lit<}
-use Rattle.window.specs.BitLaws.{or_flag}
+use Rattle.window.proofs.BitLaws.{or_flag}
 use Rattle.window.proofs.flags.with_refusal.Statement.{statement}
 use Rattle.window.proofs.flags.with_refusal.Tie as tie
 

@@ -1,7 +1,7 @@
 -- The or with one bit, or nothing.
 use borrow.Author.Rules.{rules}
 use lib.Dec.{lit<}
-use Rattle.window.specs.BitLaws.{or_flag, no_flag}
+use Rattle.window.proofs.BitLaws.{or_flag, no_flag}
 use Rattle.window.proofs.flags.with_woke.Statement.{statement}
 use Rattle.window.proofs.flags.with_woke.Tie as tie
 

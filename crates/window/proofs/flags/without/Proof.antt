@@ -1,6 +1,6 @@
 -- The and with the complement.
 use borrow.Author.Rules.{rules}
-use Rattle.window.specs.BitLaws.{and_cleared}
+use Rattle.window.proofs.BitLaws.{and_cleared}
 use Rattle.window.proofs.flags.without.Statement.{statement}
 use Rattle.window.proofs.flags.without.Tie as tie
 

@@ -9,7 +9,7 @@ use Rattle.table.specs.declared.Cell.{Cell}
 use Rattle.table.specs.contracts.Cell as T
 use Rattle.table.proofs.Cell.TheLaws as T'
 use Rattle.moving.specs.Turn.{turn_of}
-use Rattle.moving.specs.TurnLaws.{Walking, walking_stores, walking_keeps, walking_less}
+use Rattle.moving.proofs.TurnLaws.{Walking, walking_stores, walking_keeps, walking_less}
 use Rattle.moving.specs.declared.turns.Waking.{Waking}
 use Rattle.moving.specs.declared.turns.Turned.{Turned}
 use Rattle.moving.proofs.Parts.{Waking-is}

@@ -17,7 +17,7 @@ use Rattle.table.specs.contracts.Cell as T
 use Rattle.table.proofs.Cell.TheLaws as T'
 use Rattle.table.proofs.Facts.{sized}
 use Rattle.soundness.specs.Turn.{glance_of, second_of, passed_of, busy_of}
-use Rattle.soundness.specs.TurnLaws.{Reaches, left, turn_busy, glance_home, glance_chosen, glance_first, still_reaches, busy_reaches, still_less, busy_less}
+use Rattle.soundness.proofs.TurnLaws.{Reaches, left, turn_busy, glance_home, glance_chosen, glance_first, still_reaches, busy_reaches, still_less, busy_less}
 use Rattle.soundness.specs.declared.turns.Walk.{Walk}
 use Rattle.soundness.specs.declared.turns.Sight.{Sight}
 use Rattle.soundness.specs.contracts.turns.Walk as Walk'

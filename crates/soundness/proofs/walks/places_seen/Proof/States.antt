@@ -21,7 +21,7 @@ use Rattle.table.specs.declared.Cell.{Cell}
 use Rattle.table.specs.contracts.Place as Place'
 use Rattle.table.proofs.Place.TheLaws as place_laws
 use Rattle.soundness.specs.Climb.{floored_of, placed_of}
-use Rattle.soundness.specs.ClimbLaws.{Climbs, left, floored_climbs, placed_climbs, placed_less}
+use Rattle.soundness.proofs.ClimbLaws.{Climbs, left, floored_climbs, placed_climbs, placed_less}
 use Rattle.soundness.specs.declared.turns.Walk.{Walk}
 use Rattle.soundness.specs.declared.lands.Climb.{Climb}
 use Rattle.soundness.specs.contracts.turns.Walk as Walk'

@@ -1,0 +1,4 @@
+pub mod FollowsLaws
+pub mod ReductionLaws
+pub mod RunLaws
+pub mod AskedLaws

@@ -1,0 +1,17 @@
+-- What a call whether all agents are asleep or done answers, told whether the table is sound and whether they are: `idleOf` is the case where it was told the truth.
+use Rattle.std.specs.Prelude.{◌≡◌, Bool, cond}
+use Rattle.std.proofs.Common.{ap₂}
+use Rattle.table.specs.Cell.{cell_of}
+use Rattle.table.specs.Sound.{sound}
+use Rattle.table.specs.Idle.{idle}
+use Rattle.table.specs.declared.Cell.{Cell}
+use Rattle.meaning.specs.Codes.{idle_of}
+use Rattle.meaning.specs.Refusals.{unsound_table}
+use Rattle.meaning.specs.declared.Idled.{Idled}
+use Rattle.meaning.specs.declared.Idled.TheVariants.{Idle, Busy, Unknown}
+use Rattle.keeper.specs.Known.{known_idle}
+
+-- told the truth of the table, it is the call
+pub idle_told : (t : Cell) (known rest : Bool) → known ≡ sound (cell_of t) → rest ≡ idle (cell_of t) → known_idle known rest ≡ idle_of t
+unfolding known_idle idle_of
+idle_told t known rest e r = ap₂ known_idle e r

@@ -1,0 +1,15 @@
+pub mod Examples
+pub mod TypedExamples
+pub mod Answers
+pub mod DecimalLaws
+pub mod Ways
+pub mod PieceLaws
+pub mod Written
+pub mod Coming
+pub mod PartLaws
+pub mod ComingLaws
+pub mod Recognised
+pub mod Completions
+pub mod Prefixes
+pub mod Sites
+pub mod SitesOver

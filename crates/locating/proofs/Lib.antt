@@ -1,0 +1,2 @@
+pub mod OutwardsLaws
+pub mod KnownLaws

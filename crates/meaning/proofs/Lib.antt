@@ -1,0 +1,11 @@
+pub mod BenchTouch
+pub mod Bench
+pub mod BenchRelations
+pub mod FileLaws
+pub mod OrderLaws
+pub mod AskLaws
+pub mod WhereLaws
+pub mod Every
+pub mod SortedLaws
+pub mod InsertLaws
+pub mod TextsLaws

@@ -1,0 +1,9 @@
+pub mod CodeLaws
+pub mod SoFar
+pub mod Depth
+pub mod RowSoFar
+pub mod Events
+pub mod EventLaws
+pub mod ReadLaws
+pub mod StretchLaws
+pub mod RowLaws

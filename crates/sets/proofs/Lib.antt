@@ -1,0 +1,4 @@
+pub mod WordLaws
+pub mod SetLaws
+pub mod WalkLaws
+pub mod ToldLaws

@@ -1,0 +1,4 @@
+pub mod ChangeLaws
+pub mod RowlessLaws
+pub mod ChooseLaws
+pub mod ChildLaws

@@ -1,0 +1,11 @@
+pub mod LoadedLaws
+pub mod ReadBackLaws
+pub mod Numbered
+pub mod Kept
+pub mod Shows
+pub mod Gathered
+pub mod Shown
+pub mod LayoutTerm
+pub mod Weighed
+pub mod Typable
+pub mod CellFits

@@ -1,0 +1,4 @@
+pub mod BitLaws
+pub mod NotedLaws
+pub mod SessionLaws
+pub mod StoredLaws
