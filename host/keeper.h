@@ -118,11 +118,11 @@ extern "C" {
 #define KEEPER_CELL_BYTES 5776
 
 /* The longest cell file that can be accepted; and how many bytes of a file, at its start, always decide the answer to it: a host may
-** read that many of a longer file and lend those. Both are proved (crates/lengths, `accepted-longest` and `prefix`). */
+** read that many of a longer file and lend those. Both are proved (crates/lengths, `accepted_longest` and `prefix`). */
 #define KEEPER_FILE_LONGEST 6390
 #define KEEPER_FILE_DECIDING 6400
 
-/* The longest listing: with a buffer of this size, keeper_list never answers 12 (proved: crates/lengths, `listing-longest`, `enough-room`).
+/* The longest listing: with a buffer of this size, keeper_list never answers 12 (proved: crates/lengths, `listing_longest`, `enough_room`).
 ** No text that keeper_read accepts is longer (counted and not proved); which refusal a longer one gets, only the whole of it decides. */
 #define KEEPER_LISTING_LONGEST 16225
 
@@ -534,7 +534,7 @@ void keeper_clear(keeper_window *window, uint8_t ones);
 ** One layout has one listing. Of what a place holds, the agents come first and then the places, each of the two in byte order of their
 ** texts, as memcmp orders bytes, a shorter text before any that continues it: `70[] | 7[]`, `7[] | 7[enter 7]`. Numbers and the order in
 ** which places came play no part. So two cells hold the same layout exactly if their listings are equal (proved: crate demands,
-** `same-listings`), however their hosts numbered the carriers: two lines are compared by eye, two files of listings by diff, and two
+** `same_listings`), however their hosts numbered the carriers: two lines are compared by eye, two files of listings by diff, and two
 ** listings in memory by
 **
 **     keeper_length(one) == keeper_length(other) && memcmp(text_of_one, text_of_other, keeper_length(one)) == 0
@@ -651,7 +651,7 @@ keeper_answer keeper_common(const keeper_cell *cell, uint8_t place, uint8_t othe
 **         length += keeper_length(keeper_trail(agent, asked, trail + length, sizeof trail - length));
 **
 ** where `trail` has KEEPER_TRAIL_LONGEST bytes. Touch calls and whatever reads the cell may come between and write nothing. The trail so kept, with the
-** file and the listing of the cell, is answered by keeper_audit with a yes, after every call (proved: crate claims, `asked-run` and `run-upheld`).
+** file and the listing of the cell, is answered by keeper_audit with a yes, after every call (proved: crate claims, `asked_run` and `run_upheld`).
 **
 ** Answers how many bytes it wrote in keeper_length(answer): 2, or 0 where there is no move. Bytes past them are as they were. Refused with 12 where
 ** there is a move and `room` is less than 2; then nothing is written. It takes no cell, so it is never 10 or 11: what it writes is as true as `asked`.

@@ -14,7 +14,7 @@ ghost use Rattle.audit.specs.Names.{naming_by};
 use auditing::{FINAL_BYTES, LINE_BYTES, TRAIL_BYTES};
 use buffers::CELL_BYTES;
 use files::Input;
-use libc::{STDERR_FILENO, STDOUT_FILENO};
+use std::io::Write;
 
 // Where the three files' names come from: their own, or three arguments.
 #[derive(Clone, Copy)]
@@ -38,66 +38,65 @@ fn naming_by(count: usize) -> Naming
     }
 }
 
-fn usage() {
-    io::write_all(
-        STDERR_FILENO,
-        b"usage: audit [CELL TRAIL FINAL]   (without paths: the files cell, trail and final of the working folder)\n",
-    );
+fn usage(rt: &HostRuntime) {
+    let line =
+        b"usage: audit [CELL TRAIL FINAL]   (without paths: the files cell, trail and final of the working folder)\n";
+    let _told = rt.stderr().write_all(line);
 }
 
 // The bytes of the file that argument i names, where names are given, or else of the file with this name; an absent one fails.
-fn read(given: bool, i: usize, name: &[u8], whole: bool, buf: &mut [u8]) -> Input
+fn read(rt: &HostRuntime, given: bool, i: usize, name: &[u8], whole: bool, buf: &mut [u8]) -> Input
     ensures { Within result (length buf.new) }
 {
-    let input = files::read_input(b"audit", given, i, name, false, whole, buf);
+    let input = files::read_input(rt, b"audit", given, i, name, false, whole, buf);
     if let Input::Unnamed = input {
-        usage();
+        usage(rt);
     }
     input
 }
 
 // Writes the line in one piece.
-fn show(line: &[u8]) {
-    if !io::write_all(STDOUT_FILENO, line) {
-        io::write_all(STDERR_FILENO, b"audit: ");
-        os::fail(b"standard output");
+fn show(rt: &HostRuntime, line: &[u8]) {
+    if let Err(error) = rt.stdout().write_all(line) {
+        files::complain(rt, b"audit", b"standard output", error);
     }
 }
 
 // The finding on three files, which are read into these buffers: `cell`, `trail` and `final`, or those that three arguments name.
 fn run_in(
+    rt: &HostRuntime,
     given: bool,
     cell: &mut [u8; CELL_BYTES],
     trail: &mut [u8; TRAIL_BYTES],
     last: &mut [u8; FINAL_BYTES],
 ) {
     let mut text = [0u8; LINE_BYTES];
-    let Input::Bytes(n) = read(given, 1, b"cell", false, cell) else {
+    let Input::Bytes(n) = read(rt, given, 1, b"cell", false, cell) else {
         return;
     };
-    let Input::Bytes(m) = read(given, 2, b"trail", true, trail) else {
+    let Input::Bytes(m) = read(rt, given, 2, b"trail", true, trail) else {
         return;
     };
-    let Input::Bytes(k) = read(given, 3, b"final", true, last) else {
+    let Input::Bytes(k) = read(rt, given, 3, b"final", true, last) else {
         return;
     };
     let r = auditing::write_audit(cell, n, trail, m, last, k, &mut text);
-    show(&text[..r]);
+    show(rt, &text[..r]);
 }
 
 // The finding on three files.
-fn run(given: bool) {
+fn run(rt: &HostRuntime, given: bool) {
     let mut cell = [0u8; CELL_BYTES];
     let mut trail = [0u8; TRAIL_BYTES];
     let mut last = [0u8; FINAL_BYTES];
-    run_in(given, &mut cell, &mut trail, &mut last);
+    run_in(rt, given, &mut cell, &mut trail, &mut last);
 }
 
-fn main() {
-    let names = naming_by(os::arg_count());
+fn main(rt: HostRuntime) {
+    let names = naming_by(files::argument_count(&rt));
     match names {
-        Naming::Usual => run(false),
-        Naming::Given => run(true),
-        Naming::Unclear => usage(),
+        Naming::Usual => run(&rt, false),
+        Naming::Given => run(&rt, true),
+        Naming::Unclear => usage(&rt),
     }
 }

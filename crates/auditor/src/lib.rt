@@ -1,5 +1,5 @@
 // Checking a trail, for hosts in C and Rust (Level B): one call, in a library of its own, so that the keeper's are compiled as they
-// are without it.
+// are without it. Crate `auditor_c` exports it.
 
 #![tactic(auto)]
 
@@ -10,8 +10,7 @@ use checker::check_trail;
 use numbers::finding_number;
 
 // The finding on a cell file, a trail and a listing.
-#[unsafe(no_mangle)]
-pub extern "C" fn keeper_audit(file: &[u8], trail: &[u8], listing: &[u8]) -> u64
+pub fn keeper_audit(file: &[u8], trail: &[u8], listing: &[u8]) -> u64
     ensures { result ≡ finding_number (finding file.now trail.now listing.now) }
 {
     let found = check_trail(file, trail, listing);

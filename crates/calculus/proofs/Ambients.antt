@@ -1,4 +1,4 @@
--- The term of a formed tree has one ambient for each place but the floor; so it has room exactly if a number is unused: `room-ambients`.
+-- The term of a formed tree has one ambient for each place but the floor; so it has room exactly if a number is unused: `room_ambients`.
 -- Idea: a place is counted once for each time that the way up from it meets the floor; sums over the places above and below change places.
 use Rattle.std.proofs.Math.Path.{◌≡◌, refl, sym, ap, ap₂}
 use Rattle.std.proofs.Common.{◌∙◌, inl, inr, arith, eq-eqb, ne_eqb, ltb-true, ltb-false, lt-ltb, le-ltb}

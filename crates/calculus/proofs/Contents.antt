@@ -1,5 +1,5 @@
 -- What a place holds: its agents' rows and its places, and one agent or one or two places put before the rest.
--- Idea: each number adds one term; tests on where it lives or stands say which, and `parallel-first` puts it first.
+-- Idea: each number adds one term; tests on where it lives or stands say which, and `parallel_first` puts it first.
 use Rattle.std.specs.Prelude.{◌≡◌, refl, ◌≢◌, ◌⊎◌, List, [], ◌∷◌, ℕ, suc, ◌<◌}
 use Rattle.std.proofs.Common.{sym, ◌∙◌, inl, inr, arith, eq-eqb, ne_eqb}
 use Rattle.std.proofs.Math.Path.{ap}

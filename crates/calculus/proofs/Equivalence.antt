@@ -82,6 +82,7 @@ parts_trans a b = record { back = λ o. match_trans a (b.back o); forth = λ o. 
 
 zero_forth : {P L Z : Term} → Takes (P ∣ nil) L Z → Match P L Z
 zero_forth (take_left o) = itself o (struct_symm struct_par_zero)
+zero_forth (take_right x) = elim x [ ]
 
 comm_forth : {P Q L Z : Term} → Takes (P ∣ Q) L Z → Match (Q ∣ P) L Z
 comm_forth (take_left o) = itself (take_right o) struct_par_comm
@@ -110,6 +111,8 @@ alone_forth k q take_enter = record { part = _; rest = nil; takes = q; like = li
 alone_forth k q take_exit = record { part = _; rest = nil; takes = q; like = like_symm k; same = struct_refl }
 alone_forth k q take_open = record { part = _; rest = nil; takes = q; like = like_symm k; same = struct_refl }
 alone_forth k q take_release = record { part = _; rest = nil; takes = q; like = like_symm k; same = struct_refl }
+alone_forth k q (take_left _) = elim k [ ]
+alone_forth k q (take_right _) = elim k [ ]
 
 alone : {P Q : Term} → Like P Q → Takes P P nil → Takes Q Q nil → SameParts P Q
 alone k p q = record { back = λ o. alone_forth (like_symm k) p o; forth = λ o. alone_forth k q o }

@@ -115,7 +115,7 @@ pub move_case : {t u : Tree} {a : ℕ} → Move t a u → MoveCase t a u
 move_case {t} {u} {a} v = subst (MoveCase t a) (sym v.result) (permitted_case t a v.place v.permitted)
 
 -- an enter, an exit, an open and a release are moves
-pub case_move : {t u : Tree} {a : ℕ} → MoveCase t a u → Move t a u
+pub case_move : {t : Tree} {a : ℕ} {u : Tree} → MoveCase t a u → Move t a u
 unfolding permits move may_enter may_exit may_open may_release has_room
 case_move {t} {a} (by_enter m k h s d n) = record {
   place = m;
@@ -150,7 +150,7 @@ case_move {t} {a} (by_release m k l e) = record {
 }
 
 -- a move of release is made under the smallest unused number
-pub release_only : {t u : Tree} {a : ℕ} → MoveCase t a u → (next_of t a).kind ≡ release_kind
+pub release_only : {t : Tree} {a : ℕ} {u : Tree} → MoveCase t a u → (next_of t a).kind ≡ release_kind
     → (fresh_number t.used < 64) × (u ≡ put_out t a (fresh_number t.used))
 release_only (by_enter m k h s d n) r = absurd (omega arith)
 release_only (by_exit k h n) r = absurd (omega arith)
@@ -158,7 +158,7 @@ release_only (by_open m k s n) r = absurd (omega arith)
 release_only {t} {a} (by_release m k l e) r = (subst (λ (q : ℕ). q < 64) (sym e) l, ap (put_out t a) (sym e))
 
 -- an agent that moves has an action left
-pub case_kind : {t u : Tree} {a : ℕ} → MoveCase t a u → 1 ≤ (next_of t a).kind
+pub case_kind : {t : Tree} {a : ℕ} {u : Tree} → MoveCase t a u → 1 ≤ (next_of t a).kind
 case_kind (by_enter m k h s d n) = omega arith
 case_kind (by_exit k h n) = omega arith
 case_kind (by_open m k s n) = omega arith

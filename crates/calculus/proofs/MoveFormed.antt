@@ -1,5 +1,5 @@
 -- A move keeps a tree formed, and the agent that makes it has a number below 64.
--- Idea: an enter and an exit change one parent to a place in use (`enter-up`, `exit-up` keep the way to the floor); an opening replaces one place by
+-- Idea: an enter and an exit change one parent to a place in use (`enter_up`, `exit_up` keep the way to the floor); an opening replaces one place by
 -- the agent's own wherever it was named (`opened_up`); a release puts a place in which nothing stands (`put_up`).
 use Rattle.std.specs.Prelude.{◌≡◌, refl, ◌≢◌, List, [], ℕ, ◌≤◌, ◌<◌, Bool, cond, ltb, eqb}
 use Rattle.std.proofs.Common.{sym, ap, ◌∙◌, subst, arith}
@@ -161,7 +161,7 @@ fresh_free t {m} l e = subst (λ (q : ℕ). t.used q ≡ false) e (fresh_unused 
 
 -- ---- any move
 
-case_formed : {t u : Tree} {a : ℕ} → Formed t → MoveCase t a u → Formed u
+case_formed : {t : Tree} {a : ℕ} {u : Tree} → Formed t → MoveCase t a u → Formed u
 case_formed {t} {a} w (by_enter m k h s d n) = enter_formed t w a m h s d
 case_formed {t} {a} w (by_exit k h n) = exit_formed t w a h
 case_formed {t} {a} w (by_open m k s n) = open_formed t w a m s

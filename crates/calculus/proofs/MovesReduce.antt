@@ -80,7 +80,7 @@ module _ (t : Tree) (w : Formed t) (a : ℕ) where
       (agent_first t w a la ⨾ struct_par (of_path (row_is (t.unused a) 3 k refl)))
       (put_after t w a m l f v la ⨾ swap ⨾ struct_symm struct_par_assoc))
 
-case_reduces : {t u : Tree} {a : ℕ} → Formed t → MoveCase t a u → Spot (has_room t) (term t) (term u)
+case_reduces : {t : Tree} {a : ℕ} {u : Tree} → Formed t → MoveCase t a u → Spot (has_room t) (term t) (term u)
 case_reduces {t} {a} w (by_enter m k h s d n) = enter_reduces t w a m k h s d n
 case_reduces {t} {a} w (by_exit k h n) = exit_reduces t w a k h n
 case_reduces {t} {a} w (by_open m k s n) = open_reduces t w a m k s n

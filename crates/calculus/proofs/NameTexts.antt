@@ -1,4 +1,4 @@
--- The text before a place's bracket tells the name and its keys, and the place's text tells these and its contents: `name-one`, `place-one`.
+-- The text before a place's bracket tells the name and its keys, and the place's text tells these and its contents: `name_one`, `place_one`.
 -- Idea: a decimal is followed by a slash or the bracket. A plain name has no slash; any other has three, and its keys are not all the name
 -- (`7/7/7/7` is never written).
 use Rattle.std.specs.Prelude.{◌≡◌, refl, Bool, true, false, ◌&&◌, cond, ℕ, ◌≤◌, ◌<◌, eqb, length}

@@ -73,6 +73,7 @@ part_of_one f (suc n) (take_right o) =
       takes = k.takes;
       left = rw (upd_other f k.which n nil (omega (arith, k.less))) (struct_par_right k.left ⨾ swap);
     }
+part_of_one f zero x = elim x [ ]
 
 -- a part like L of two rows of 64, and R is left: it is of the first row or of the second
 pub data Found (f g : ℕ → Term) (L R : Term) : Type 0 where

@@ -131,18 +131,30 @@ like_place (like_amb e) = (refl, e)
 pub acting_enter : {l : List Action} {M P : Term} {n : ℕ} → Acting l M → Like M (enter n P)
     → ((first_of l).kind ≡ enter_kind) × ((first_of l).name ≡ n) × (row (rest_of l) ≅ P)
 acting_enter (act_enter k) (like_enter e) = (k, refl, e)
+acting_enter (act_exit _) x = elim x [ ]
+acting_enter (act_open _) x = elim x [ ]
+acting_enter (act_release _) x = elim x [ ]
 
 pub acting_exit : {l : List Action} {M P : Term} {n : ℕ} → Acting l M → Like M (exit n P)
     → ((first_of l).kind ≡ exit_kind) × ((first_of l).name ≡ n) × (row (rest_of l) ≅ P)
 acting_exit (act_exit k) (like_exit e) = (k, refl, e)
+acting_exit (act_enter _) x = elim x [ ]
+acting_exit (act_open _) x = elim x [ ]
+acting_exit (act_release _) x = elim x [ ]
 
 pub acting_open : {l : List Action} {M P : Term} {n : ℕ} → Acting l M → Like M («open» n P)
     → ((first_of l).kind ≡ open_kind) × ((first_of l).name ≡ n) × (row (rest_of l) ≅ P)
 acting_open (act_open k) (like_open e) = (k, refl, e)
+acting_open (act_enter _) x = elim x [ ]
+acting_open (act_exit _) x = elim x [ ]
+acting_open (act_release _) x = elim x [ ]
 
 pub acting_release : {l : List Action} {M P : Term} {n : ℕ} → Acting l M → Like M (release n P)
     → ((first_of l).kind ≡ release_kind) × ((first_of l).name ≡ n) × (row (rest_of l) ≅ P)
 acting_release (act_release k) (like_release e) = (k, refl, e)
+acting_release (act_enter _) x = elim x [ ]
+acting_release (act_exit _) x = elim x [ ]
+acting_release (act_open _) x = elim x [ ]
 
 -- ---- what a place holds, or some of it
 

@@ -11,7 +11,7 @@ use Rattle.calculus.specs.TermOf.{term}
 use Rattle.calculus.proofs.Weights.{weigh_same}
 use Rattle.calculus.proofs.MovesReduce.{move_reduces}
 use Rattle.calculus.proofs.ReductionsMove.{Matched, reduction_moves}
-use Rattle.calculus.specs.Moves.{Moves}
+use Rattle.calculus.specs.Moves.{Moves, moves_none, moves_then}
 
 -- moves that lead to a tree whose term is P up to equivalence
 pub record Reached (t : Tree) (P : Term) : Type 0 where
@@ -45,7 +45,7 @@ reached {t} w e red_none = record { after = t; moves = moves_none; same = e }
 reached {t} {P} w e (red_then {Q} r s) =
     let same : Reduces (room (term t)) P Q = subst (λ (n : ℕ). Reduces (ltb n 63) P Q) (weigh_same 0 1 e) r in
     let m = reduction_moves w (red_struct (struct_symm e) same struct_refl) in
-    let z = reached (move_formed w m.move) m.same s in
+    let z = reached {t = m.after} (move_formed w m.move) m.same s in
     record { after = z.after; moves = moves_then m.move z.moves; same = z.same }
 
 -- reductions of its term are, up to equivalence, moves of the tree

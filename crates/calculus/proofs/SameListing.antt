@@ -1,5 +1,5 @@
 -- Trees have one listing exactly if their terms are equal by the structural equivalence of source 002 section 2.2 (document 02, W7):
--- `same-listing`. Of formed trees whose names, keys and numbers have 16 bits, as those of sound tables are.
+-- `same_listing`. Of formed trees whose names, keys and numbers have 16 bits, as those of sound tables are.
 use Rattle.std.specs.Prelude.{◌≡◌, ◌↔◌, Bool, true, false, cond, List, eqb}
 use Rattle.std.proofs.Common.{sym, ◌∙◌}
 use Prim.Native.Nat.{ℕ, zero, suc}
@@ -10,8 +10,7 @@ use Rattle.meaning.specs.Every.{every_none, every_more, Every}
 use Rattle.calculus.specs.Terms.{Term, nil, ◌≅◌}
 use Rattle.calculus.specs.TermOf.{parallel, agent_at, place_at, level, contents, term}
 use Rattle.calculus.specs.Formed.{Good, none, more, Formed}
-use Rattle.calculus.proofs.TreeNumbers.{Row16}
-use Rattle.calculus.specs.Numbers.{Numbers16}
+use Rattle.calculus.specs.Numbers.{Row16, Numbers16}
 use Rattle.calculus.specs.TermListing.{listed}
 use Rattle.calculus.proofs.OneListing.{one_listing}
 use Rattle.calculus.proofs.RowTexts.{Fine}

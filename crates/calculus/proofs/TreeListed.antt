@@ -1,4 +1,4 @@
--- The listing of a tree is the listing of its term: `tree-listed`. Of formed trees whose numbers have 16 bits.
+-- The listing of a tree is the listing of its term: `tree_listed`. Of formed trees whose numbers have 16 bits.
 -- Idea: number by number; what an agent or a place adds to the term is what its text adds to the texts.
 use Rattle.std.specs.Prelude.{◌≡◌, ◌≢◌, Bool, cond, ℕ, zero, suc, ltb, eqb, length}
 use Rattle.std.proofs.Math.Path.{refl, sym, ap}

@@ -7,15 +7,10 @@ use Rattle.table.specs.Bounds.{Name16}
 use Rattle.table.specs.Cell.{no_name, plain_name}
 use Rattle.table.specs.declared.Action.{Action}
 use Rattle.meaning.specs.Calculus.{Tree, first_of, rest_of, next_of, put_into, open_up, put_out}
-use Rattle.meaning.specs.Every.{every_none, every_more, Every}
+use Rattle.meaning.specs.Every.{every_none, every_more}
 use Rattle.calculus.proofs.MoveCases.{MoveCase, by_enter, by_exit, by_open, by_release, move_case}
-use Rattle.calculus.proofs.Published.{moves_none, moves_then}
-use Rattle.calculus.specs.Moves.{Moves}
-use Rattle.calculus.specs.Numbers.{Numbers16}
-
--- the numbers of a row of actions have 16 bits
-abbrev pub Row16 : List Action → Type 0
-Row16 l = Every (λ x. x.name < 65536) l
+use Rattle.calculus.specs.Moves.{Moves, moves_none, moves_then}
+use Rattle.calculus.specs.Numbers.{Row16, Numbers16}
 
 -- no name has no bits at all
 pub no_name16 : Name16 no_name
@@ -58,7 +53,7 @@ release16 t a m n = record {
 }
 
 -- each move keeps them so
-case16 : {t u : Tree} {a : ℕ} → MoveCase t a u → Numbers16 t → Numbers16 u
+case16 : {t : Tree} {a : ℕ} {u : Tree} → MoveCase t a u → Numbers16 t → Numbers16 u
 case16 {t} {a = a} (by_enter m k h s d e) n = put16 t a m n
 case16 {t} {a = a} (by_exit k h e) n = put16 t a _ n
 case16 {t} {a = a} (by_open m k s e) n = open16 t a m n

@@ -1,4 +1,4 @@
--- The moves of a formed tree are the reductions of its term in the published calculus, both ways: `published`.
+-- Rows of moves of a plain tree.
 use Rattle.std.specs.Prelude.{ℕ}
 use Rattle.meaning.specs.Calculus.{Tree, Move}
 

@@ -1,5 +1,5 @@
 -- "Following parents or destinations leads every place to the floor", as an inductive predicate, kept by each move of the calculus.
-use Rattle.std.specs.Prelude.{◌≢◌, not}
+use Rattle.std.specs.Prelude.{◌≢◌}
 use Prim.Native.Nat.{ℕ}
 
 -- q leads to the floor

@@ -1,4 +1,4 @@
--- The trail that a host writes by an ask before each call is the trail of the run: `asked-run`, of every accepted file and every list of calls.
+-- The trail that a host writes by an ask before each call is the trail of the run: `asked_run`, of every accepted file and every list of calls.
 -- Idea: at left and opened an ask tells the chosen place of stage 3, which is the agent's pick, and none for exit and release; and its number has word
 -- and place in their own bits.
 use Rattle.std.proofs.Math.Path.{◌≡◌, refl, sym, ap}

@@ -14,8 +14,7 @@ use Rattle.meaning.specs.Codes.{none_told}
 use Rattle.calculus.specs.Formed.{Formed}
 use Rattle.calculus.proofs.MoveCases.{MoveCase, by_enter, by_exit, by_open, by_release, move_case}
 use Rattle.calculus.proofs.MoveFormed.{move_formed, mover_below_64}
-use Rattle.calculus.proofs.Published.{moves_none, moves_then}
-use Rattle.calculus.specs.Moves.{Moves}
+use Rattle.calculus.specs.Moves.{Moves, moves_none, moves_then}
 use Rattle.demands.specs.SameListings.{OfBytes}
 use Rattle.trail.specs.Trail.{byte_fits, place_of, allows, moved, Follows, ends, goes}
 use Rattle.claims.specs.Claims.{byte_of, TrailTo}

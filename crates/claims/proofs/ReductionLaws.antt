@@ -1,5 +1,5 @@
--- Trails are the rows of reductions of the published calculus: of a formed tree's term (`follows-calculus`), and of the term of every accepted file
--- (`upheld-reduces`), whose upheld texts are exactly the listings of the terms to which it reduces.
+-- Trails are the rows of reductions of the published calculus: of a formed tree's term (`follows_calculus`), and of the term of every accepted file
+-- (`upheld_reduces`), whose upheld texts are exactly the listings of the terms to which it reduces.
 -- Idea: trails are rows of moves, and `published` says the rest; the listing of a tree is that of its term.
 use Rattle.std.specs.Prelude.{◌≡◌, List, ℕ}
 use Rattle.std.proofs.Common.{sym, ◌∙◌, subst}
@@ -11,8 +11,8 @@ use Rattle.meaning.specs.TreeListing.{tree_listing}
 use Rattle.calculus.specs.Formed.{Formed}
 use Rattle.calculus.proofs.MoveFormed.{move_formed}
 use Rattle.calculus.proofs.OneListing.{one_listing}
-use Rattle.calculus.proofs.Published.{moves_none, moves_then, published}
-use Rattle.calculus.specs.Moves.{Moves}
+use Rattle.calculus.proofs.Published.{published}
+use Rattle.calculus.specs.Moves.{Moves, moves_none, moves_then}
 use Rattle.calculus.proofs.SameListing.{fine_rows}
 use Rattle.calculus.specs.Terms.{Term, ◌⟶*◌}
 use Rattle.calculus.specs.TermListing.{listed}

@@ -1,4 +1,4 @@
--- The trail of every run is upheld with the listing of the cell reached: `run-upheld`, of every accepted file and every list of calls.
+-- The trail of every run is upheld with the listing of the cell reached: `run_upheld`, of every accepted file and every list of calls.
 -- Idea: each call makes one move of the plain tree, by the plain tree's own step, or none; the tree that a move makes tells its place; and the plain
 -- tree is that of the cell reached, whose listing is that of its tree.
 use Rattle.std.specs.Prelude.{◌≡◌, refl, ◌≢◌, ◌⊎◌, true, false, List, [], ◌∷◌, ◌++◌, ℕ}

@@ -12,8 +12,8 @@ use Rattle.meaning.specs.Plain.{plain_of, tree_of, History, start, moved, stayed
 use Rattle.calculus.specs.Formed.{Good, Formed}
 use Rattle.calculus.specs.Terms.{Term, ◌⟶◌}
 use Rattle.calculus.specs.TermOf.{term}
-use Rattle.calculus.proofs.Published.{moves_none, moves_then, published_blocked, published}
-use Rattle.calculus.specs.Moves.{Moves}
+use Rattle.calculus.proofs.Published.{published_blocked, published}
+use Rattle.calculus.specs.Moves.{Moves, moves_none, moves_then}
 use Rattle.demands.specs.Reading.{parent_in, name_in}
 use Rattle.demands.specs.Invariant.{Sound}
 use Rattle.demands.proofs.SameTree.{tree_home, tree_unused}

@@ -124,13 +124,13 @@ inv_called t (commit_call x wish word woken place) z i = committed (λ s. Inv (c
 pub sized_run : (t : Cell) (calls : List Call) → Sized t → Sized (run t calls)
 unfolding run
 sized_run t [] z = z
-sized_run t (k ∷ calls) z = sized_run _ calls (sized_called t k z)
+sized_run t (k ∷ calls) z = sized_run (call_of t k).cell calls (sized_called t k z)
 
 -- and its cell the invariant
 pub inv_run : (t : Cell) (calls : List Call) → Sized t → Inv (cell_of t) → Inv (cell_of (run t calls))
 unfolding run
 inv_run t [] z i = i
-inv_run t (k ∷ calls) z i = inv_run _ calls (sized_called t k z) (inv_called t k z i)
+inv_run t (k ∷ calls) z i = inv_run (call_of t k).cell calls (sized_called t k z) (inv_called t k z i)
 
 -- ---- soundness as a test
 
@@ -156,4 +156,4 @@ sound_called t (commit_call x wish word woken place) z e =
 pub sound_run : (t : Cell) (calls : List Call) → Sized t → sound (cell_of t) ≡ true → sound (cell_of (run t calls)) ≡ true
 unfolding run
 sound_run t [] z e = e
-sound_run t (k ∷ calls) z e = sound_run _ calls (sized_called t k z) (sound_called t k z e)
+sound_run t (k ∷ calls) z e = sound_run (call_of t k).cell calls (sized_called t k z) (sound_called t k z e)

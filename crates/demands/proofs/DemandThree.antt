@@ -8,11 +8,10 @@ use Rattle.std.proofs.Math.Path.{ap, fun_ext}
 use native.Mathlib.Omega.{arith}
 use Rattle.table.specs.Base.{iter}
 use Rattle.table.proofs.BaseLaws.{Told, yea, nay, told}
-use Rattle.table.specs.Cell.{State, travels, fresh_number, cell_of, table_of, release_kind}
+use Rattle.table.specs.Cell.{State, fresh_number, cell_of, table_of, release_kind}
 use Rattle.table.proofs.FreshLaws.{fresh_none}
 use Rattle.table.specs.Bounds.{Sized}
 use Rattle.table.proofs.CellLaws.{sized_table}
-use Rattle.table.specs.Sound.{sound}
 use Rattle.table.specs.Idle.{idle}
 use Rattle.table.specs.declared.Cell.{Cell}
 use Rattle.meaning.specs.File.{load, accepted}

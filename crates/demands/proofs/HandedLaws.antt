@@ -2,7 +2,7 @@
 -- of any number it is some commit, so that every statement over lists of calls covers it.
 -- Idea: three numbers below 256 are read off their number; what is told is below 256. A number that is of no such three is refused like a word that
 -- does not exist.
-use Rattle.std.specs.Prelude.{◌≡◌, refl, ◌≢◌, Bool, true, false, cond, ℕ, ◌+◌, ◌*◌, ◌/◌, ◌%◌, ◌<◌, eqb}
+use Rattle.std.specs.Prelude.{◌≡◌, refl, ◌≢◌, Bool, true, false, cond, ℕ, ◌+◌, ◌*◌, ◌<◌, eqb}
 use Rattle.std.proofs.Common.{sym, ap, ◌∙◌, subst, arith, eqb-true, eq-eqb, ne_eqb}
 use Rattle.std.proofs.lemmas.Bool.{eqb-false}
 use Rattle.sets.proofs.WordLaws.{count_most}

@@ -24,8 +24,8 @@ use Rattle.meaning.specs.File.{two_bytes, byte_at, name_at, keyed_name, name_giv
 use Rattle.meaning.specs.File.{Progress, known_in, bare_progress, Load, accepted, refused, load_record, load_from, load}
 use Rattle.meaning.proofs.FileLaws.{bare_bounded, bare_agent, bare_place, load_either}
 use Rattle.meaning.specs.Plain.{tree_of}
-use Rattle.calculus.proofs.TreeNumbers.{Row16, no_name16}
-use Rattle.calculus.specs.Numbers.{Numbers16}
+use Rattle.calculus.proofs.TreeNumbers.{no_name16}
+use Rattle.calculus.specs.Numbers.{Row16, Numbers16}
 use Rattle.demands.specs.SameListings.{OfBytes}
 use Rattle.demands.proofs.LoadingRecords.{Stands, a_place, an_agent, an_action, the_end, touches, at_fault, record_stands}
 

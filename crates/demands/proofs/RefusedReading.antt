@@ -1,5 +1,5 @@
 -- The reading of a text is refused with 16 or 17, each exactly under its condition, which speaks of the language and not of the machine that reads.
--- Idea: what every text answers (`answers`), and that each answer is given (`read-outside`, `read-overfull`).
+-- Idea: what every text answers (`answers`), and that each answer is given (`read_outside`, `read_overfull`).
 use Rattle.std.specs.Prelude.{◌≡◌, false, ℕ, length}
 use Rattle.std.proofs.Common.{sym, ap, ◌∙◌, subst, arith}
 use Rattle.table.specs.declared.Cell.{Cell}

@@ -8,7 +8,6 @@ use Prim.Native.Nat.{ℕ}
 use Rattle.table.proofs.BaseLaws.{Told, yea, nay, told, all_at, all_yes}
 use Rattle.table.specs.Cell.{State, cell_of}
 use Rattle.table.specs.declared.Cell.{Cell}
-use Rattle.table.specs.Sound.{sound}
 use Rattle.table.specs.Idle.{rests_at, idle}
 use Rattle.meaning.specs.Step.{Outcome, still, put, leave, dissolve, arrive}
 use Rattle.meaning.specs.Run.{made, step_of, is_rest, says_rest, rests}

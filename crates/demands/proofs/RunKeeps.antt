@@ -10,7 +10,6 @@ use Rattle.table.proofs.BaseLaws.{Told, yea, nay, told}
 use Rattle.table.specs.Cell.{State, cell_of, table_of}
 use Rattle.table.specs.Bounds.{Sized}
 use Rattle.table.proofs.CellLaws.{sized_table}
-use Rattle.table.specs.Sound.{sound}
 use Rattle.table.specs.declared.Cell.{Cell}
 use Rattle.meaning.specs.Refusals.{no_such_agent, answer_differs}
 use Rattle.meaning.specs.Step.{step}

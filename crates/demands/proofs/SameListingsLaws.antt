@@ -1,5 +1,5 @@
--- Listings are equal exactly if the terms are equivalent: of every two sound tables (`same-listings`), of the cells that any two cells as a load
--- leaves them and any two lists of calls reach (`fresh-after`), and so for any two accepted files (`same_after`).
+-- Listings are equal exactly if the terms are equivalent: of every two sound tables (`same_listings`), of the cells that any two cells as a load
+-- leaves them and any two lists of calls reach (`fresh_after`), and so for any two accepted files (`same_after`).
 -- Idea: the listing of a cell is that of its tree, which is that of its term. A table's names have 16 bits by its type; a file's are two bytes
 -- each, and moves give no name.
 use Rattle.std.specs.Prelude.{◌≡◌, true, List, ℕ}

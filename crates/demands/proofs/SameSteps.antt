@@ -12,7 +12,7 @@ use Rattle.std.proofs.Math.Dec.{eqb}
 use Rattle.order.specs.Row.{later, latest}
 use Rattle.table.specs.Base.{upd}
 use Rattle.table.proofs.BaseLaws.{Told, yea, nay, told, upd_same, upd_other, upd_all}
-use Rattle.table.specs.Cell.{State, linked, travels, fresh_number, next_action, kind_of, name_of, enter_kind, exit_kind, open_kind, release_kind, looks_home, chooses}
+use Rattle.table.specs.Cell.{State, linked, fresh_number, next_action, kind_of, name_of, enter_kind, exit_kind, open_kind, release_kind, looks_home, chooses}
 use Rattle.table.proofs.KindLaws.{Kind, is_enter, is_exit, is_open, is_release, home_kind, around_kind}
 use Rattle.table.specs.declared.Action.{Action}
 use Rattle.table.specs.declared.Agent.{Agent}

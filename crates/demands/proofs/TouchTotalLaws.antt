@@ -44,7 +44,7 @@ sum_called t (commit_call x w word woken place) z i = committed (λ s. touch_sum
 pub sum_run : (t : Cell) (calls : List Call) → Sized t → Inv (cell_of t) → touch_sum (cell_of (run t calls)) ≡ touch_sum (cell_of t) + added calls (answers t calls)
 unfolding run answers added
 sum_run t [] z i = sym (add-zero _)
-sum_run t (k ∷ calls) z i = omega (arith, sum_run _ calls (sized_called t k z) (inv_called t k z i), sum_called t k z i)
+sum_run t (k ∷ calls) z i = omega (arith, sum_run (call_of t k).cell calls (sized_called t k z) (inv_called t k z i), sum_called t k z i)
 
 -- ---- the claim
 

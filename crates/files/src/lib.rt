@@ -3,10 +3,13 @@
 
 #![tactic(auto)]
 
-ghost use Rattle.std.specs.Prelude.{length};
+ghost use Rattle.std.specs.Prelude.{◌≤◌, length, IfOk};
 ghost use Rattle.files.specs.Inputs.{Within};
 
-use libc::{ENOENT, STDERR_FILENO};
+use std::env::{Env, FillError};
+use std::fs::File;
+use std::io::{Error, ErrorKind, Read, Write};
+use std::{fs, io};
 
 // What was read of a file: so many bytes; nothing, and a line has said why; or nothing, since the argument that would name it is empty.
 #[derive(Clone, Copy)]
@@ -16,52 +19,125 @@ pub enum Input {
     Unnamed,
 }
 
+// The longest path that the system takes, with the zero byte after it.
+const PATH_BYTES: usize = 4096;
+
+// The system's number for a name that is too long.
+const NAME_TOO_LONG: i32 = 36;
+
+// How many arguments there are, the program's own name among them, or five where there are more: no program takes as many.
+pub fn argument_count(rt: &HostRuntime) -> usize
+    ensures { result ≤ 5 }
+{
+    let mut first = [0u8; 1];
+    for i in 0..5 {
+        if let Err(FillError::NotPresent) = rt.arg(i, &mut first) {
+            return i;
+        }
+    }
+    5
+}
+
+// The system's reason without its number, which stands in brackets after it.
+fn reason_length(text: &[u8]) -> usize
+    ensures { result ≤ length text.now }
+{
+    let mark = b" (os error ";
+    for i in 0..text.len() {
+        if text[i..].starts_with(mark) {
+            return i;
+        }
+    }
+    text.len()
+}
+
+// Writes a part of a line to standard error; where that fails too there is nobody left to tell.
+fn tell(rt: &HostRuntime, part: &[u8]) {
+    let _told = rt.stderr().write_all(part);
+}
+
 // A line on standard error: what failed, and the system's reason.
-fn complain(program: &[u8], what: &[u8]) {
-    io::write_all(STDERR_FILENO, program);
-    io::write_all(STDERR_FILENO, b": ");
-    os::fail(what);
+pub fn complain(rt: &HostRuntime, program: &[u8], what: &[u8], error: Error) {
+    tell(rt, program);
+    tell(rt, b": ");
+    tell(rt, what);
+    tell(rt, b": ");
+    if let Ok(text) = format!(in rt.alloc(); "{error}") {
+        let bytes = text.as_str().as_bytes();
+        let n = reason_length(bytes);
+        tell(rt, &bytes[..n]);
+    }
+    tell(rt, b"\n");
 }
 
 // A line on standard error: the file fills this much room, and is too long.
-fn complain_of_length(program: &[u8], path: &[u8], room: usize) {
-    io::write_all(STDERR_FILENO, program);
-    io::write_all(STDERR_FILENO, b": ");
-    io::write_all(STDERR_FILENO, path);
-    io::write_all(STDERR_FILENO, b": longer than ");
+fn complain_of_length(rt: &HostRuntime, program: &[u8], path: &[u8], room: usize) {
+    tell(rt, program);
+    tell(rt, b": ");
+    tell(rt, path);
+    tell(rt, b": longer than ");
     if room > 0 {
-        io::print_decimal(STDERR_FILENO, (room - 1) as u64);
+        let most = room - 1;
+        if let Ok(text) = format!(in rt.alloc(); "{most}") {
+            tell(rt, text.as_str().as_bytes());
+        }
     }
-    io::write_all(STDERR_FILENO, b" bytes\n");
+    tell(rt, b" bytes\n");
 }
 
-// Whether the next read finds the input's end. After a read that failed it fails too or finds more, unless all had been read.
-fn has_ended(fd: i32) -> bool {
-    let mut more = [0u8; 1];
-    let got = libc::read(fd, &mut more);
-    got == 0
+// Reads until the file ends or buf is full, and says how much was read.
+fn read_full(file: &mut File, buf: &mut [u8]) -> io::Result<usize>
+    ensures { IfOk result (λ n. n ≤ length buf.new) }
+{
+    let mut n = 0;
+    while n < buf.len() {
+        let got = file.read(&mut buf[n..])?;
+        if got == 0 {
+            return Ok(n);
+        }
+        n += got;
+    }
+    Ok(n)
 }
 
 // The bytes of an open file at the start of buf, as many as it holds. A file that is to be read whole and fills buf may go on, and is
 // not read.
-fn read_open(program: &[u8], path: &[u8], fd: i32, whole: bool, buf: &mut [u8]) -> Input
+fn read_open(
+    rt: &HostRuntime,
+    program: &[u8],
+    path: &[u8],
+    file: &mut File,
+    whole: bool,
+    buf: &mut [u8],
+) -> Input
     ensures { Within result (length buf.new) }
 {
-    let n = io::read_full(fd, buf);
-    if n < buf.len() {
-        if !has_ended(fd) {
-            complain(program, path);
-            return Input::Failed;
+    match read_full(file, buf) {
+        Err(error) => {
+            complain(rt, program, path, error);
+            Input::Failed
         }
-    } else if whole {
-        complain_of_length(program, path, n);
-        return Input::Failed;
+        Ok(n) => {
+            if whole && n == buf.len() {
+                complain_of_length(rt, program, path, n);
+                return Input::Failed;
+            }
+            Input::Bytes(n)
+        }
     }
-    Input::Bytes(n)
+}
+
+// Opens a file by the bytes of its path, which are text.
+fn open(rt: &HostRuntime, path: &[u8]) -> io::Result<File> {
+    match str::from_utf8(path) {
+        Ok(text) => fs::open(rt, text),
+        Err(_) => Err(Error::new(ErrorKind::InvalidInput, "a path that is not UTF-8")),
+    }
 }
 
 // The bytes of a file at the start of buf. An absent one reads as empty, or fails.
 fn read_file(
+    rt: &HostRuntime,
     program: &[u8],
     path: &[u8],
     absent_is_empty: bool,
@@ -70,24 +146,22 @@ fn read_file(
 ) -> Input
     ensures { Within result (length buf.new) }
 {
-    let fd = os::open_read(path);
-    if fd < 0 {
-        if absent_is_empty {
-            if os::errno() == ENOENT {
+    match open(rt, path) {
+        Err(error) => {
+            if absent_is_empty && error.kind() == ErrorKind::NotFound {
                 return Input::Bytes(0);
             }
+            complain(rt, program, path, error);
+            Input::Failed
         }
-        complain(program, path);
-        return Input::Failed;
+        Ok(mut file) => read_open(rt, program, path, &mut file, whole, buf),
     }
-    let input = read_open(program, path, fd, whole, buf);
-    libc::close(fd);
-    input
 }
 
 // The bytes of the file that argument i names. A path that is too long is not cut, since the cut one would name another file, and
 // an empty path names none.
 fn read_argument(
+    rt: &HostRuntime,
     program: &[u8],
     i: usize,
     name: &[u8],
@@ -97,20 +171,21 @@ fn read_argument(
 ) -> Input
     ensures { Within result (length buf.new) }
 {
-    let mut path = io::buffer();
-    let n = os::arg(i, &mut path);
-    if os::errno() != 0 {
-        complain(program, name);
-        return Input::Failed;
+    let mut path = [0u8; PATH_BYTES];
+    match rt.arg(i, &mut path) {
+        Ok(0) => Input::Unnamed,
+        Ok(n) => read_file(rt, program, &path[..n], absent_is_empty, whole, buf),
+        Err(FillError::TooLong) => {
+            complain(rt, program, name, Error::from_raw_os_error(NAME_TOO_LONG));
+            Input::Failed
+        }
+        Err(FillError::NotPresent) => Input::Unnamed,
     }
-    if n == 0 {
-        return Input::Unnamed;
-    }
-    read_file(program, &path[..n], absent_is_empty, whole, buf)
 }
 
 // The bytes of the file that argument i names, where names are given, or else of the file with this name, at the start of buf.
 pub fn read_input(
+    rt: &HostRuntime,
     program: &[u8],
     given: bool,
     i: usize,
@@ -122,8 +197,8 @@ pub fn read_input(
     ensures { Within result (length buf.new) }
 {
     if given {
-        read_argument(program, i, name, absent_is_empty, whole, buf)
+        read_argument(rt, program, i, name, absent_is_empty, whole, buf)
     } else {
-        read_file(program, name, absent_is_empty, whole, buf)
+        read_file(rt, program, name, absent_is_empty, whole, buf)
     }
 }

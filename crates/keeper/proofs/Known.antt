@@ -1,4 +1,4 @@
--- What a call whether all agents are asleep or done answers, told whether the table is sound and whether they are: `idleOf` is the case where it was told the truth.
+-- What a call whether all agents are asleep or done answers, told whether the table is sound and whether they are: `idle_of` is the case where it was told the truth.
 use Rattle.std.specs.Prelude.{◌≡◌, Bool, cond}
 use Rattle.std.proofs.Common.{ap₂}
 use Rattle.table.specs.Cell.{cell_of}

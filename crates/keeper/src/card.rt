@@ -20,8 +20,7 @@ fn commanded(cell: &mut Cell, w: Window) -> Window
 }
 
 // One command: the step of the agent in the window, with its wish, where it is 1. What is the card's is read once and not written.
-#[unsafe(no_mangle)]
-pub extern "C" fn keeper_command(cell: &mut Cell, window: &mut Window)
+pub fn keeper_command(cell: &mut Cell, window: &mut Window)
     ensures { (cell.new ≡ (command_of cell.old window.old).cell)
         × (window.new ≡ (command_of cell.old window.old).window) }
 {
@@ -33,8 +32,7 @@ pub extern "C" fn keeper_command(cell: &mut Cell, window: &mut Window)
 }
 
 // Ones written to the flags clear those bits. Nothing else but the line is written.
-#[unsafe(no_mangle)]
-pub extern "C" fn keeper_clear(window: &mut Window, ones: u8)
+pub fn keeper_clear(window: &mut Window, ones: u8)
     ensures { window.new ≡ clear_of window.old ones }
 {
     let v = clear(*window, ones);

@@ -17,11 +17,20 @@ ghost use Rattle.limit.specs.Known.{known_ceiling};
 ghost use Rattle.listing.specs.Known.{known_answer, known_buffer};
 ghost use Rattle.keeper.specs.Known.{known_idle};
 
+// The calls of hosts in C and Rust and of a card, which crate `keeper_c` exports: the cell is lent, and each answer is a number.
+pub use card::{keeper_clear, keeper_command};
+pub use exports::{
+    keeper_ask, keeper_bare, keeper_ceiling, keeper_check, keeper_commit, keeper_common,
+    keeper_idle, keeper_list, keeper_load, keeper_nearest, keeper_read, keeper_step, keeper_touch,
+    keeper_touches,
+};
 use meaning::{Checked, Idled, Verdict};
 use sets::Set;
 use table::Cell;
+pub use version::{keeper_cell_bytes, keeper_version};
+pub use written::keeper_trail;
 
-// A bare floor: `bareTable`.
+// A bare floor: `bare_table`.
 pub use table::bare;
 
 // The cell of a cell file, or the refusal and the cell as it was: `load_of`.
@@ -33,23 +42,23 @@ pub use parser::read;
 // One step call: `step_of`.
 pub use step::step;
 
-// What a step would give, `askOf`, and the step made only if it is still that: told the three, `commitOf`, or the number of an ask, `handedOf`.
+// What a step would give, `ask_of`, and the step made only if it is still that: told the three, `commit_of`, or the number of an ask, `handed_of`.
 pub use asking::{ask, commit, handed};
 
-// A touch call, `touch_of`, and the touches of a place, `touchesOf`.
+// A touch call, `touch_of`, and the touches of a place, `touches_of`.
 pub use touch::{touch, touches};
 
-// Where a place is: the nearest enclosing place of a name, `nearestOf`, and the innermost place that holds or is both of two, `commonOf`.
+// Where a place is: the nearest enclosing place of a name, `nearest_of`, and the innermost place that holds or is both of two, `common_of`.
 pub use locating::{common, nearest};
 
-// How many step calls can still change the cell, at most: `ceilingOf`.
+// How many step calls can still change the cell, at most: `ceiling_of`.
 pub use limit::ceiling;
 
-// The listing in a lent text, or the refusal and the text as it was: `listAnswer` and `listBuffer`.
+// The listing in a lent text, or the refusal and the text as it was: `list_answer` and `list_buffer`.
 pub use listing::list;
 
 // The bytes of a move in what is left of a trail's buffer, by the number that an ask answered, or the refusal and the buffer as it was:
-// `toldAnswer` and `toldBuffer`.
+// `told_answer` and `told_buffer`.
 pub use writer::write_move;
 
 // Every answer as a number.

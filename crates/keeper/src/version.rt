@@ -3,16 +3,14 @@ ghost use Rattle.std.specs.Prelude.{◌≡◌};
 ghost use Rattle.keeper.specs.Version.{keeper_version, cell_bytes};
 
 // The version of the library, 6.3.0, as one number.
-#[unsafe(no_mangle)]
-pub extern "C" fn keeper_version() -> u64
+pub fn keeper_version() -> u64
     ensures { result ≡ keeper_version }
 {
     393984
 }
 
 // How many bytes a cell has.
-#[unsafe(no_mangle)]
-pub extern "C" fn keeper_cell_bytes() -> u64
+pub fn keeper_cell_bytes() -> u64
     ensures { result ≡ cell_bytes }
 {
     5776

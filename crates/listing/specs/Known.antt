@@ -1,4 +1,4 @@
--- The listing call where it is told whether the table is sound: `listAnswer` and `listBuffer` are the cases where it was told the truth.
+-- The listing call where it is told whether the table is sound: `list_answer` and `list_buffer` are the cases where it was told the truth.
 use Rattle.std.specs.Prelude.{Bool, cond, List, ℕ, leb, length}
 use Rattle.table.specs.Cell.{State}
 use Rattle.meaning.specs.Refusals.{unsound_table, too_long}

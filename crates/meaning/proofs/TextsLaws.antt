@@ -1,4 +1,4 @@
--- Laws of the texts of a place's parts (`textsOf`) and of texts joined one after the other (`joinedAll`). Assumes nothing.
+-- Laws of the texts of a place's parts (`texts_of`) and of texts joined one after the other (`joined_all`). Assumes nothing.
 use Rattle.std.specs.Prelude.{◌≡◌, refl, ◌≢◌, ◌⊎◌, Bool, true, false, List, [], ◌∷◌, ◌++◌}
 use Rattle.std.proofs.Common.{sym, ap, ap₂, ◌∙◌, inl, inr}
 use Prim.Native.Nat.{ℕ, zero, suc, ◌+◌, ◌≤◌, ◌<◌}

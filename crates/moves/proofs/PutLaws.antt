@@ -1,6 +1,6 @@
 -- The step that puts a new place: a move of the place under a number whose lock, touches and row were renewed first. Assumes nothing.
 -- Idea: the tables differ in three arrays only, and each is compared number by number.
-use Rattle.std.specs.Prelude.{◌≡◌, ℕ, ◌<◌, Bool, true, false, cond, ◌||◌, List, ◌==◌, slice_index, refl}
+use Rattle.std.specs.Prelude.{◌≡◌, ℕ, Bool, true, false, cond, ◌||◌, List, ◌==◌, slice_index, refl}
 use Rattle.std.proofs.Math.Path.{ap}
 use Rattle.std.proofs.Common.{◌∙◌}
 use Rattle.sets.specs.Set.{member, inserted}

@@ -2,7 +2,7 @@
 use Rattle.std.specs.Prelude.{◌≡◌, List, [], ◌∷◌, ◌++◌, ℕ, ◌+◌, ◌-◌, ◌<◌, ◌≤◌, length, set}
 use Rattle.std.proofs.Common.{sym, ap, ap₂, ◌∙◌, append-nil, append_assoc, arith, length-append, length-drop}
 use Rattle.meaning.specs.Text.{overlay}
-use Rattle.text.specs.Wrote.{capped, Wrote, Fits}
+use Rattle.text.specs.Wrote.{Wrote, Fits}
 use Rattle.text.proofs.TextLaws.{part, back, part_is, capped_low, least_low, wrote_length, exactly, next, store}
 
 pub fits_less : {s t b : List ℕ} {at : ℕ} → length s ≤ length t → Fits t at b → Fits s at b

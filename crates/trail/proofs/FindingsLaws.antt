@@ -1,4 +1,4 @@
--- What a finding says, of every file, trail and listing: `upheld-exactly`.
+-- What a finding says, of every file, trail and listing: `upheld_exactly`.
 -- Idea: permitted moves may be taken off the front of a trail, and what is left decides; a trail leads to its end or stops, and never both.
 use Rattle.std.specs.Prelude.{◌≡◌, refl, ◌≢◌, ◌⊎◌, true, List, [], ◌∷◌, ◌++◌, ℕ, zero, suc, ◌+◌, ◌*◌, ◌/◌, ◌%◌, eqb, length}
 use Rattle.std.proofs.Common.{sym, ap, ap₂, ◌∙◌, subst, inl, inr, arith}

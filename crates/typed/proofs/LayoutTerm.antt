@@ -1,4 +1,4 @@
--- The cell of a tree that fits has the tree's term, up to equivalence (document 02, W8): `layout-term`.
+-- The cell of a tree that fits has the tree's term, up to equivalence (document 02, W8): `layout_term`.
 -- Idea: the cell shows the tree, contents that are shown add their term, and past the numbers that were given there is nothing.
 use Rattle.std.specs.Prelude.{◌≡◌, ◌≢◌, ◌⊎◌, Bool, [], ℕ, zero, suc, ◌≤◌, ◌<◌, eqb}
 use Rattle.std.proofs.Math.Path.{refl}

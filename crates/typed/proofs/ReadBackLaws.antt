@@ -1,5 +1,5 @@
 -- The listing of every sound table is read back: `read_back`; and so is that of the cell that any load, of a file or of a text, and any list of
--- calls reach: `loaded-back`, `reached-back`, `typed-back`. In words of calls: `listed-again`, `loaded-again`.
+-- calls reach: `loaded_back`, `reached_back`, `typed_back`. In words of calls: `listed_again`, `loaded_again`.
 -- Idea: the table's term can be typed, the text is its listing, and it fits as the table does.
 use Rattle.std.specs.Prelude.{◌≡◌, ◌≢◌, Bool, cond, List, [], ◌∷◌, eqb, length}
 use Rattle.std.proofs.Math.Path.{refl, sym}
@@ -26,8 +26,7 @@ use Rattle.calculus.specs.Terms.{Term, amb, nil, ◌≅◌}
 use Rattle.calculus.proofs.TermLaws.{◌⨾◌}
 use Rattle.calculus.specs.TermOf.{row, parallel, agent_at, place_at, level, contents, term}
 use Rattle.calculus.specs.TermListing.{or_zero, listed}
-use Rattle.calculus.proofs.TreeNumbers.{Row16}
-use Rattle.calculus.specs.Numbers.{Numbers16}
+use Rattle.calculus.specs.Numbers.{Row16, Numbers16}
 use Rattle.calculus.proofs.TreeListed.{tree_listed}
 use Rattle.calculus.proofs.SameListing.{fine_rows}
 use Rattle.demands.specs.Invariant.{Sound}

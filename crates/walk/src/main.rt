@@ -15,7 +15,8 @@ ghost use Rattle.walk.specs.Names.{naming_by};
 
 use buffers::{CELL_BYTES, ORDER_BYTES, TEXT_BYTES, TYPED_BYTES};
 use files::Input;
-use libc::{STDERR_FILENO, STDOUT_FILENO};
+use std::env::Env;
+use std::io::Write;
 
 // Where the two files' names come from: their own, two arguments, or two arguments after `--text`.
 #[derive(Clone, Copy)]
@@ -51,74 +52,74 @@ fn naming_by(count: usize, option: bool) -> Naming
 }
 
 // Whether argument 1 is `--text`.
-fn has_option() -> bool {
+fn has_option(rt: &HostRuntime) -> bool {
     let mut word = [0u8; 8];
-    let n = os::arg(1, &mut word);
-    check::same(&word[..n], b"--text")
+    match rt.arg(1, &mut word) {
+        Ok(n) => word[..n].starts_with(b"--text") && n == 6,
+        Err(_) => false,
+    }
 }
 
-fn usage() {
-    io::write_all(
-        STDERR_FILENO,
-        b"usage: walk [CELL ORDER | --text TEXT ORDER]   (without paths: the files cell and order of the working folder)\n",
-    );
+fn usage(rt: &HostRuntime) {
+    let line =
+        b"usage: walk [CELL ORDER | --text TEXT ORDER]   (without paths: the files cell and order of the working folder)\n";
+    let _told = rt.stderr().write_all(line);
 }
 
 // The bytes of the file that argument i names, where names are given, or else of the file with this name; an absent one reads as empty.
-fn read(given: bool, i: usize, name: &[u8], whole: bool, buf: &mut [u8]) -> Input
+fn read(rt: &HostRuntime, given: bool, i: usize, name: &[u8], whole: bool, buf: &mut [u8]) -> Input
     ensures { Within result (length buf.new) }
 {
-    let input = files::read_input(b"walk", given, i, name, true, whole, buf);
+    let input = files::read_input(rt, b"walk", given, i, name, true, whole, buf);
     if let Input::Unnamed = input {
-        usage();
+        usage(rt);
     }
     input
 }
 
 // Writes the report in one piece.
-fn show(report: &[u8]) {
-    if !io::write_all(STDOUT_FILENO, report) {
-        io::write_all(STDERR_FILENO, b"walk: ");
-        os::fail(b"standard output");
+fn show(rt: &HostRuntime, report: &[u8]) {
+    if let Err(error) = rt.stdout().write_all(report) {
+        files::complain(rt, b"walk", b"standard output", error);
     }
 }
 
 // The report of a cell file: `cell` and `order`, or the files that two arguments name.
-fn run_cell(given: bool) {
+fn run_cell(rt: &HostRuntime, given: bool) {
     let mut cell = [0u8; CELL_BYTES];
     let mut order = [0u8; ORDER_BYTES];
     let mut text = [0u8; TEXT_BYTES];
-    let Input::Bytes(n) = read(given, 1, b"cell", false, &mut cell) else {
+    let Input::Bytes(n) = read(rt, given, 1, b"cell", false, &mut cell) else {
         return;
     };
-    let Input::Bytes(m) = read(given, 2, b"order", false, &mut order) else {
+    let Input::Bytes(m) = read(rt, given, 2, b"order", false, &mut order) else {
         return;
     };
     let k = buffers::write_whole(&cell, n, &order, m, &mut text);
-    show(&text[..k]);
+    show(rt, &text[..k]);
 }
 
 // The report of a typed layout. The text is read whole or not at all.
-fn run_typed() {
+fn run_typed(rt: &HostRuntime) {
     let mut typed = [0u8; TYPED_BYTES];
     let mut order = [0u8; ORDER_BYTES];
     let mut text = [0u8; TEXT_BYTES];
-    let Input::Bytes(n) = read(true, 2, b"text", true, &mut typed) else {
+    let Input::Bytes(n) = read(rt, true, 2, b"text", true, &mut typed) else {
         return;
     };
-    let Input::Bytes(m) = read(true, 3, b"order", false, &mut order) else {
+    let Input::Bytes(m) = read(rt, true, 3, b"order", false, &mut order) else {
         return;
     };
     let k = buffers::write_typed(&typed, n, &order, m, &mut text);
-    show(&text[..k]);
+    show(rt, &text[..k]);
 }
 
-fn main() {
-    let names = naming_by(os::arg_count(), has_option());
+fn main(rt: HostRuntime) {
+    let names = naming_by(files::argument_count(&rt), has_option(&rt));
     match names {
-        Naming::Usual => run_cell(false),
-        Naming::Given => run_cell(true),
-        Naming::Typed => run_typed(),
-        Naming::Unclear => usage(),
+        Naming::Usual => run_cell(&rt, false),
+        Naming::Given => run_cell(&rt, true),
+        Naming::Typed => run_typed(&rt),
+        Naming::Unclear => usage(&rt),
     }
 }

@@ -1,4 +1,4 @@
--- Every session of a card is right: `session-right`.
+-- Every session of a card is right: `session_right`.
 -- Idea: one act at a time, and a command by whether it is 1; a step's window by its answer.
 -- Assumes nothing.
 use Rattle.std.specs.Prelude.{◌≡◌, Bool, false, not, ◌&&◌, ◌||◌, cond, List, [], ◌∷◌, ◌++◌, ℕ, ◌<◌, ltb}

@@ -1,4 +1,4 @@
--- The window after a step, told the number of the step's answer (`stepNumber`): the word in bits 8 to 15 and the number woken in bits 16 to 23, or
+-- The window after a step, told the number of the step's answer (`step_number`): the word in bits 8 to 15 and the number woken in bits 16 to 23, or
 -- the refusal's number in bits 0 to 7.
 use Rattle.std.specs.Prelude.{ℕ, ◌+◌, ◌/◌, ◌%◌, Bool, true, cond, eqb}
 use Rattle.window.specs.declared.Window.{Window}

@@ -7,14 +7,14 @@ use Rattle.meaning.specs.Step.{asleep_on}
 use Rattle.moves.proofs.woken.Statement.{statement}
 use Rattle.moves.proofs.woken.Tie as tie
 
-returns_2 : tie.Need-returns-2
+returns_2 : tie.Need-returns-in-Arrive
 unfolding cell_of linked
 returns_2 c =
-    let s = c.before.before.before.before.before.before.before.before.before.args in
-    let d = c.before.before.before.before.before.motion.given.0.0 in
-    rw c.before.before.before.before.before.motion.given.1
-    (c.sleeping2.ensures
-    ∙ ap (λ (r : ℕ). count_of 64 (λ y. member s.c.given y && asleep_on s.a.home d r (get_or s.c.agents y no_agent))) c.before.beyond_of.ensures)
+    let s = c.before.before.before.before.before.before.before.args in
+    let d = c.before.before.before.before.in-Arrive.to in
+    rw c.before.before.before.before.in-Arrive.is
+    (c.sleeping-in-Arrive.ensures
+    ∙ ap (λ (r : ℕ). count_of 64 (λ y. member s.c.given y && asleep_on s.a.home d r (get_or s.c.agents y no_agent))) c.before.beyond_of-r.ensures)
 
 pub woken_spec : {M : Type 1} → statement M
 unfolding cell_of
@@ -25,7 +25,7 @@ woken_spec =
     (λ c. search rules) (λ c κs. search rules) (λ c κs. search rules)
     (λ c. search rules) (λ c κs. search rules)
     (λ c. search rules) (λ c κs. search rules)
-    (λ c. rw c.before.enum_told.given.1 c.sleeping.ensures)
+    (λ c. rw c.before.in-Leave.is c.sleeping.ensures)
     returns_2
-    (λ c. rw c.before.enum_told2.given.1 c.freed.ensures)
-    (λ c. rw c.before.enum_told3.given.1 c.sleeping3.ensures))
+    (λ c. rw c.before.in-Dissolve.is c.freed.ensures)
+    (λ c. rw c.before.in-Put.is c.sleeping-in-Put.ensures))

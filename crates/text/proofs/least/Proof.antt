@@ -15,4 +15,4 @@ unfolding least
 first_not_less a b l = rw (le-ltb a b l)
 
 pub least_spec : {M : Type 1} → statement M
-least_spec = tie.close (tie.spec (λ c. first_less _ _ c.if1.true) (λ c. first_not_less _ _ c.if1.false))
+least_spec = tie.close (tie.spec (λ c. first_less _ _ c.if-a-b.true) (λ c. first_not_less _ _ c.if-a-b.false))

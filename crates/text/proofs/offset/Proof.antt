@@ -12,4 +12,4 @@ before : (from at room : ℕ) → at < from → 0 ≡ least (at - from) room
 before from at room l = least_low 0 room zero-le ∙ (let e : 0 ≡ at - from = omega arith in ap (λ (k : ℕ). least k room) e)
 
 pub offset_spec : {M : Type 1} → statement M
-offset_spec = tie.close (tie.spec (λ c. before _ _ _ c.if1.true) (λ c κs. search rules) (λ c. c.least.ensures))
+offset_spec = tie.close (tie.spec (λ c. before _ _ _ c.if-at-from.true) (λ c κs. search rules) (λ c. c.least.ensures))

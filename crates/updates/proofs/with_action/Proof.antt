@@ -7,9 +7,9 @@ use Rattle.meaning.specs.File.{with_action}
 use Rattle.updates.proofs.with_action.Statement.{statement}
 use Rattle.updates.proofs.with_action.Tie as tie
 
-returns : tie.Need-returns
+returns : tie.Need-returns-then-g-lt16
 unfolding with_action
-returns c = let t = c.before.before in let a = t.before.before.args in rw (lt-leb 16 a.g.count t.if1.true) refl
+returns c = let t = c.before.before in let a = t.before.before.args in rw (lt-leb 16 a.g.count t.if-g-lt16.true) refl
 
 pub with_action_spec : {M : Type 1} → statement M
 unfolding with_action

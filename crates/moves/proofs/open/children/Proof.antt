@@ -8,28 +8,28 @@ use Rattle.updates.proofs.GatherLaws.{Gathered, gathered_start, gathered_end, ga
 use Rattle.moves.proofs.open.children.Statement.{statement}
 use Rattle.moves.proofs.open.children.Tie as tie
 
-abbrev invariant_loop : tie.invariant_loop
+abbrev invariant_loop : tie.invariant-loop-rest
 invariant_loop t ps found₀ rest₀ found rest = Gathered (member rest₀) (λ q. eqb (get_or ps q no_place).parent t) found rest
 
-abbrev decreases_loop : tie.decreases_loop
+abbrev decreases_loop : tie.decreases-loop-rest
 decreases_loop t ps found₀ rest₀ found rest = rest.bits
 
 -- the place of this turn is below 64
-small : (c : tie.After-rest invariant_loop decreases_loop) → c.before.first.result < 64
+small : (c : tie.After-rest-rest invariant_loop decreases_loop) → c.before.first-q.result < 64
 small c = let l = c.before.before.before.before in
-    subst (λ (n : ℕ). n < 64) (sym c.before.first.ensures) (rest_lt l.loop.invariant.left (pos_of_ne-zero c.before.before.if1.true))
+    subst (λ (n : ℕ). n < 64) (sym c.before.first-q.ensures) (rest_lt l.loop-rest.invariant.left (pos_of_ne-zero c.before.before.loop-rest-test.true))
 
-loop_less : tie.Need-loop-smaller invariant_loop decreases_loop
+loop_less : tie.Need-loop-rest-smaller invariant_loop decreases_loop
 loop_less c = let l = c.before.before.before.before.before.before.before in
-    subst (λ (z : Set). z.bits < l.loop.rest.bits) (sym c.before.before.before.rest.ensures)
-    (removed_less l.loop.rest l.loop.invariant.left.small (pos_of_ne-zero c.before.before.before.before.before.if1.true))
+    subst (λ (z : Set). z.bits < l.loop-rest.rest.bits) (sym c.before.before.before.rest-rest.ensures)
+    (removed_less l.loop-rest.rest l.loop-rest.invariant.left.small (pos_of_ne-zero c.before.before.before.before.before.loop-rest-test.true))
 
-loop_again : tie.Need-loop-preserved invariant_loop decreases_loop
+loop_again : tie.Need-loop-rest-preserved invariant_loop decreases_loop
 loop_again c =
     let q = c.before.before.before.before in
     let l = q.before.before.before in
-    rw (c.insert_if.ensures, c.before.before.before.rest.ensures, q.first.ensures)
-    (gathered_more l.loop.invariant (pos_of_ne-zero q.before.if1.true) _ refl)
+    rw (c.insert_if-found.ensures, c.before.before.before.rest-rest.ensures, q.first-q.ensures)
+    (gathered_more l.loop-rest.invariant (pos_of_ne-zero q.before.loop-rest-test.true) _ refl)
 
 pub children_spec : {M : Type 1} → statement M
 children_spec =
@@ -37,4 +37,4 @@ children_spec =
     (tie.spec
     invariant_loop decreases_loop (λ c. gathered_start c.args.used _ (search rules)) (λ c κs. tt) (λ c κs. tt)
     (λ c. let h = small c in omega arith) (λ c. let h = small c in omega arith) (λ c. let h = small c in omega arith)
-    (λ c κs. tt) loop_less loop_again (λ c. gathered_end c.before.before.loop.invariant c.if1.false))
+    (λ c κs. tt) loop_less loop_again (λ c. gathered_end c.before.before.loop-rest.invariant c.loop-rest-test.false))

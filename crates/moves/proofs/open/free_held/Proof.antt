@@ -9,36 +9,36 @@ use Rattle.moves.proofs.StoreLaws.{Storing, storing_start, storing_at, storing_m
 use Rattle.moves.proofs.open.free_held.Statement.{statement}
 use Rattle.moves.proofs.open.free_held.Tie as tie
 
-abbrev invariant_loop : tie.invariant_loop
+abbrev invariant_loop : tie.invariant-loop-rest
 invariant_loop s ms₀ rest₀ ms rest = Storing 0 rest₀ (λ q. get_or ms₀ q 0) (λ q. cond (member s (get_or ms₀ q 0)) none (get_or ms₀ q 0)) ms rest
 
-abbrev decreases_loop : tie.decreases_loop
+abbrev decreases_loop : tie.decreases-loop-rest
 decreases_loop s ms₀ rest₀ ms rest = rest.bits
 
 -- the place of this turn is below 64
-small : (c : tie.After-rest invariant_loop decreases_loop) → c.before.first.result < 64
+small : (c : tie.After-rest-rest invariant_loop decreases_loop) → c.before.first-q.result < 64
 small c = let l = c.before.before.before.before in
-    subst (λ (n : ℕ). n < 64) (sym c.before.first.ensures) (rest_lt l.loop.invariant.left (pos_of_ne-zero c.before.before.if1.true))
+    subst (λ (n : ℕ). n < 64) (sym c.before.first-q.ensures) (rest_lt l.loop-rest.invariant.left (pos_of_ne-zero c.before.before.loop-rest-test.true))
 
-loop_less : tie.Need-loop-smaller invariant_loop decreases_loop
+loop_less : tie.Need-loop-rest-smaller invariant_loop decreases_loop
 loop_less c = let l = c.before.before.before.before.before in
-    subst (λ (z : Set). z.bits < l.loop.rest.bits) (sym c.before.rest.ensures)
-    (removed_less l.loop.rest l.loop.invariant.left.small (pos_of_ne-zero c.before.before.before.if1.true))
+    subst (λ (z : Set). z.bits < l.loop-rest.rest.bits) (sym c.before.rest-rest.ensures)
+    (removed_less l.loop-rest.rest l.loop-rest.invariant.left.small (pos_of_ne-zero c.before.before.before.loop-rest-test.true))
 
-loop_again : tie.Need-loop-preserved invariant_loop decreases_loop
+loop_again : tie.Need-loop-rest-preserved invariant_loop decreases_loop
 loop_again c =
     let q = c.before.before in
     let l = q.before.before.before in
     let a = l.before.args in
-    let k = pos_of_ne-zero q.before.if1.true in
-    rw (c.before.rest.ensures, q.first.ensures)
-    (storing_more 0 _ _ _ l.loop.invariant k c.free_one.result
-    (c.free_one.ensures
+    let k = pos_of_ne-zero q.before.loop-rest-test.true in
+    rw (c.before.rest-rest.ensures, q.first-q.ensures)
+    (storing_more 0 _ _ _ l.loop-rest.invariant k c.free_one-n.result
+    (c.free_one-n.ensures
     ∙ ap (λ (n : ℕ). cond (member a.s n) none n)
-    (ap (λ (i : ℕ). get_or l.loop.ms i 0) q.first.ensures ∙ storing_at 0 _ _ _ l.loop.invariant k)))
+    (ap (λ (i : ℕ). get_or l.loop-rest.ms i 0) q.first-q.ensures ∙ storing_at 0 _ _ _ l.loop-rest.invariant k)))
 
 returns : tie.Need-returns invariant_loop decreases_loop
-returns c = storing_end 0 _ _ _ c.before.before.loop.invariant c.if1.false
+returns c = storing_end 0 _ _ _ c.before.before.loop-rest.invariant c.loop-rest-test.false
 
 pub free_held_spec : {M : Type 1} → statement M
 free_held_spec =

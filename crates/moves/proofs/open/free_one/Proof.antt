@@ -7,5 +7,5 @@ pub free_one_spec : {M : Type 1} → statement M
 free_one_spec =
     tie.close
     (tie.spec
-    (λ c κs. search rules) (λ c. rw (sym c.before.has.ensures ∙ c.if1.true))
-    (λ c. rw (sym c.before.has.ensures ∙ c.if1.false)))
+    (λ c κs. search rules) (λ c. rw (sym c.before.has.ensures ∙ c.if-has.true))
+    (λ c. rw (sym c.before.has.ensures ∙ c.if-has.false)))

@@ -12,7 +12,7 @@ returns : tie.Need-returns
 returns c =
     let a = c.before.before.args in
     c.later.ensures
-    ∙ ap (λ (s : Set). later (member s) a.row) c.before.children.ensures
+    ∙ ap (λ (s : Set). later (member s) a.row) c.before.children-s.ensures
     ∙ ap (λ (f : ℕ → Bool). later f a.row) (λ i q. member_among a.used (search rules) (λ r. eqb (get_or a.ps r no_place).parent a.t) q i)
 
 pub freed_spec : {M : Type 1} → statement M

@@ -10,10 +10,10 @@ returns c =
     let stored = c.before in
     let sum = stored.before in
     let a = sum.before.before.before.args in
-    c.with_touches2.ensures
-    ∙ store_tab 0 (upd (λ j. get_or a.ts j 0) a.p sum.wrapping_add_u64.result) _ a.t 0 stored.with_touches.ensures
+    c.with_touches.ensures
+    ∙ store_tab 0 (upd (λ j. get_or a.ts j 0) a.p sum.wrapping_add_u64-sum.result) _ a.t 0 stored.with_touches-us.ensures
     ∙ ap (λ (n : ℕ). tab (upd (upd (λ j. get_or a.ts j 0) a.p n) a.t 0) 64 0)
-    (sum.wrapping_add_u64.ensures ∙ ap₂ (λ (x y : ℕ). (x + y) % 2 ^ 64) sum.before.before.touches_of.ensures sum.before.touches_of2.ensures)
+    (sum.wrapping_add_u64-sum.ensures ∙ ap₂ (λ (x y : ℕ). (x + y) % 2 ^ 64) sum.before.before.touches_of-a.ensures sum.before.touches_of-b.ensures)
 
 pub pool_spec : {M : Type 1} → statement M
 pool_spec = tie.close (tie.spec (λ c κs. search rules) (λ c κs. search rules) (λ c κs. search rules) (λ c κs. search rules) (λ c κs. search rules) returns)

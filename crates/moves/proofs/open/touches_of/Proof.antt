@@ -9,4 +9,4 @@ touches_of_spec =
     tie.close
     (tie.spec
     (λ c. search rules) (λ c. search rules) (λ c. search rules)
-    (λ c. sym (read_past 0 c.before.args.t1 _ c.before.well_formed.0.1.0.1 c.if1.false)))
+    (λ c. sym (read_past 0 c.before.args.ts _ c.before.well_formed.0.1.0.1 c.if-q-lt64.false)))

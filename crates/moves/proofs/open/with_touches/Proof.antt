@@ -10,5 +10,5 @@ with_touches_spec =
     tie.close
     (tie.spec
     (λ c. search rules) (λ c. search rules)
-    (λ c. let a = c.before.args in set_list 0 a.ts 64 a.q a.n c.before.well_formed.0.1.0.1 c.if1.true)
-    (λ c. store_past 0 _ _ _ c.before.well_formed.0.1.0.1 c.if1.false))
+    (λ c. let a = c.before.args in set_list 0 a.ts 64 a.q a.n c.before.well_formed.0.1.0.1 c.if-q-lt64.true)
+    (λ c. store_past 0 _ _ _ c.before.well_formed.0.1.0.1 c.if-q-lt64.false))

@@ -20,12 +20,12 @@ returns c =
     let s = y.before.before.before.before.before.args in
     let l = (cell_of s.c).land in
     c.move_place.ensures
-    ∙ ap₂ (λ (row : List ℕ) (h : Place). made (move_place (cell_of (put_order s.c row)) s.x s.a.home h s.a.home s.d r.beyond.result c.before.before.at_stage.result Came))
-    c.before.latest.ensures (y.Linked-up.ensures ∙ ap (λ (h : Place). with_way h 0) y.before.place_at.ensures)
+    ∙ ap₂ (λ (row : List ℕ) (h : Place). made (move_place (cell_of (put_order s.c row)) s.x s.a.home h s.a.home s.d r.beyond-r.result c.before.before.at_stage-b.result Came))
+    c.before.latest-last.ensures (y.linked_up-y.ensures ∙ ap (λ (h : Place). with_way h 0) y.before.place_at-h.ensures)
     ∙ ap₂ (λ (n : ℕ) (b : Agent). made (move_place (cell_of (put_order s.c (latest s.a.home s.c.order))) s.x s.a.home (with_way (l.place s.a.home) 0) s.a.home s.d n b Came))
-    (r.beyond.ensures ∙ ap₂ (λ (u : Bool) (x : Place). cond (u && eqb x.way 0) x.parent s.d) r.before.has.ensures
-    r.before.before.place_at2.ensures)
-    (c.before.before.at_stage.ensures ∙ ap (λ (n : ℕ). at_stage s.a n 0 0) c.before.before.before.rest_stage.ensures)
+    (r.beyond-r.ensures ∙ ap₂ (λ (u : Bool) (x : Place). cond (u && eqb x.way 0) x.parent s.d) r.before.has-u.ensures
+    r.before.before.place_at-t.ensures)
+    (c.before.before.at_stage-b.ensures ∙ ap (λ (n : ℕ). at_stage s.a n 0 0) c.before.before.before.rest_stage-s.ensures)
 
 pub arrive_spec : {M : Type 1} → statement M
 arrive_spec =

@@ -9,11 +9,11 @@ unfolding asleep_on
 asleep_on_spec =
     tie.close
     (tie.spec
-    (λ c. rw (eq-eqb _ _ c.before.before.if1.true, eq-eqb _ _ c.if2.true))
-    (λ c. rw (eq-eqb _ _ c.before.before.before.before.if1.true, ne_eqb _ _ c.before.before.if2.false, eq-eqb _ _ c.if3.true))
+    (λ c. rw (eq-eqb _ _ c.before.before.if-a-eq7.true, eq-eqb _ _ c.if-a-p.true))
+    (λ c. rw (eq-eqb _ _ c.before.before.before.before.if-a-eq7.true, ne_eqb _ _ c.before.before.if-a-p.false, eq-eqb _ _ c.if-a-q.true))
     (λ c. rw (
-      eq-eqb _ _ c.before.before.before.before.before.if1.true,
-      ne_eqb _ _ c.before.before.before.if2.false,
-      ne_eqb _ _ c.before.if3.false,
+      eq-eqb _ _ c.before.before.before.before.before.if-a-eq7.true,
+      ne_eqb _ _ c.before.before.before.if-a-p.false,
+      ne_eqb _ _ c.before.if-a-q.false,
     ))
-    (λ c. rw (ne_eqb _ _ c.if1.false)))
+    (λ c. rw (ne_eqb _ _ c.if-a-eq7.false)))

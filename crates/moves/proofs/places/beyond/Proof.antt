@@ -7,5 +7,5 @@ pub beyond_spec : {M : Type 1} → statement M
 beyond_spec =
     tie.close
     (tie.spec
-    (λ c κs. search rules) (λ c. rw (sym c.before.linked.ensures ∙ c.if1.true))
-    (λ c. rw (sym c.before.linked.ensures ∙ c.if1.false)))
+    (λ c κs. search rules) (λ c. rw (sym c.before.linked.ensures ∙ c.if-linked.true))
+    (λ c. rw (sym c.before.linked.ensures ∙ c.if-linked.false)))

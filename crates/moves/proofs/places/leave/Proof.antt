@@ -18,8 +18,8 @@ returns c =
     let s = y.before.before.before.args in
     c.move_place.ensures
     ∙ ap₂ (λ (h : Place) (b : Agent). made (move_place (cell_of s.c) s.x s.a.home h s.a.remembered s.a.home s.a.home b Left))
-    (y.sent.ensures ∙ ap (λ (h : Place). with_way (with_parent h s.d) 1) y.before.place_at.ensures)
-    (c.before.at_stage.ensures ∙ ap (λ (u : Agent). at_stage u 4 0 0) c.before.before.use_up.ensures)
+    (y.sent-y.ensures ∙ ap (λ (h : Place). with_way (with_parent h s.d) 1) y.before.place_at-h.ensures)
+    (c.before.at_stage-b.ensures ∙ ap (λ (u : Agent). at_stage u 4 0 0) c.before.before.use_up-u.ensures)
 
 pub leave_spec : {M : Type 1} → statement M
 leave_spec =

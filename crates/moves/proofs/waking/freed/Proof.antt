@@ -13,7 +13,7 @@ use Rattle.moves.proofs.waking.freed.Tie as tie
 returns : tie.Need-returns
 returns c =
     let s = c.before.before.args in
-    c.counted.ensures ∙ ap (λ (z : Set). count_of 64 (member z)) c.before.freed_sleepers.ensures
+    c.counted.ensures ∙ ap (λ (z : Set). count_of 64 (member z)) c.before.freed_sleepers-s.ensures
     ∙ count_ext 64 _ (λ y. member s.given y && woken_by s.p s.t (get_or s.crew y no_agent)) (λ i l. member_set _ i l)
 
 pub freed_spec : {M : Type 1} → statement M

@@ -13,7 +13,7 @@ use Rattle.moves.proofs.waking.sleeping.Tie as tie
 returns : tie.Need-returns
 returns c =
     let s = c.before.before.args in
-    c.counted.ensures ∙ ap (λ (z : Set). count_of 64 (member z)) c.before.sleepers.ensures
+    c.counted.ensures ∙ ap (λ (z : Set). count_of 64 (member z)) c.before.sleepers-s.ensures
     ∙ count_ext 64 _ (λ y. member s.given y && asleep_on s.p s.q s.r (get_or s.crew y no_agent)) (λ i l. member_set _ i l)
 
 pub sleeping_spec : {M : Type 1} → statement M
