@@ -72,12 +72,14 @@ complains "a closed output" "audit: standard output: Bad file descriptor" bash -
 # ---- the script ./audit, beside a program and an `rt` that only say that they ran
 
 top=$scratch/top
-mkdir -p "$top/crates" "$top/target/bin" "$top/bin" "$top/shift"
+mkdir -p "$top/crates/audit/out" "$top/tools" "$top/target/bin" "$top/bin" "$top/shift"
 touch "$top/crates.txt"
 cp audit "$top"
 printf '#!/bin/sh\necho ran "$@"\n' > "$top/target/bin/audit"
 printf '#!/bin/sh\necho checked "$@"\n' > "$top/bin/rt"
 chmod +x "$top/bin/rt" "$top/target/bin/audit"
+cp tools/build "$top/tools"
+cp "$top/target/bin/audit" "$top/crates/audit/out"
 
 # script NAME STATUS WROTE ARGUMENT..: what ./audit writes to both outputs, and its status
 script() {
@@ -90,7 +92,7 @@ script() {
 
 ran="ran shift/cell shift/trail shift/final"
 script "./audit without a folder" 2 "usage: ./audit DIR   (a folder with the files cell, trail and final, such as examples/trail-believed)"
-touch -d "3 minutes ago" "$top/crates" "$top/crates.txt"
+touch -d "3 minutes ago" "$top/crates" "$top/crates/audit" "$top/crates.txt"
 script "./audit with a program that is newer" 0 "$ran" shift
 touch -d "2 minutes ago" "$top/target/bin/audit"
 touch -d "1 minute ago" "$top/crates"

@@ -67,12 +67,14 @@ complains "a reader that stops" "walk: standard output: Broken pipe" bash -c 'tr
 # ---- the script ./walk, beside a program and an `rt` that only say that they ran
 
 top=$scratch/top
-mkdir -p "$top/crates" "$top/target/bin" "$top/bin" "$top/empty" "$top/full" "$top/typed"
+mkdir -p "$top/crates/walk/out" "$top/tools" "$top/target/bin" "$top/bin" "$top/empty" "$top/full" "$top/typed"
 touch "$top/crates.txt" "$top/full/cell" "$top/full/cell.txt" "$top/typed/cell.txt"
 cp walk "$top"
 printf '#!/bin/sh\necho ran "$@"\n' > "$top/target/bin/walk"
 printf '#!/bin/sh\necho checked "$@"\n' > "$top/bin/rt"
 chmod +x "$top/bin/rt" "$top/target/bin/walk"
+cp tools/build "$top/tools"
+cp "$top/target/bin/walk" "$top/crates/walk/out"
 
 # script NAME STATUS WROTE ARGUMENT..: what ./walk writes to both outputs, and its status
 script() {
@@ -89,7 +91,7 @@ checked check walk
 $ran"
 script "./walk without a folder" 2 "usage: ./walk DIR   (a folder with the files cell or cell.txt, and order, such as examples/worked; an absent order is an empty one)"
 script "./walk on a folder without a cell" 2 "walk: there is no file empty/cell and no file empty/cell.txt" empty
-touch -d "3 minutes ago" "$top/crates" "$top/crates.txt"
+touch -d "3 minutes ago" "$top/crates" "$top/crates/walk" "$top/crates.txt"
 script "./walk with a program that is newer" 0 "$ran" full
 script "./walk on a folder with a typed layout" 0 "ran --text typed/cell.txt typed/order" typed
 touch -d "2 minutes ago" "$top/target/bin/walk"

@@ -58,7 +58,7 @@ fn read(rt: &HostRuntime, given: bool, i: usize, name: &[u8], whole: bool, buf: 
 // Writes the line in one piece.
 fn show(rt: &HostRuntime, line: &[u8]) {
     if let Err(error) = rt.stdout().write_all(line) {
-        files::complain(rt, b"audit", b"standard output", error);
+        let _failed = files::complain(rt, b"audit", b"standard output", error);
     }
 }
 

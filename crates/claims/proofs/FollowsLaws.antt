@@ -41,7 +41,7 @@ pub record Tells (t : Tree) (a : ℕ) (u : Tree) (b : ℕ) : Type 0 where
   pub makes : u ≡ moved t a b
 
 -- an agent that moves has an action of one of the kinds
-pub mover_kind : {t u : Tree} {a : ℕ} → MoveCase t a u → Kind (next_of t a).kind
+pub mover_kind : {t : Tree} {a : ℕ} {u : Tree} → MoveCase t a u → Kind (next_of t a).kind
 mover_kind (by_enter m k h s d n) = is_enter k
 mover_kind (by_exit k h n) = is_exit k
 mover_kind (by_open m k s n) = is_open k

@@ -1,7 +1,7 @@
 -- The trail of every run is upheld with the listing of the cell reached: `run_upheld`, of every accepted file and every list of calls.
 -- Idea: each call makes one move of the plain tree, by the plain tree's own step, or none; the tree that a move makes tells its place; and the plain
 -- tree is that of the cell reached, whose listing is that of its tree.
-use Rattle.std.specs.Prelude.{◌≡◌, refl, ◌≢◌, ◌⊎◌, true, false, List, [], ◌∷◌, ◌++◌, ℕ}
+use Rattle.std.specs.Prelude.{◌≡◌, refl, ◌≢◌, ◌⊎◌, true, false, List, ◌++◌, ℕ}
 use Rattle.std.proofs.Math.Path.{sym, ap}
 use Rattle.std.proofs.Common.{◌∙◌, subst, inl, inr}
 use Rattle.table.proofs.BaseLaws.{Told, yea, nay, told, clash, eq?, upd_same, upd_other}
@@ -110,7 +110,7 @@ reply_makes p k (step_reply (Refused n)) e = clash e refl
 reply_makes p k (touch_reply n) e = clash e refl
 
 -- the byte of the pick tells it, at put too, for there it is 255
-makes_told : {t u : Tree} (a pick : ℕ) → Formed t → Makes t a pick u → Move t a u → Tells t a u (byte_of t a pick)
+makes_told : {t : Tree} (a pick : ℕ) {u : Tree} → Formed t → Makes t a pick u → Move t a u → Tells t a u (byte_of t a pick)
 makes_told {t} a pick w on_pick v = same_tells t a pick v
 makes_told {t} a pick w on_fresh v =
     let n : ℕ = fresh_number t.used in

@@ -3,7 +3,7 @@
 
 #![tactic(auto)]
 
-ghost use Rattle.std.specs.Prelude.{◌≤◌, length, IfOk};
+ghost use Rattle.std.specs.Prelude.{◌≡◌, ◌≤◌, length, IfOk};
 ghost use Rattle.files.specs.Inputs.{Within};
 
 use std::env::{Env, FillError};
@@ -30,9 +30,9 @@ pub fn argument_count(rt: &HostRuntime) -> usize
     ensures { result ≤ 5 }
 {
     let mut first = [0u8; 1];
-    for i in 0..5 {
-        if let Err(FillError::NotPresent) = rt.arg(i, &mut first) {
-            return i;
+    for k in 0..5 {
+        if let Err(FillError::NotPresent) = rt.arg(k, &mut first) {
+            return k;
         }
     }
     5
@@ -45,7 +45,7 @@ fn reason_length(text: &[u8]) -> usize
     let mark = b" (os error ";
     for i in 0..text.len() {
         if text[i..].starts_with(mark) {
-            return i;
+            return k;
         }
     }
     text.len()
@@ -56,8 +56,10 @@ fn tell(rt: &HostRuntime, part: &[u8]) {
     let _told = rt.stderr().write_all(part);
 }
 
-// A line on standard error: what failed, and the system's reason.
-pub fn complain(rt: &HostRuntime, program: &[u8], what: &[u8], error: Error) {
+// A line on standard error: what failed, and the system's reason. The answer for what was to be read.
+pub fn complain(rt: &HostRuntime, program: &[u8], what: &[u8], error: Error) -> Input
+    ensures { result ≡ Input.Failed }
+{
     tell(rt, program);
     tell(rt, b": ");
     tell(rt, what);
@@ -68,6 +70,7 @@ pub fn complain(rt: &HostRuntime, program: &[u8], what: &[u8], error: Error) {
         tell(rt, &bytes[..n]);
     }
     tell(rt, b"\n");
+    Input::Failed
 }
 
 // A line on standard error: the file fills this much room, and is too long.
@@ -113,10 +116,7 @@ fn read_open(
     ensures { Within result (length buf.new) }
 {
     match read_full(file, buf) {
-        Err(error) => {
-            complain(rt, program, path, error);
-            Input::Failed
-        }
+        Err(error) => complain(rt, program, path, error),
         Ok(n) => {
             if whole && n == buf.len() {
                 complain_of_length(rt, program, path, n);
@@ -151,8 +151,7 @@ fn read_file(
             if absent_is_empty && error.kind() == ErrorKind::NotFound {
                 return Input::Bytes(0);
             }
-            complain(rt, program, path, error);
-            Input::Failed
+            complain(rt, program, path, error)
         }
         Ok(mut file) => read_open(rt, program, path, &mut file, whole, buf),
     }
@@ -176,8 +175,7 @@ fn read_argument(
         Ok(0) => Input::Unnamed,
         Ok(n) => read_file(rt, program, &path[..n], absent_is_empty, whole, buf),
         Err(FillError::TooLong) => {
-            complain(rt, program, name, Error::from_raw_os_error(NAME_TOO_LONG));
-            Input::Failed
+            complain(rt, program, name, Error::from_raw_os_error(NAME_TOO_LONG))
         }
         Err(FillError::NotPresent) => Input::Unnamed,
     }

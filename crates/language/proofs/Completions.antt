@@ -18,7 +18,6 @@ use Rattle.language.specs.Grammar.{Text}
 use Rattle.language.specs.Machine.{least_of, spelled, begin_part, begin_word, next, Builder, apply, Run, at, done, land, step, run, end_at, end}
 use Rattle.language.specs.Machine.{reads}
 use Rattle.language.proofs.PieceLaws.{reads_piece, number_ends, follows_end, follows_out, before_step}
-use Rattle.language.specs.Built.{built}
 use Rattle.language.proofs.Written.{slash_enter, slash_exit, open_name, open_keys, out_run, empty_run}
 use Rattle.language.proofs.Coming.{Good, good_begin, good_bare, good_part, good_within, good_after, good_space, good_bar, good_dot, good_e}
 use Rattle.language.proofs.Coming.{good_spell, good_before, good_digits}

@@ -9,7 +9,6 @@ use Rattle.language.specs.declared.Field.TheVariants.{PlaceName}
 use Rattle.language.specs.Grammar.{Text, Number, Contents, nothing, agent, place}
 use Rattle.language.specs.Grammar.{action_typed, further_typed, agent_typed, keys_typed, after_bar, contents_typed}
 use Rattle.language.specs.Machine.{least_of}
-use Rattle.language.proofs.Ways
 use Rattle.language.specs.Built.{is_some}
 use Rattle.language.proofs.Coming.{Closings, closings_out, Beside, Inside, Further, Keyed, Next, Counted, Worded}
 use Rattle.language.proofs.Coming.{Parts, an_agent, a_place}

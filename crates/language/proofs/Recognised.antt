@@ -16,7 +16,6 @@ use Rattle.language.specs.declared.Moved.TheVariants.{To, Off}
 use Rattle.language.specs.Grammar.{Text, Contents, nothing, agent, place, Belongs}
 use Rattle.language.specs.Grammar.{after_bar, contents_typed, floor_typed}
 use Rattle.language.specs.Machine.{next, Builder, apply, at, off, done, short, land, step, run, end_at, end, reads}
-use Rattle.language.proofs.Ways
 use Rattle.language.proofs.Ways.{way}
 use Rattle.language.specs.Built.{is_some}
 use Rattle.language.proofs.Coming.{Closings, closings_none, Next, Parts, Rest}

@@ -4,5 +4,6 @@ pub mod FileLength
 pub mod Parts
 pub mod Levels
 pub mod ListingLength
+pub mod LineLength
 pub mod ReportLength
 pub mod Prefix

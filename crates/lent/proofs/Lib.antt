@@ -1,13 +1,1 @@
-pub mod Walk
-pub mod Declared
-pub mod Lent
-pub mod Element
-pub mod Offsets
-pub mod Reading
-pub mod Storing
-pub mod Field
-pub mod Passing
-pub mod Altering
-pub mod Loop
-pub mod Within
-pub mod Freed
+pub mod Words

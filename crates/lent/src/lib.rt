@@ -1,3 +1,3 @@
-// Rules for walks over a lent cell: it is looked into, its elements are read, a function is called. No code.
+// What is known of a lent cell before an element of it is read, for the walks over it: that its two sets are words. No code.
 
 #![tactic(auto)]

@@ -1,5 +1,5 @@
 -- A claim on every member of a list. Assumes nothing.
-use Rattle.std.specs.Prelude.{List, [], ◌∷◌, ◌++◌, ℕ, zero, suc, ◌<◌, length, get_or}
+use Rattle.std.specs.Prelude.{List, ◌++◌, ℕ, zero, suc, ◌<◌, length, get_or}
 use Rattle.std.proofs.Common.{arith}
 use Rattle.meaning.specs.Every.{Every, every_none, every_more}
 

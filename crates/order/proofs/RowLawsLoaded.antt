@@ -10,7 +10,7 @@ use Rattle.std.proofs.Math.ListN.{take, length-set}
 use Rattle.std.proofs.Math.Seq.{take-append-add}
 use Rattle.sets.specs.Word.{bit}
 use Rattle.sets.proofs.ToldLaws.{Told, yea, nay, told, clash, and_left, and_right}
-use Rattle.order.specs.Row.{keep, later, latest, occurs, counting, counting_row, loaded_row, filled_row, all_small}
+use Rattle.order.specs.Row.{keep, latest, occurs, counting, counting_row, loaded_row, filled_row, all_small}
 use Rattle.order.proofs.RowLaws.{occurs_append, length_later, fits_small, counting_fits}
 use Rattle.order.proofs.RowLawsLater.{keep_ext, loaded_more, loaded_none}
 use Rattle.order.proofs.RowLawsLoops.{Front, front_start, front_end, others_turn, Rest, rest_start}

@@ -1,5 +1,5 @@
 -- A loop that takes the members of a set in order, lowest first, until none is left. Assumes nothing.
-use Rattle.std.specs.Prelude.{◌≡◌, Bool, ◌&&◌, ℕ, ◌-◌, ◌^◌, ◌≤◌, ◌<◌, leb}
+use Rattle.std.specs.Prelude.{◌≡◌, Bool, ◌&&◌, ℕ, ◌^◌, ◌≤◌, ◌<◌, leb}
 use Rattle.sets.specs.Word.{lowest_of}
 use Rattle.sets.specs.Set.{member}
 use Rattle.sets.specs.declared.Set.{Set}

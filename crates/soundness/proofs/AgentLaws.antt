@@ -9,8 +9,7 @@ use Rattle.std.proofs.lemmas.Bool.{eqb-false, lt-leb}
 use Rattle.sets.specs.Word.{has}
 use Rattle.table.proofs.BaseLaws.{Told, yea, nay, told, clash, and_cong}
 use Rattle.table.specs.Cell.{none, no_place, State, cell_of, linked_to, has_action, kind_of, asleep}
-use Rattle.table.specs.Bounds.{Sized}
-use Rattle.table.proofs.CellLaws.{in_use}
+use Rattle.lent.proofs.Words.{Words, in_use}
 use Rattle.table.specs.Sound.{actions_fit, remembers, stage_fits, first_held, second_held, second_held_in, lock_is, agent_fits, going_from}
 use Rattle.soundness.specs.Pass.{quiet, remembers_at, quiet_fits, lock_is_at, linked_at, busy_fits}
 use Rattle.table.specs.declared.Agent.{Agent}
@@ -112,7 +111,7 @@ from_home a = go (ltb a.stage 4) (leb a.stage 6)
 
 -- ---- masked reads
 
-module _ (c : Cell) (z : Sized c) where
+module _ (c : Cell) (z : Words c) where
   abbrev u : ℕ → Bool
   u = has c.used.bits
 

@@ -1,4 +1,3 @@
-mod Seeing
 pub mod RowLaws
 pub mod AgentLaws
 pub mod PassLaws

@@ -12,7 +12,7 @@ use Rattle.sets.specs.declared.Set.{Set}
 use Rattle.table.specs.Base.{all_below, any_below, count_below}
 use Rattle.table.proofs.BaseLaws.{Told, yea, nay, told, and_left, and_right, and_cong, cond_cong, same_test, all_at, all_yes}
 use Rattle.table.specs.Cell.{none, no_place, State, cell_of}
-use Rattle.table.specs.Bounds.{Sized}
+use Rattle.lent.proofs.Words.{Words}
 use Rattle.table.specs.Sound.{claims, goes, nameless, place_fits, place_sound, leads, core_sound}
 use Rattle.soundness.specs.Pass.{all_lead, floor_stands, floor_fits, floor_sound, child_stands, child_fits, child_test, child_at, children_fit, lands_fit}
 use Rattle.soundness.proofs.PassLaws.{Passed, passed_fit, passed_held, passed_moved}
@@ -58,7 +58,7 @@ pub floor_decides : (ps : List Place) (ls : List ℕ) (used claimed going : Set)
 unfolding lands_fit
 floor_decides ps ls used claimed going b e = sym (ap (λ (y : Bool). y && children_fit ps ls used claimed going) e)
 
-module _ (c : Cell) (z : Sized c) where
+module _ (c : Cell) (z : Words c) where
   abbrev u : ℕ → Bool
   u = has c.used.bits
 

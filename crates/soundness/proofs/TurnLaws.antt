@@ -13,7 +13,7 @@ use Rattle.sets.proofs.WalkLaws.{rest_lt, removed_less, lowest_found}
 use Rattle.sets.specs.Walk.{lowest_in}
 use Rattle.sets.specs.declared.Set.{Set}
 use Rattle.table.proofs.BaseLaws.{Told, yea, nay, told, clash, eq?}
-use Rattle.table.specs.Bounds.{Sized}
+use Rattle.lent.proofs.Words.{Words}
 use Rattle.table.specs.Cell.{no_place, no_agent, cell_of, has_action, kind_of}
 use Rattle.table.specs.Sound.{actions_fit, remembers, first_held, second_held, second_held_in, going_from, agent_fits, core_sound, books_sound, touch_sum, sound}
 use Rattle.table.specs.declared.Agent.{Agent}
@@ -99,7 +99,7 @@ turn_busy c w a g =
     busy_of w a g.kind (get_or c.places g.home no_place) (get_or c.places g.chosen no_place) (get_or c.locks g.first 0)
     (get_or c.locks (second_of a g.kind (get_or c.places g.home no_place)) 0)
 
-module _ (c : Cell) (z : Sized c) where
+module _ (c : Cell) (z : Words c) where
   pub start_reaches : Reaches c (start_of c.used c.given)
   start_reaches = inl (record { used = refl; fit = refl; at = refl; passed = passed_start c z })
 

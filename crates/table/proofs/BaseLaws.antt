@@ -1,6 +1,6 @@
 -- Laws of one value changed, of searches and counts below a bound, and of tables. Assumes nothing.
 -- Idea: each law goes by one number, which is the one in question or another; told and eq? tell which.
-use Rattle.std.specs.Prelude.{◌≡◌, ◌≢◌, ◌⊎◌, List, Bool, true, false, ◌&&◌, ◌||◌, cond, eqb, ltb, leb, get_or, length, set}
+use Rattle.std.specs.Prelude.{◌≡◌, ◌≢◌, ◌⊎◌, List, Bool, true, false, ◌&&◌, ◌||◌, ltb, leb, get_or, length, set}
 use Rattle.std.proofs.Math.Path.{refl, ap}
 use Rattle.std.proofs.Common.{sym, ap₂, ◌∙◌, subst, inl, inr, add-zero, zero-add, le_refl, arith, add-one, length-set, ext_get_or, get_or-set_same, get_or-set_other, eq-eqb, ne_eqb, ltb-true, ltb-false, leb-true}
 use Prim.Native.Nat.{ℕ, zero, suc, ◌+◌, ◌≤◌, ◌<◌, zero-le}

@@ -1,5 +1,4 @@
 -- What owning a cell tells of its arrays, words and names: a table that a function is handed has the sizes and the ranges of the struct.
-use mathlib.Core.Path.{sym, ◌∙◌}
 use mathlib.Core.List.{List, [], ◌∷◌}
 use Prim.Native.Nat.{ℕ, zero, suc, ◌<◌}
 use lib.Dec.{lit<}

@@ -80,7 +80,7 @@ fn read(rt: &HostRuntime, given: bool, i: usize, name: &[u8], whole: bool, buf: 
 // Writes the report in one piece.
 fn show(rt: &HostRuntime, report: &[u8]) {
     if let Err(error) = rt.stdout().write_all(report) {
-        files::complain(rt, b"walk", b"standard output", error);
+        let _failed = files::complain(rt, b"walk", b"standard output", error);
     }
 }
 

@@ -8,10 +8,6 @@ use Rattle.sets.specs.Set.{member}
 use Rattle.order.proofs.RowLawsLoops.{Parted, parted_start, parted_turn, parted_end, Rest, rest_start, rest_turn}
 use Rattle.order.proofs.later.Statement.{statement}
 use Rattle.order.proofs.later.Tie as tie
-use Rattle.order.proofs.later.Reads as reads
-use Rattle.order.proofs.later.Lts as lts
-use Rattle.order.proofs.one_if.Reads as one_if_reads
-use Rattle.sets.proofs.Set.has.Reads as has_reads
 
 abbrev invariant_loop : tie.invariant-loop-j
 invariant_loop s order row₀ members₀ n₀ m₀ j₀ row members n m j = Parted (member s) order row members n m j

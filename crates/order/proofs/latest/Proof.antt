@@ -5,9 +5,6 @@ use borrow.Author.Rules.{rules}
 use Rattle.order.proofs.RowLawsLoops.{Without, without_start, without_turn, Filled, filled_start, filled_turn, filled_end}
 use Rattle.order.proofs.latest.Statement.{statement}
 use Rattle.order.proofs.latest.Tie as tie
-use Rattle.order.proofs.latest.Reads as reads
-use Rattle.order.proofs.latest.Lts as lts
-use Rattle.order.proofs.one_if.Reads as one_if_reads
 
 abbrev invariant_loop : tie.invariant-loop-j
 invariant_loop q order row₀ n₀ j₀ row n j = Without q order row n j

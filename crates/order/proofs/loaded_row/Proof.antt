@@ -8,7 +8,7 @@ use lib.ListN.{length, take}
 use borrow.Author.Rules.{rules}
 use Rattle.sets.specs.Word.{bit}
 use Rattle.sets.specs.Set.{member}
-use Rattle.order.specs.Row.{keep, counting}
+use Rattle.order.specs.Row.{keep}
 use Rattle.order.proofs.RowLawsLoops.{Rest, rest_turn}
 use Rattle.order.proofs.RowLawsLoaded.{Others, others_start, others_more, others_rest, others_end, counting_long}
 use Rattle.order.proofs.loaded_row.Statement.{statement}

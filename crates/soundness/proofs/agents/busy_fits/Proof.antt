@@ -15,13 +15,13 @@ busy_fits_spec =
     let h = c.before.before.before.before in
     let l = h.before.before.before in
     rw (
-      ← l.before.before.before.has.ensures,
-      ← l.Linked-to.ensures,
-      ← h.before.before.linked_to2.ensures,
-      ← h.before.stage_fits.ensures,
-      ← h.has2.ensures,
-      ← c.before.before.before.has3.ensures,
-      ← c.before.before.lock_is.ensures,
-      ← c.before.lock_is2.ensures,
-      ← c.All-three.ensures,
+      ← l.before.before.before.has-chosen_used.ensures,
+      ← l.linked_to-here.ensures,
+      ← h.before.before.linked_to-there.ensures,
+      ← h.before.stage_fits-stage.ensures,
+      ← h.has-first_used.ensures,
+      ← c.before.before.before.has-second_used.ensures,
+      ← c.before.before.lock_is-holds_first.ensures,
+      ← c.before.lock_is-holds_second.ensures,
+      ← c.all_three.ensures,
     )))

@@ -12,10 +12,10 @@ unfolding holds_both
 holds_both_spec =
     tie.close
     (tie.spec
-    (λ c. search (tests, c.if2.true)) (λ c. search (tests, c.if2.false)) (λ c. search tests)
+    (λ c. search (tests, c.if-here.true)) (λ c. search (tests, c.if-here.false)) (λ c. search tests)
     (λ c.
     let kind = c.before.before.before.args.kind in
-    rw (ne_eqb kind enter_kind c.before.before.if1.false, ne_eqb kind exit_kind c.before.if3.false, eq-eqb kind open_kind c.if4.true))
+    rw (ne_eqb kind enter_kind c.before.before.if-kind-eq1.false, ne_eqb kind exit_kind c.before.if-kind-eq2.false, eq-eqb kind open_kind c.if-kind-eq3.true))
     (λ c.
     let kind = c.before.before.before.args.kind in
-    rw (ne_eqb kind enter_kind c.before.before.if1.false, ne_eqb kind exit_kind c.before.if3.false, ne_eqb kind open_kind c.if4.false) refl))
+    rw (ne_eqb kind enter_kind c.before.before.if-kind-eq1.false, ne_eqb kind exit_kind c.before.if-kind-eq2.false, ne_eqb kind open_kind c.if-kind-eq3.false) refl))

@@ -13,9 +13,9 @@ is_ready_spec =
     tie.close
     (tie.spec
     (λ c.
-    let k = c.if3.true in
-    rw (c.before.before.if1.true, c.before.if2.true, le-leb open_kind c.before.before.before.args.kind (omega arith)))
+    let k = c.if-kind-ge3.true in
+    rw (c.before.before.if-some.true, c.before.if-known.true, le-leb open_kind c.before.before.before.args.kind (omega arith)))
     (λ c.
-    let k = c.if3.false in
-    rw (c.before.before.if1.true, c.before.if2.true, lt-leb open_kind c.before.before.before.args.kind (omega arith)))
-    (λ c. search (tests, c.if2.false, c.before.if1.true)) (λ c. search (tests, c.if1.false)))
+    let k = c.if-kind-ge3.false in
+    rw (c.before.before.if-some.true, c.before.if-known.true, lt-leb open_kind c.before.before.before.args.kind (omega arith)))
+    (λ c. search (tests, c.if-known.false, c.before.if-some.true)) (λ c. search (tests, c.if-some.false)))

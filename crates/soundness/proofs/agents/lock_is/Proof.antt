@@ -6,4 +6,4 @@ use Rattle.soundness.proofs.agents.lock_is.Tie as tie
 
 pub lock_is_spec : {M : Type 1} → statement M
 unfolding lock_is_at
-lock_is_spec = tie.close (tie.spec (λ c. search tests) (λ c. search (tests, c.if2.true)) (λ c. search (tests, c.if2.false)))
+lock_is_spec = tie.close (tie.spec (λ c. search tests) (λ c. search (tests, c.if-known.true)) (λ c. search (tests, c.if-known.false)))

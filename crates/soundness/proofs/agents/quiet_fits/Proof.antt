@@ -17,10 +17,10 @@ quiet_fits_spec =
     (λ c. search tests) (λ c κs. search rules)
     (λ c.
     let a = c.before.before.before.args in
-    let e = c.before.if2.true in
+    let e = c.before.if-s-eq1.true in
     rw (
       awake_remembers a.s a.known a.remembered a.kind (λ z. omega arith),
-      ne_eqb a.s looking c.before.before.if1.false,
+      ne_eqb a.s looking c.before.before.if-s-eq0.false,
       eq-eqb a.s found e,
     ) c.is_ready.ensures)
     (λ c κs. search rules)
@@ -28,10 +28,10 @@ quiet_fits_spec =
     let t = c.before.before in
     let s = t.before.before.before.args.s in
     rw (
-      ne_eqb s looking t.before.before.if1.false,
-      ne_eqb s found t.before.if2.false,
-      eq-eqb s asleep t.if3.true,
-      c.before.if4.true,
+      ne_eqb s looking t.before.before.if-s-eq0.false,
+      ne_eqb s found t.before.if-s-eq1.false,
+      eq-eqb s asleep t.if-s-eq7.true,
+      c.before.if-some.true,
     ) c.sleeps_fit.ensures)
-    (λ c. search (tests, c.if4.false)) (λ c. search (tests, c.if6.true))
-    (λ c. search (tests, c.if6.false)) (λ c. search tests))
+    (λ c. search (tests, c.if-some.false)) (λ c. search (tests, c.if-some-2.true))
+    (λ c. search (tests, c.if-some-2.false)) (λ c. search tests))

@@ -9,6 +9,6 @@ pub sleeps_fit_spec : {M : Type 1} → statement M
 sleeps_fit_spec =
     tie.close
     (tie.spec
-    (λ c. rw c.if1.true)
-    (λ c. rw (c.before.if1.false, eq-eqb c.before.before.args.remembered none c.if2.true) refl)
-    (λ c. rw (c.before.if1.false, ne_eqb c.before.before.args.remembered none c.if2.false)))
+    (λ c. rw c.if-known.true)
+    (λ c. rw (c.before.if-known.false, eq-eqb c.before.before.args.remembered none c.if-remembered-eq64.true) refl)
+    (λ c. rw (c.before.if-known.false, ne_eqb c.before.before.args.remembered none c.if-remembered-eq64.false)))

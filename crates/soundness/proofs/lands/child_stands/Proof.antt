@@ -9,6 +9,6 @@ unfolding child_stands
 child_stands_spec =
     tie.close
     (tie.spec
-    (λ c. search tests) (λ c. search (tests, c.if4.true, c.before.before.before.if2.true))
-    (λ c. search (tests, c.if4.false, c.before.before.before.if2.true))
-    (λ c. search (tests, c.before.before.if2.true)) (λ c. search (tests, c.if2.false)))
+    (λ c. search tests) (λ c. search (tests, c.if-going.true, c.before.before.before.if-known.true))
+    (λ c. search (tests, c.if-going.false, c.before.before.before.if-known.true))
+    (λ c. search (tests, c.before.before.if-known.true)) (λ c. search (tests, c.if-known.false)))

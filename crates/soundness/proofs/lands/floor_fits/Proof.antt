@@ -10,5 +10,5 @@ unfolding floor_fits
 floor_fits_spec =
     tie.close
     (tie.spec
-    (λ c κs. search rules) (λ c κs. search rules) (λ c. search (tests, ← c.floor_stands.ensures, c.before.if2.true))
-    (λ c. search (tests, c.if2.false)) (λ c. search (tests, ← c.floor_stands2.ensures)))
+    (λ c κs. search rules) (λ c κs. search rules) (λ c. search (tests, ← c.floor_stands.ensures, c.before.if-claimed.true))
+    (λ c. search (tests, c.if-claimed.false)) (λ c. search (tests, ← c.floor_stands-else-lock-ne64.ensures)))

@@ -14,9 +14,9 @@ floor_sound_spec =
     let t = c.before.before.before in
     rw (
       ← t.before.has.ensures,
-      ← c.before.before.has2.ensures,
-      ← c.before.has3.ensures,
+      ← c.before.before.has-held.ensures,
+      ← c.before.has-moved.ensures,
       ← c.floor_fits.ensures,
-      t.if1.true,
+      t.if-has.true,
     ))
-    (λ c. rw (← c.before.has.ensures, c.if1.false)))
+    (λ c. rw (← c.before.has.ensures, c.if-has.false)))

@@ -11,8 +11,8 @@ floor_stands_spec =
     tie.close
     (tie.spec
     (λ c κs. search rules)
-    (λ c. let n = c.before.before.before.before in search (tests, ← n.before.is_nameless.ensures, n.if1.true))
-    (λ c. let n = c.before.before.before.before.before in search (tests, ← n.before.is_nameless.ensures, n.if1.true, c.if4.true))
-    (λ c. let n = c.before.before.before.before.before in search (tests, ← n.before.is_nameless.ensures, n.if1.true, c.if4.false))
-    (λ c. let n = c.before.before in search (tests, ← n.before.is_nameless.ensures, n.if1.true))
-    (λ c. search (tests, ← c.before.is_nameless.ensures, c.if1.false)))
+    (λ c. let n = c.before.before.before.before in search (tests, ← n.before.is_nameless.ensures, n.if-is_nameless.true))
+    (λ c. let n = c.before.before.before.before.before in search (tests, ← n.before.is_nameless.ensures, n.if-is_nameless.true, c.if-going.true))
+    (λ c. let n = c.before.before.before.before.before in search (tests, ← n.before.is_nameless.ensures, n.if-is_nameless.true, c.if-going.false))
+    (λ c. let n = c.before.before in search (tests, ← n.before.is_nameless.ensures, n.if-is_nameless.true))
+    (λ c. search (tests, ← c.before.is_nameless.ensures, c.if-is_nameless.false)))

@@ -9,9 +9,9 @@ is_nameless_spec =
     (tie.spec
     (λ c.
     let entered = c.before.before.before in
-    rw (eq-eqb _ _ entered.before.before.if1.true, eq-eqb _ _ entered.if2.true, eq-eqb _ _ c.before.if3.true))
+    rw (eq-eqb _ _ entered.before.before.if-x-eq0.true, eq-eqb _ _ entered.if-x-eq0-2.true, eq-eqb _ _ c.before.if-x-eq0-3.true))
     (λ c.
     let entered = c.before.before in
-    rw (eq-eqb _ _ entered.before.before.if1.true, eq-eqb _ _ entered.if2.true, ne_eqb _ _ c.if3.false))
-    (λ c. rw (eq-eqb _ _ c.before.before.if1.true, ne_eqb _ _ c.if2.false))
-    (λ c. rw (ne_eqb _ _ c.if1.false)))
+    rw (eq-eqb _ _ entered.before.before.if-x-eq0.true, eq-eqb _ _ entered.if-x-eq0-2.true, ne_eqb _ _ c.if-x-eq0-3.false))
+    (λ c. rw (eq-eqb _ _ c.before.before.if-x-eq0.true, ne_eqb _ _ c.if-x-eq0-2.false))
+    (λ c. rw (ne_eqb _ _ c.if-x-eq0.false)))

@@ -5,7 +5,7 @@ use Rattle.soundness.specs.Climb.{climbing_at, placed_of}
 use Rattle.soundness.proofs.lands.placed.Statement.{statement}
 use Rattle.soundness.proofs.lands.placed.Tie as tie
 
-returns : tie.Need-returns
+returns : tie.Need-returns-then-child_fits
 unfolding placed_of
 returns c =
     let n = c.before in
@@ -15,26 +15,26 @@ returns c =
     let f = t.before in
     let l = f.before.before.before.before.before.before.before.before.before.args.l in
     rw (
-      ← f.before.before.before.has.ensures,
-      ← f.before.before.has2.ensures,
-      ← f.before.has3.ensures,
+      ← f.before.before.before.has-stands.ensures,
+      ← f.before.before.has-held.ensures,
+      ← f.before.has-moved.ensures,
       ← f.child_fits.ensures,
-      t.if1.true,
+      t.if-child_fits.true,
     )
     (c.climbing.ensures
-    ∙ (λ i. climbing_at l.used (r.rest2.ensures i) l.claimed l.going ((n.insert_if.ensures ∙ ap (inserted_if l.known l.at) h.has4.ensures) i)))
+    ∙ (λ i. climbing_at l.used (r.rest-left.ensures i) l.claimed l.going ((n.insert_if-more.ensures ∙ ap (inserted_if l.known l.at) h.has-leads.ensures) i)))
 
-returns_2 : tie.Need-returns-2
+returns_2 : tie.Need-returns-else-child_fits
 unfolding placed_of
 returns_2 c =
     let t = c.before in
     let f = t.before in
     rw (
-      ← f.before.before.before.has.ensures,
-      ← f.before.before.has2.ensures,
-      ← f.before.has3.ensures,
+      ← f.before.before.before.has-stands.ensures,
+      ← f.before.before.has-held.ensures,
+      ← f.before.has-moved.ensures,
       ← f.child_fits.ensures,
-      t.if1.false,
+      t.if-child_fits.false,
     ) c.halted.ensures
 
 pub placed_spec : {M : Type 1} → statement M

@@ -2,7 +2,7 @@
 use native.Mathlib.Nat.{pos_of_ne-zero}
 use mathlib.Core.Path.{sym, ap₂, subst}
 use mathlib.Core.Bool.{Bool}
-use Prim.Native.Nat.{ℕ, ◌-◌, ◌≤◌, ◌<◌}
+use Prim.Native.Nat.{ℕ, ◌≤◌, ◌<◌}
 use native.Mathlib.Omega.{arith}
 use lib.ListN.{get_or}
 use borrow.Author.Rules.{rules}
@@ -17,10 +17,10 @@ use Rattle.soundness.specs.declared.touches.Left.{Left}
 use Rattle.soundness.proofs.touches.touches_left.Statement.{statement}
 use Rattle.soundness.proofs.touches.touches_left.Tie as tie
 
-abbrev invariant_loop : tie.invariant_loop
+abbrev invariant_loop : tie.invariant-loop-rest
 invariant_loop ts left₀ rest₀ left rest = Taken (member rest₀) (λ q. get_or ts q 0) most_touches left rest
 
-abbrev decreases_loop : tie.decreases_loop
+abbrev decreases_loop : tie.decreases-loop-rest
 decreases_loop ts left₀ rest₀ left rest = rest.bits
 
 -- an answer of its two parts
@@ -28,43 +28,43 @@ abbrev told : Bool → ℕ → Left
 told b n = record { fits = b; room = n }
 
 -- the place of this turn is below 64
-small : (c : tie.After-rest invariant_loop decreases_loop) → c.before.first.result < 64
+small : (c : tie.After-rest-rest invariant_loop decreases_loop) → c.before.first-q.result < 64
 small c = let l = c.before.before.before.before in
-    subst (λ (n : ℕ). n < 64) (sym c.before.first.ensures) (rest_lt l.loop.invariant.walk (pos_of_ne-zero c.before.before.if1.true))
+    subst (λ (n : ℕ). n < 64) (sym c.before.first-q.ensures) (rest_lt l.loop-rest.invariant.walk (pos_of_ne-zero c.before.before.loop-rest-test.true))
 
 -- the place of a turn has more than is left
-returns : tie.Need-returns invariant_loop decreases_loop
+returns : tie.Need-returns-then-n-left invariant_loop decreases_loop
 unfolding left_of
 returns c =
     let r = c.before.before in
     let l = r.before.before.before.before in
     let ts = l.before.args.ts.now in
-    let more = taken_stop _ _ _ l.loop.invariant (pos_of_ne-zero r.before.before.if1.true)
-    (subst (λ (q : ℕ). l.loop.left < get_or ts q 0) r.before.first.ensures c.if2.true) in
+    let more = taken_stop _ _ _ l.loop-rest.invariant (pos_of_ne-zero r.before.before.loop-rest-test.true)
+    (subst (λ (q : ℕ). l.loop-rest.left < get_or ts q 0) r.before.first-q.ensures c.if-n-left.true) in
     ap₂ told (sym (lt-leb (total_of ts l.before.args.used) most_touches more)) (omega (arith, more))
 
-loop_less : tie.Need-loop-smaller invariant_loop decreases_loop
+loop_less : tie.Need-loop-rest-smaller invariant_loop decreases_loop
 loop_less c =
     let r = c.before.before in
     let l = r.before.before.before.before in
-    subst (λ (z : Set). z.bits < l.loop.rest.bits) (sym r.rest.ensures)
-    (removed_less l.loop.rest l.loop.invariant.walk.small (pos_of_ne-zero r.before.before.if1.true))
+    subst (λ (z : Set). z.bits < l.loop-rest.rest.bits) (sym r.rest-rest.ensures)
+    (removed_less l.loop-rest.rest l.loop-rest.invariant.walk.small (pos_of_ne-zero r.before.before.loop-rest-test.true))
 
-loop_again : tie.Need-loop-preserved invariant_loop decreases_loop
+loop_again : tie.Need-loop-rest-preserved invariant_loop decreases_loop
 loop_again c =
     let r = c.before.before in
     let l = r.before.before.before.before in
-    let e = r.before.first.ensures in
-    rw (r.rest.ensures, e)
-    (taken_more _ _ _ l.loop.invariant (pos_of_ne-zero r.before.before.if1.true) (subst (λ (q : ℕ). get_or l.before.args.ts.now q 0 ≤ l.loop.left) e c.if2.false))
+    let e = r.before.first-q.ensures in
+    rw (r.rest-rest.ensures, e)
+    (taken_more _ _ _ l.loop-rest.invariant (pos_of_ne-zero r.before.before.loop-rest-test.true) (subst (λ (q : ℕ). get_or l.before.args.ts.now q 0 ≤ l.loop-rest.left) e c.if-n-left.false))
 
 -- nobody is left
-returns_2 : tie.Need-returns-2 invariant_loop decreases_loop
+returns_2 : tie.Need-returns invariant_loop decreases_loop
 unfolding left_of
 returns_2 c =
     let l = c.before.before in
     let a = l.before.args in
-    let all = taken_end _ _ _ l.loop.invariant c.if1.false in
+    let all = taken_end _ _ _ l.loop-rest.invariant c.loop-rest-test.false in
     ap₂ told (sym (le-leb (total_of a.ts.now a.used) most_touches (omega (arith, all)))) (omega (arith, all))
 
 pub touches_left_spec : {M : Type 1} → statement M
@@ -72,5 +72,5 @@ touches_left_spec =
     tie.close
     (tie.spec invariant_loop decreases_loop
     (λ c. taken_start _ _ _ c.args.used (rest_start c.args.used (search rules))) (λ c κs. tt) (λ c κs. tt)
-    (λ c. let h = small c in omega arith) (λ c. let h = small c in omega arith) (λ c. let h = small c in omega arith)
+    (λ c. let h = small c in omega arith) (λ c. let h = small c in omega arith) (λ c. let h = small c.before in omega arith)
     returns loop_less loop_again returns_2)

@@ -10,7 +10,7 @@ returns c =
     let s = b.before in
     let f = s.before in
     let g = f.before in
-    rw (← g.before.has.ensures, ← g.going_from.ensures, ← f.first_held.ensures, ← s.second_held.ensures, ← b.busy_fits.ensures) c.turned.ensures
+    rw (← g.before.has-known.ensures, ← g.going_from-from.ensures, ← f.first_held-first.ensures, ← s.second_held-second.ensures, ← b.busy_fits-ok.ensures) c.turned.ensures
 
 pub at_any_stage_spec : {M : Type 1} → statement M
 at_any_stage_spec = tie.close (tie.spec (λ c κs. tt) (λ c κs. tt) (λ c κs. tt) (λ c κs. tt) (λ c κs. tt) (λ c κs. tt) returns)

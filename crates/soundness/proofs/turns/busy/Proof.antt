@@ -8,50 +8,50 @@ use Rattle.soundness.proofs.StageLaws.{at_two, at_three, at_four, at_five, at_si
 use Rattle.soundness.proofs.turns.busy.Statement.{statement}
 use Rattle.soundness.proofs.turns.busy.Tie as tie
 
-returns : tie.Need-returns
+returns : tie.Need-returns-in-2
 returns c =
     let h = c.before in
     let g = h.before.before.args in
     c.turned.ensures
-    ∙ ap (λ (b : Bool). turned_of b g.w g.a.remembered none none) h.holds_first.ensures
-    ∙ at_two g.w g.a g.kind g.home g.chosen g.firstlock g.secondlock h.before.match.keys1
+    ∙ ap (λ (b : Bool). turned_of b g.w g.a.remembered none none) h.holds_first-ok.ensures
+    ∙ at_two g.w g.a g.kind g.home g.chosen g.firstlock g.secondlock h.before.in-2.is
 
-returns_2 : tie.Need-returns-2
+returns_2 : tie.Need-returns-in-3
 returns_2 c =
     let b = c.before in
     let t = b.before in
     let f = t.before in
     let s = f.before in
     let g = s.before.before.args in
-    c.turned2.ensures
-    ∙ ap (λ (z : Bool). turned_of z g.w g.a.remembered s.second_held.result none) b.both.ensures
-    ∙ ap₂ (λ (y z : Bool). turned_of (y && z) g.w g.a.remembered s.second_held.result none) f.holds_first2.ensures t.holds_second.ensures
-    ∙ ap (λ (n : ℕ). turned_of (holds_first g.w g.a g.kind g.firstlock && holds_second g.w g.a g.kind g.home g.chosen n g.secondlock) g.w g.a.remembered n none) s.second_held.ensures
-    ∙ at_three g.w g.a g.kind g.home g.chosen g.firstlock g.secondlock s.before.match.keys2
+    c.turned-in-3.ensures
+    ∙ ap (λ (z : Bool). turned_of z g.w g.a.remembered s.second_held-second.result none) b.both-ok.ensures
+    ∙ ap₂ (λ (y z : Bool). turned_of (y && z) g.w g.a.remembered s.second_held-second.result none) f.holds_first-one.ensures t.holds_second-two.ensures
+    ∙ ap (λ (n : ℕ). turned_of (holds_first g.w g.a g.kind g.firstlock && holds_second g.w g.a g.kind g.home g.chosen n g.secondlock) g.w g.a.remembered n none) s.second_held-second.ensures
+    ∙ at_three g.w g.a g.kind g.home g.chosen g.firstlock g.secondlock s.before.in-3.is
 
-returns_3 : tie.Need-returns-3
+returns_3 : tie.Need-returns-in-4
 returns_3 c =
     let g = c.before.before.args in
-    c.turned3.ensures ∙ at_four g.w g.a g.kind g.home g.chosen g.firstlock g.secondlock c.before.match.keys3
+    c.turned-in-4.ensures ∙ at_four g.w g.a g.kind g.home g.chosen g.firstlock g.secondlock c.before.in-4.is
 
-returns_4 : tie.Need-returns-4
+returns_4 : tie.Need-returns-in-5
 returns_4 c =
     let l = c.before in
     let g = l.before.before.args in
-    c.turned4.ensures
-    ∙ ap (λ (b : Bool). turned_of b g.w g.a.home none g.a.home) l.locked.ensures
-    ∙ at_five g.w g.a g.kind g.home g.chosen g.firstlock g.secondlock l.before.match.keys4
+    c.turned-in-5.ensures
+    ∙ ap (λ (b : Bool). turned_of b g.w g.a.home none g.a.home) l.locked-ok.ensures
+    ∙ at_five g.w g.a g.kind g.home g.chosen g.firstlock g.secondlock l.before.in-5.is
 
-returns_5 : tie.Need-returns-5
+returns_5 : tie.Need-returns-in-6
 returns_5 c =
     let b = c.before in
     let t = b.before in
     let f = t.before in
     let g = f.before.before.args in
-    c.turned5.ensures
-    ∙ ap (λ (z : Bool). turned_of z g.w g.a.home g.home.parent g.a.home) b.both2.ensures
-    ∙ ap₂ (λ (y z : Bool). turned_of (y && z) g.w g.a.home g.home.parent g.a.home) f.locked2.ensures t.locked3.ensures
-    ∙ at_six g.w g.a g.kind g.home g.chosen g.firstlock g.secondlock f.before.match.keys5
+    c.turned-in-6.ensures
+    ∙ ap (λ (z : Bool). turned_of z g.w g.a.home g.home.parent g.a.home) b.both-ok-in-6.ensures
+    ∙ ap₂ (λ (y z : Bool). turned_of (y && z) g.w g.a.home g.home.parent g.a.home) f.locked-one.ensures t.locked-two.ensures
+    ∙ at_six g.w g.a g.kind g.home g.chosen g.firstlock g.secondlock f.before.in-6.is
 
 pub busy_spec : {M : Type 1} → statement M
 busy_spec =

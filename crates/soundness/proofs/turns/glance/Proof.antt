@@ -24,43 +24,43 @@ agent h = h.before.before.args.a
 
 -- ---- its home is in use and its actions are in range
 
-module _ (c : tie.Else2) where
+module _ (c : tie.Else-not-row) where
   abbrev home : tie.After-has
   home = c.before.before.before.before
 
   home_in : member (used home) (agent home).home ≡ true
-  home_in = sym home.has.ensures ∙ not-false _ c.before.before.before.if1.false
+  home_in = sym home.has.ensures ∙ c.before.before.before.if-not-has.false
 
-  row_in : c.before.before.row_of.result.fit ≡ true
-  row_in = not-false _ c.if2.false
+  row_in : c.before.before.row_of-row.result.fit ≡ true
+  row_in = not-false _ c.if-not-row.false
 
   row_fits : actions_fit (agent home) ≡ true
-  row_fits = sym c.before.before.row_of.ensures.0 ∙ row_in
+  row_fits = sym c.before.before.row_of-row.ensures.0 ∙ row_in
 
-  kind_is : c.before.before.row_of.result.kind ≡ kind_of (agent home)
-  kind_is = c.before.before.row_of.ensures.1 row_in
+  kind_is : c.before.before.row_of-row.result.kind ≡ kind_of (agent home)
+  kind_is = c.before.before.row_of-row.ensures.1 row_in
 
-returns : tie.Need-returns
-returns c = let h = c.before.before in c.still.ensures ∙ sym (glance_out (used h) (agent h) (sym h.has.ensures ∙ not-true _ c.before.if1.true))
+returns : tie.Need-returns-then-not-has
+returns c = let h = c.before.before in c.still.ensures ∙ sym (glance_out (used h) (agent h) (sym h.has.ensures ∙ c.before.if-not-has.true))
 
-returns_2 : tie.Need-returns-2
+returns_2 : tie.Need-returns-then-not-row
 returns_2 c =
     let r = c.before.before.before in
     let h = r.before.before in
-    c.still2.ensures
-    ∙ sym (glance_row (used h) (agent h) (sym h.has.ensures ∙ not-false _ r.before.if1.false) (sym r.row_of.ensures.0 ∙ not-true _ c.before.if2.true))
+    c.still-then-not-row.ensures
+    ∙ sym (glance_row (used h) (agent h) (sym h.has.ensures ∙ r.before.if-not-has.false) (sym r.row_of-row.ensures.0 ∙ not-true _ c.before.if-not-row.true))
 
-returns_3 : tie.Need-returns-3
+returns_3 : tie.Need-returns-then-is_quiet
 returns_3 c =
     let t = c.before in
     let k = t.before.before.before.before.before in
     let r = k.before in
     let a = agent (home r) in
-    c.still3.ensures
-    ∙ ap still_with (t.quiet_fits.ensures ∙ ap₂ (λ (b : Bool) (n : ℕ). quiet_fits a.stage (has_action a) (remembers_at a.stage b a.remembered n) (eqb a.remembered a.home) n) k.has2.ensures (kind_is r))
-    ∙ sym (glance_still (used (home r)) a (home_in r) (row_fits r) (sym t.before.before.before.before.is_quiet.ensures ∙ t.before.before.before.if3.true))
+    c.still-then-is_quiet.ensures
+    ∙ ap still_with (t.quiet_fits-fit.ensures ∙ ap₂ (λ (b : Bool) (n : ℕ). quiet_fits a.stage (has_action a) (remembers_at a.stage b a.remembered n) (eqb a.remembered a.home) n) k.has-known.ensures (kind_is r))
+    ∙ sym (glance_still (used (home r)) a (home_in r) (row_fits r) (sym t.before.before.before.before.is_quiet.ensures ∙ t.before.before.before.if-is_quiet.true))
 
-returns_4 : tie.Need-returns-4
+returns_4 : tie.Need-returns
 returns_4 c =
     let e = c.before.before.before.before in
     let r = e.before.before.before in
@@ -69,11 +69,11 @@ returns_4 c =
       busy = true;
       fit = true;
       kind = kind_is r i;
-      home = c.before.before.before.at.ensures i;
-      chosen = c.before.before.at2.ensures i;
-      first = (c.at3.ensures ∙ ap (λ (n : ℕ). n % 64) c.before.first_held.ensures) i;
+      home = c.before.before.before.at-home.ensures i;
+      chosen = c.before.before.at-chosen.ensures i;
+      first = (c.at-first.ensures ∙ ap (λ (n : ℕ). n % 64) c.before.first_held-held.ensures) i;
     } in
-    made ∙ sym (glance_busy (used (home r)) a (home_in r) (row_fits r) (sym e.before.is_quiet.ensures ∙ e.if3.false))
+    made ∙ sym (glance_busy (used (home r)) a (home_in r) (row_fits r) (sym e.before.is_quiet.ensures ∙ e.if-is_quiet.false))
 
 pub glance_spec : {M : Type 1} → statement M
 glance_spec =

@@ -32,18 +32,18 @@ held : (s : Set) (q lock x kind : ℕ) (some known same ok : Bool) → s.bits < 
 held s q lock x kind some known same ok b e o t = let r = ap (λ (k : Bool). ready some k same kind) (sym e) ∙ sym o ∙ t in
     lock_known s q lock x b (ready_known some (member s q) same kind r) ∙ ap (λ (k : Bool). k && lock_is_at (member s q) q lock x) (sym r)
 
-returns : tie.Need-returns
+returns : tie.Need-returns-then-is_ready
 unfolding holds_first
 returns c =
     let t = c.before in
     let r = t.before in
     let h = r.before.before.before in
     let g = h.before.before.args in
-    held g.w.used g.a.remembered g.firstlock g.w.at g.kind _ _ _ _ (search rules) h.has.ensures r.is_ready.ensures t.if1.true
+    held g.w.used g.a.remembered g.firstlock g.w.at g.kind _ _ _ _ (search rules) h.has-known.ensures r.is_ready.ensures t.if-is_ready.true
 
-returns_2 : tie.Need-returns-2
+returns_2 : tie.Need-returns-else-is_ready
 unfolding holds_first
-returns_2 c = let r = c.before in rw (← r.before.before.before.has.ensures, ← r.is_ready.ensures, c.if1.false)
+returns_2 c = let r = c.before in rw (← r.before.before.before.has-known.ensures, ← r.is_ready.ensures, c.if-is_ready.false)
 
 pub holds_first_spec : {M : Type 1} → statement M
 holds_first_spec = tie.close (tie.spec (λ c κs. tt) (λ c κs. tt) returns returns_2)

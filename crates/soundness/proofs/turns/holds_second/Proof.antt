@@ -4,19 +4,19 @@ use Rattle.soundness.specs.Turn.{holds_second}
 use Rattle.soundness.proofs.turns.holds_second.Statement.{statement}
 use Rattle.soundness.proofs.turns.holds_second.Tie as tie
 
-returns : tie.Need-returns
+returns : tie.Need-returns-then-holds_both
 unfolding holds_second linked_at
 returns c =
     let h = c.before.before in
     let l = h.before in
-    rw (← l.before.before.has.ensures, ← l.before.Linked-to.ensures, ← l.linked_to2.ensures, ← h.holds_both.ensures, c.before.if1.true) c.locked.ensures
+    rw (← l.before.before.has-chosen_used.ensures, ← l.before.linked_to-here.ensures, ← l.linked_to-there.ensures, ← h.holds_both.ensures, c.before.if-holds_both.true) c.locked.ensures
 
-returns_2 : tie.Need-returns-2
+returns_2 : tie.Need-returns-else-holds_both
 unfolding holds_second linked_at
 returns_2 c =
     let h = c.before in
     let l = h.before in
-    rw (← l.before.before.has.ensures, ← l.before.Linked-to.ensures, ← l.linked_to2.ensures, ← h.holds_both.ensures, c.if1.false)
+    rw (← l.before.before.has-chosen_used.ensures, ← l.before.linked_to-here.ensures, ← l.linked_to-there.ensures, ← h.holds_both.ensures, c.if-holds_both.false)
 
 pub holds_second_spec : {M : Type 1} → statement M
 holds_second_spec = tie.close (tie.spec (λ c κs. tt) (λ c κs. tt) (λ c κs. tt) (λ c κs. tt) (λ c κs. tt) returns returns_2)

@@ -7,7 +7,7 @@ use Rattle.soundness.proofs.turns.standing.Statement.{statement}
 use Rattle.soundness.proofs.turns.standing.Tie as tie
 
 returns : tie.Need-returns
-returns c = let a = c.before.args in ap {B = Walk} (λ (k : ℕ). record { at = k; used = a.used; rest = a.rest; claimed = a.claimed; going = a.going; fit = true }) c.first.ensures
+returns c = let a = c.before.args in ap {B = Walk} (λ (k : ℕ). record { at = k; used = a.used; rest = a.rest; claimed = a.claimed; going = a.going; fit = true }) c.first-i.ensures
 
 pub standing_spec : {M : Type 1} → statement M
 standing_spec = tie.close (tie.spec (λ c κs. tt) returns)
