@@ -660,7 +660,7 @@ keeper_answer keeper_trail(uint8_t agent, keeper_answer asked, uint8_t *trail, s
 
 /*
 ** keeper_audit: whether a trail leads from a cell file to a listing, such as the trail that the dispatcher's maker delivers with each shift. It stands in
-** a library of its own, libauditor.a (`rt staticlib auditor`), which is linked beside libkeeper.a where this call is made. The file is
+** a library of its own, libauditor.a (`tools/build auditor`), which is linked beside libkeeper.a where this call is made. The file is
 ** that of file[0] to file[file_length - 1], as for keeper_load; the trail has two bytes for each move, from trail[0] on, as keeper_trail writes them; the
 ** listing is compared byte for byte with that of the layout at the end, as keeper_list writes it: no line end, no closing zero byte.
 **

@@ -1,5 +1,5 @@
-//! Links libkeeper.a and libauditor.a from the folder in KEEPER_LIB_DIR, or from the repository's target/staticlib, where `rt staticlib keeper`
-//! and `rt staticlib auditor` put them.
+//! Links libkeeper.a and libauditor.a from the folder in KEEPER_LIB_DIR, or from the repository's target/staticlib, where `tools/build keeper
+//! auditor` puts them.
 
 use std::path::PathBuf;
 

@@ -45,7 +45,7 @@ fn reason_length(text: &[u8]) -> usize
     let mark = b" (os error ";
     for i in 0..text.len() {
         if text[i..].starts_with(mark) {
-            return k;
+            return i;
         }
     }
     text.len()

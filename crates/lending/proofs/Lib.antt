@@ -1,11 +1,1 @@
-pub mod Stored
-pub mod Asks
-pub mod Placed
-pub mod Tallied
-pub mod Passing
-pub mod Sounding
-pub mod Wholes
-pub mod Deciding
-pub mod Altering
-pub mod Locking
-pub mod Moves
+pub mod Added

@@ -1,3 +1,3 @@
-// Rules for the exports: what is seen of a lent cell, asked of it and stored in it. No code.
+// What a walk over a lent cell adds up: so much is added, and the rest is still to come. No code.
 
 #![tactic(auto)]

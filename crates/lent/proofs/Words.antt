@@ -4,17 +4,12 @@
 use Rattle.std.specs.Prelude.{◌≡◌, true, ℕ, ◌^◌, ◌<◌}
 use Rattle.sets.specs.Word.{has}
 use Rattle.sets.proofs.WordLaws.{has_lt}
-use Rattle.table.specs.Bounds.{Sized}
 use Rattle.table.specs.declared.Cell.{Cell}
 
 -- the words of the table t have 64 bits
 pub record Words (t : Cell) : Type 0 where
   pub used : t.used.bits < 2 ^ 64
   pub given : t.given.bits < 2 ^ 64
-
--- so it is of every table whose sizes are known
-pub words : (t : Cell) → Sized t → Words t
-words t z = record { used = z.used; given = z.given }
 
 -- a place in use is below 64
 pub in_use : (t : Cell) → Words t → (q : ℕ) → has t.used.bits q ≡ true → q < 64

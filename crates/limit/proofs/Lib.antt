@@ -1,2 +1,1 @@
 pub mod LimitLaws
-pub mod WalkLaws

@@ -164,6 +164,7 @@ pub fn dissolve_agent(a: Agent, p: u8, t: u8) -> Agent
 }
 
 // Whether an agent that is given is woken when t is dissolved into p: one that sleeps on no place (64) is, too.
+#[tactic(auto, unfolding(meaning::specs::Step::woken_by))]
 pub fn woken_by(a: Agent, p: u8, t: u8) -> bool
     ensures { result ≡ woken_by p t a }
 {

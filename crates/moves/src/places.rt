@@ -49,6 +49,7 @@ pub fn linked_up(x: Place) -> Place
 }
 
 // Whether an agent is asleep on p, q or r.
+#[tactic(auto, unfolding(meaning::specs::Step::asleep_on))]
 pub fn asleep_on(a: Agent, p: u8, q: u8, r: u8) -> bool
     ensures { result ≡ asleep_on p q r a }
 {

@@ -1,6 +1,6 @@
 -- The walk over the agents that are given, turn by turn, comes to what becomes of all of them. Assumes nothing.
 -- Idea: each turn stores one agent, or leaves it as it is where it stays the same, and gathers it where it is woken and where it lets a lock go.
-use Rattle.std.specs.Prelude.{◌≡◌, refl, ◌≢◌, ◌⊎◌, Bool, true, false, List, ℕ, ◌≤◌, ◌<◌, get_or, set}
+use Rattle.std.specs.Prelude.{◌≡◌, refl, ◌≢◌, ◌⊎◌, Bool, true, false, List, ℕ, ◌^◌, ◌≤◌, ◌<◌, length, get_or, set}
 use Rattle.std.proofs.Common.{sym, ap, subst, ◌∙◌, inl, inr, pos_of_ne-zero, arith}
 use Rattle.std.proofs.lemmas.List.{set-get_or}
 use Rattle.sets.specs.Word.{has}
@@ -9,10 +9,8 @@ use Rattle.sets.specs.Set.{member}
 use Rattle.sets.proofs.WalkLaws.{rest_lt, lowest_found, removed_less}
 use Rattle.sets.specs.Walk.{lowest_in}
 use Rattle.sets.specs.declared.Set.{Set}
-use Rattle.table.proofs.BaseLaws.{clash, eq?}
-use Rattle.table.specs.Bounds.{Sized}
-use Rattle.table.specs.Cell.{no_agent, cell_of, put_agents}
-use Rattle.table.proofs.CellLaws.{agents_are}
+use Rattle.table.proofs.BaseLaws.{clash, eq?, tab_get_d}
+use Rattle.table.specs.Cell.{no_agent, put_agents}
 use Rattle.table.specs.declared.Agent.{Agent}
 use Rattle.table.specs.declared.Cell.{Cell}
 use Rattle.updates.proofs.GatherLaws.{Gathered, gathered_start, gathered_more, gathered_end}
@@ -36,13 +34,12 @@ module _ (t : Cell) (opens : Bool) (p q r : ℕ) where
     pub held : Gathered (member t.given) (λ y. frees opens q (was t opens p q r y)) w.holders w.rest
     pub others : d ≡ put_agents t d.agents
 
-  pub walking_start : Sized t → Walking t (start_of t.given opens p q r)
-  unfolding cell_of
-  walking_start z = record {
+  pub walking_start : length t.agents ≡ 64 → t.given.bits < 2 ^ 64 → Walking t (start_of t.given opens p q r)
+  walking_start n g = record {
     so = refl;
-    row = storing_start no_agent t.given (was t opens p q r) (gone t opens p q r) z.given t.agents (agents_are t z);
-    slept = gathered_start t.given _ z.given;
-    held = gathered_start t.given _ z.given;
+    row = storing_start no_agent t.given (was t opens p q r) (gone t opens p q r) g t.agents (sym (tab_get_d no_agent t.agents 64 n));
+    slept = gathered_start t.given _ g;
+    held = gathered_start t.given _ g;
     others = refl;
   }
 

@@ -27,10 +27,14 @@ fn opened(cell: &mut Cell, m: Plan, w: Waking) -> Answer
         m.q,
         w.holders,
     );
-    cell.places = s.places;
-    cell.locks = s.locks;
-    cell.touches = s.touches;
-    cell.order = s.order;
+    let ps = s.places;
+    let ls = s.locks;
+    let ts = s.touches;
+    let row = s.order;
+    cell.places = ps;
+    cell.locks = ls;
+    cell.touches = ts;
+    cell.order = row;
     cell.used = m.used;
     answered(m.word, w.sleepers)
 }
@@ -56,10 +60,12 @@ pub fn shift_lent(cell: &mut Cell, x: u8, a: Agent, motion: Motion) -> Answer
     if m.opens {
         return opened(cell, m, w);
     }
+    let ls = m.locks;
+    let row = m.order;
     cell.places[k] = m.place;
-    cell.locks = m.locks;
+    cell.locks = ls;
     cell.used = m.used;
     cell.touches[k] = m.count;
-    cell.order = m.order;
+    cell.order = row;
     answered(m.word, w.sleepers)
 }

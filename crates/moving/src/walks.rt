@@ -12,6 +12,8 @@ pub(super) fn walked(cell: &mut Cell, opens: bool, p: u8, q: u8, r: u8) -> Wakin
     ensures { (cell.new ≡ put_agents cell.old (agents_after cell.old opens p q r))
         × (result ≡ end_of cell.old opens p q r) }
 {
+    // Nothing is read: where nobody is given, this tells that there are 64 agents.
+    let _first = &cell.agents[0];
     let mut w = turns::start(cell.given, opens, p, q, r);
     while w.at < 64 {
         let k = w.at as usize;

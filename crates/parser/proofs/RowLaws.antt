@@ -1,7 +1,7 @@
 -- Laws of a row of actions: it goes on with a stretch, never back, and the table stays that of the cell so far.
 use Rattle.std.specs.Prelude.{◌≡◌, refl, Bool, true, false, ◌&&◌, ℕ, ◌+◌, ◌*◌, ◌-◌, ◌%◌, ◌≤◌, ◌<◌, leb, get_or, set}
 use Rattle.std.proofs.Math.Path.{sym, ap, ap₂}
-use Rattle.std.proofs.Common.{◌∙◌, subst, arith, length-set, get_or-set_same, set-set, lt-ltb}
+use Rattle.std.proofs.Common.{◌∙◌, subst, arith, get_or-set_same, set-set, lt-ltb}
 use Rattle.std.proofs.Math.Bool.{cond}
 use mathlib.Core.List.{List}
 use Rattle.std.proofs.Math.ListN.{length}

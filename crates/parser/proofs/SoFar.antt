@@ -1,5 +1,5 @@
 -- What is read so far has brought the machine to where the code is: before each byte, after the last, and where a byte leaves the language.
-use Rattle.std.specs.Prelude.{◌≡◌, true, [], ◌∷◌, ℕ, zero, suc, ◌+◌, ◌≤◌, ◌<◌, ltb, leb, eqb, length, get_or, take, drop}
+use Rattle.std.specs.Prelude.{◌≡◌, true, [], ◌∷◌, ℕ, zero, suc, ◌+◌, ◌≤◌, ◌<◌, ltb, leb, length, get_or, take, drop}
 use Rattle.std.proofs.Math.Path.{refl, ap}
 use Rattle.std.proofs.Common.{sym, ◌∙◌, arith, add-one, take-append-drop, take-suc, take_all}
 use Rattle.std.proofs.Math.Bool.{cond}

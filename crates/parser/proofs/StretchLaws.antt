@@ -32,7 +32,7 @@ module _ {s : Text} {i : ℕ} {c : Control} where
   stretch_within h (Stretches.further p l m e) = omega (arith, l)
 
   -- one stretch, and then another
-  pub stretch_on : {j l : ℕ} {k m : Control} → Stretch s i c j k → Stretch s j k l m → Stretch s i c l m
+  pub stretch_on : {j : ℕ} {k : Control} {l : ℕ} {m : Control} → Stretch s i c j k → Stretch s j k l m → Stretch s i c l m
   stretch_on p Stretches.still = p
   stretch_on p (Stretches.further q l m e) = Stretches.further (stretch_on p q) l m e
 
@@ -40,7 +40,7 @@ module _ {s : Text} {i : ℕ} {c : Control} where
   pub stretch_word : {j : ℕ} {k m : Control} {w : List ℕ} → Stretch s i c j k → Spells k w m → Stands s j w → Stretch s i c (j + length w) m
   stretch_word {k} p Stretches.none st = subst (λ z. Stretch s i c z k) (omega arith) p
   stretch_word {j} {k} {m} {w = b ∷ w} p (Stretches.byte {m = n} e q) st =
-      subst (λ z. Stretch s i c z m) (omega arith) (stretch_word (Stretches.further p (omega (arith, first.0)) n (λ d. e d ∙ ap (next k d) (sym is))) q rest)
+      subst (λ z. Stretch s i c z m) (omega arith) (stretch_word {j = j + 1} (Stretches.further p (omega (arith, first.0)) n (λ d. e d ∙ ap (next k d) (sym is))) q rest)
     where
       first : (j + 0 < length s) × (get_or s (j + 0) 0 ≡ b)
       first = st 0 (omega arith)

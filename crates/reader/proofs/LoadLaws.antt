@@ -165,7 +165,7 @@ module _ (s : List ℕ) (at : ℕ) (d : Cell) (full counted : Set) (came : List 
     has_place n p m q = go (fits q)
       where
         go : Fits known (PlaceRecord n p m) → many < 64
-        go (place one l under new known named) = came_room r.listed n l (not_loaded n l new)
+        go (place one l under new _ named) = came_room r.listed n l (not_loaded n l new)
 
     pub rest_place : (n p : ℕ) (m : Name) (i : ℕ) (u : Set) (long : ℕ) → Reads (PlaceRecord n p m) → i ≡ n % 64 → u ≡ inserted d.used n
         → long ≡ place_length (byte_at s at) → Rest s (at + long) (new_place p m i u) full counted (set came many n) (many + 1)
@@ -243,7 +243,7 @@ module _ (s : List ℕ) (at : ℕ) (d : Cell) (full counted : Set) (came : List 
       low_room = go (fits q)
         where
           go : Fits known (ActionRecord n k m) → (n < 64) × (is_full c n ≡ false)
-          go (action l known room one three named) = (l, sym (full_at n l) ∙ room)
+          go (action l _ room one three named) = (l, sym (full_at n l) ∙ room)
 
       abbrev l : n < 64
       l = low_room.0

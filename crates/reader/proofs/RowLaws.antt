@@ -1,13 +1,12 @@
 -- An agent's row of action records is taken at once: each record of it is the one that the definition reads there, so that after the row
 -- the load is where the definition's is. Assumes nothing.
 use mathlib.Core.Path.{◌≡◌, refl, sym, ap, ◌∙◌, subst}
+use Rattle.std.proofs.Common.{◌≢◌}
 use mathlib.Core.Bool.{Bool, true, false, cond}
-use mathlib.Core.List.{List, [], ◌∷◌}
+use mathlib.Core.List.{List}
 use Prim.Native.Nat.{ℕ, zero, suc, ◌+◌, ◌-◌, ◌%◌, ◌<◌, ◌≤◌}
 use native.Mathlib.Nat.{le_refl}
 use native.Mathlib.Omega.{arith}
-use types.Run.{OneOf, miss}
-use denote.Enum.Declared.{tag_of}
 use lib.Dec.{ltb, leb, eqb}
 use lib.ListN.{length, get_or, set}
 use lib.Seq.{get_or-set_same, set-set}
@@ -18,7 +17,6 @@ use Rattle.table.proofs.BaseLaws.{length_tab}
 use Rattle.table.specs.Cell.{no_agent, last_kind, table_of, put_agents}
 use Rattle.table.specs.declared.Agent.{Agent}
 use Rattle.table.specs.declared.Cell.{Cell}
-use Rattle.meaning.specs.contracts.Record as rec
 use Rattle.meaning.specs.declared.Record.{Record}
 use Rattle.meaning.specs.declared.Record.TheVariants.{PlaceRecord, AgentRecord, ActionRecord, EndRecord, TouchRecord, Faulty}
 use Rattle.meaning.specs.File.{byte_at, name_at, action_record, Known, record_at, with_action}
@@ -99,16 +97,16 @@ module _ (s : List ℕ) (n at : ℕ) (a : Agent) where
   row_more l m kind name e = row_turn l (ActionRecord m kind name) e
 
   -- a record that is no action ends it
-  stays : (rest : ℕ → Agent → Reached) (x : Record) → OneOf (0 ∷ 1 ∷ 3 ∷ 4 ∷ 5 ∷ []) (tag_of rec.the_type x) → record { agent = a; at = at } ≡ after_record rest at a x
+  stays : (rest : ℕ → Agent → Reached) (x : Record) → ((i k m : ℕ) → x ≢ ActionRecord i k m) → record { agent = a; at = at } ≡ after_record rest at a x
   unfolding after_record
   stays rest (PlaceRecord i p m) t = refl
   stays rest (AgentRecord i h) t = refl
-  stays rest (ActionRecord i k m) t = absurd (miss (0 ∷ 1 ∷ 3 ∷ 4 ∷ 5 ∷ []) 2 tt t)
+  stays rest (ActionRecord i k m) t = absurd (t i k m refl)
   stays rest EndRecord t = refl
   stays rest (TouchRecord i m) t = refl
   stays rest (Faulty i) t = refl
 
-  pub row_ends : a.count < 16 → (x : Record) → x ≡ own_record s at n → OneOf (0 ∷ 1 ∷ 3 ∷ 4 ∷ 5 ∷ []) (tag_of rec.the_type x)
+  pub row_ends : a.count < 16 → (x : Record) → x ≡ own_record s at n → ((i k m : ℕ) → x ≢ ActionRecord i k m)
       → record { agent = a; at = at } ≡ with_row (16 - a.count) s n at a
   row_ends l x e t = stays _ x t ∙ row_turn l x e
 
@@ -174,6 +172,9 @@ module _ (s : List ℕ) (d : Cell) (full counted : Set) (came : List ℕ) (many 
       (onward_more at a (omega arith) r kind name (omega arith) (λ k g h. reads k g h ∙ ap (λ (j : ℕ). ActionRecord j kind name) mine))
   onward_after left at a f go r EndRecord ended = r
   onward_after left at a f go r (Faulty j) faulty = r
+  onward_after left at a f go r (PlaceRecord _ _ _) x = elim x [ ]
+  onward_after left at a f go r (AgentRecord _ _) x = elim x [ ]
+  onward_after left at a f go r (TouchRecord _ _) x = elim x [ ]
 
   pub onward_row : (left at : ℕ) (a : Agent) → left ≡ 16 - a.count → Onward (record { agent = a; at = at }) → Onward (with_row left s n at a)
   unfolding with_row

@@ -1,6 +1,6 @@
 -- The round, agent by agent, comes to whether all are asleep or done. Assumes nothing.
 -- Idea: before each turn all agents so far rest, or one does not and the round is at its end.
-use Rattle.std.specs.Prelude.{◌≡◌, refl, ◌≢◌, ◌⊎◌, Bool, cond, ℕ, ◌+◌, ◌≤◌, ◌<◌, get_or}
+use Rattle.std.specs.Prelude.{◌≡◌, refl, ◌≢◌, ◌⊎◌, Bool, cond, ℕ, ◌+◌, ◌^◌, ◌≤◌, ◌<◌, get_or}
 use Rattle.std.proofs.Math.Path.{sym, subst}
 use Rattle.std.proofs.Common.{ap, ◌∙◌, pos_of_ne-zero, arith}
 use Rattle.std.proofs.Math.Logic.{inl, inr}
@@ -11,7 +11,6 @@ use Rattle.sets.specs.Set.{member, removed}
 use Rattle.sets.proofs.WalkLaws.{rest_start, rest_lt, rest_member, removed_less, lowest_found}
 use Rattle.sets.specs.Walk.{lowest_in}
 use Rattle.table.proofs.BaseLaws.{clash, eq?}
-use Rattle.table.specs.Bounds.{Sized}
 use Rattle.table.specs.Cell.{no_agent, cell_of}
 use Rattle.table.specs.Idle.{rests_at, idle}
 use Rattle.table.proofs.TestLaws.{Tested, tested_start, tested_end, tested_stop, tested_more}
@@ -46,8 +45,8 @@ abbrev pub turns : Round → ℕ
 turns w = cond w.rest (w.left.bits + 1) 0
 
 module _ (c : Cell) where
-  pub start_reaches : Sized c → Reaches c (standing_at c.given)
-  start_reaches z = inl (record { rest = refl; at = refl; tested = tested_start (has c.given.bits) (rests c) c.given (rest_start c.given z.given) })
+  pub start_reaches : c.given.bits < 2 ^ 64 → Reaches c (standing_at c.given)
+  start_reaches b = inl (record { rest = refl; at = refl; tested = tested_start (has c.given.bits) (rests c) c.given (rest_start c.given b) })
 
   module _ (w : Round) where
     off_ends : Off c w → w.at < 64 → ⊥
@@ -83,10 +82,10 @@ module _ (c : Cell) where
       turn_reaches (inr f) = absurd (off_ends f l)
       turn_reaches (inl o) = subst (λ (n : ℕ). Reaches c (passed_of w (get_or c.agents n no_agent).stage)) (sym o.at) (next_by o (subst (λ (n : ℕ). n < 64) o.at l) _ refl)
 
-      pub turn_less : Reaches c w → (stage : ℕ) → turns (passed_of w stage) < turns w
+      pub turn_less : Reaches c w → (s : ℕ) → turns (passed_of w s) < turns w
       unfolding passed_of
-      turn_less (inr f) stage = absurd (off_ends f l)
-      turn_less (inl o) stage = less_by o (subst (λ (n : ℕ). n < 64) o.at l) (rests_at stage)
+      turn_less (inr f) s = absurd (off_ends f l)
+      turn_less (inl o) s = less_by o (subst (λ (n : ℕ). n < 64) o.at l) (rests_at s)
 
     -- nobody is left
     pub round_ends : Reaches c w → 64 ≤ w.at → w.rest ≡ idle (cell_of c)

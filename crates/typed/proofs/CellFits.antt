@@ -24,7 +24,6 @@ use Rattle.demands.proofs.Layouts.{agent_both, place_both}
 use Rattle.demands.specs.SameListings.{term_of}
 use Rattle.lengths.proofs.Sums.{pick}
 use Rattle.lengths.proofs.Levels.{lives_in, stands_in, heap, heap_floor}
-use Rattle.language.specs.Grammar.{agent}
 use Rattle.typed.proofs.Weighed.{short, term_fits}
 
 -- ---- no more places and agents

@@ -52,7 +52,7 @@ use Rattle.language.specs.Grammar.{Text, Contents}
 use Rattle.language.specs.Read.{read_text}
 use Rattle.language.specs.Layout.{places_in, fits, Laid, lay, bare_laid, layout}
 use Rattle.language.proofs.Sites.{laid}
-use Rattle.language.proofs.Answers.{Answers, read, too_many, outside, answers}
+use Rattle.language.proofs.Answers.{Answers, read, says_too_many, outside, answers}
 use Rattle.typed.proofs.Numbered.{Numbered, numbered, bare_ready}
 use Rattle.typed.proofs.Kept.{Untouched, layout_untouched, layout16}
 use Rattle.typed.specs.TermTyped.{term_typed}
@@ -161,7 +161,7 @@ read_as s d e = go (answers s) e
       where
         same : layout c ≡ d
         same = cc
-    go (too_many c q t) e = let z : ◌≡◌ {A = ℕ} 0 1 = cc in absurd (omega arith)
+    go (says_too_many c q t) e = let z : ◌≡◌ {A = ℕ} 0 1 = cc in absurd (omega arith)
     go (outside i b v) e = let z : ◌≡◌ {A = ℕ} 0 1 = cc in absurd (omega arith)
 
 -- what `walk` prints of a text that is read, whatever the order: the loaded tree, a line for each call with what it answered, and the plain tree

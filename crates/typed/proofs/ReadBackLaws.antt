@@ -9,7 +9,7 @@ use Prim.Native.Nat.{ℕ, zero, suc, ◌≤◌}
 use Rattle.table.specs.Base.{tab}
 use Rattle.table.proofs.BaseLaws.{Told, yea, nay, told}
 use Rattle.table.specs.Bounds.{Sized, Names16}
-use Rattle.table.specs.Cell.{State, cell_of, unused}
+use Rattle.table.specs.Cell.{State, cell_of}
 use Rattle.table.proofs.CellLaws.{bounded}
 use Rattle.table.specs.Sound.{sound}
 use Rattle.table.specs.declared.Action.{Action}

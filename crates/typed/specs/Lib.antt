@@ -2,6 +2,7 @@
 pub mod TermTyped
 pub mod Loaded
 pub mod ReadBack
+
 -- the theorems
 -- a cell that is read is fresh
 -- and has the term of the tree

@@ -10,4 +10,4 @@ ceiling_spec =
     tie.close
     (tie.spec
     (λ c κs. search rules) (λ c κs. search rules) (λ c κs. search rules)
-    (λ c. c.ceiling_known.ensures ∙ ceiling_told _ _ _ c.before.before.is_sound.ensures c.before.Moves-of.ensures))
+    (λ c. c.ceiling_known.ensures ∙ ceiling_told _ _ _ c.before.before.is_sound-known.ensures c.before.moves_of-moves.ensures))

@@ -8,8 +8,8 @@ use Rattle.limit.proofs.moves_at.Tie as tie
 returns : tie.Need-returns
 returns c =
     let left = c.before in
-    ap₂ (λ (n way : ℕ). 2 * n + way) (left.unused.ensures ∙ ap (λ (end : ℕ). end - left.before.before.args.next) left.before.row_end.ensures)
-    c.away.ensures
+    ap₂ (λ (n way : ℕ). 2 * n + way) (left.unused-left.ensures ∙ ap (λ (end : ℕ). end - left.before.before.args.next) left.before.row_end-end.ensures)
+    c.away-way.ensures
 
 pub moves_at_spec : {M : Type 1} → statement M
 moves_at_spec =

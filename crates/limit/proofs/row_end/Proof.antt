@@ -6,4 +6,4 @@ use Rattle.limit.proofs.row_end.Tie as tie
 
 pub row_end_spec : {M : Type 1} → statement M
 unfolding row_end
-row_end_spec = tie.close (tie.spec (λ c. rw (lt-ltb _ _ c.if1.true)) (λ c. rw (le-ltb _ _ c.if1.false)))
+row_end_spec = tie.close (tie.spec (λ c. rw (lt-ltb _ _ c.if-count-lt16.true)) (λ c. rw (le-ltb _ _ c.if-count-lt16.false)))

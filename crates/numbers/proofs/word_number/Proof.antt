@@ -10,7 +10,7 @@ word_number_spec =
     (tie.spec
     (λ c. search rules) (λ c. search rules) (λ c. search rules) (λ c. search rules) (λ c. search rules) (λ c. search rules)
     (λ c. search rules) (λ c. search rules) (λ c. search rules) (λ c. search rules) (λ c. search rules)
-    (λ c. rw c.enum_told.given.1 refl) (λ c. rw c.enum_told2.given.1 refl) (λ c. rw c.enum_told3.given.1 refl)
-    (λ c. rw c.enum_told4.given.1 refl) (λ c. rw c.enum_told5.given.1 refl) (λ c. rw c.enum_told6.given.1 refl)
-    (λ c. rw c.enum_told7.given.1 refl) (λ c. rw c.enum_told8.given.1 refl) (λ c. rw c.enum_told9.given.1 refl)
-    (λ c. rw c.enum_told10.given.1 refl) (λ c. rw c.enum_told11.given.1 refl))
+    (λ c. rw c.in-Looked.is refl) (λ c. rw c.in-Took.is refl) (λ c. rw c.in-Held.is refl)
+    (λ c. rw c.in-Back.is refl) (λ c. rw c.in-Slept.is refl) (λ c. rw c.in-Left.is refl)
+    (λ c. rw c.in-Came.is refl) (λ c. rw c.in-Opened.is refl) (λ c. rw c.in-Put.is refl)
+    (λ c. rw c.in-Asleep.is refl) (λ c. rw c.in-Done.is refl))

@@ -7,7 +7,7 @@ use Rattle.resting.proofs.standing.Statement.{statement}
 use Rattle.resting.proofs.standing.Tie as tie
 
 returns : tie.Need-returns
-returns c = let a = c.before.args in ap {B = Round} (λ (k : ℕ). record { at = k; left = a.left; rest = true }) c.first.ensures
+returns c = let a = c.before.args in ap {B = Round} (λ (k : ℕ). record { at = k; left = a.left; rest = true }) c.first-i.ensures
 
 pub standing_spec : {M : Type 1} → statement M
 standing_spec = tie.close (tie.spec (λ c κs. tt) returns)

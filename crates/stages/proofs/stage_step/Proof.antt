@@ -19,14 +19,14 @@ at_stage l a wish e = ap (λ (n : ℕ). change_at n l a wish) (sym e)
 neither : {b d : Bool} → b ≡ false → d ≡ false → (b || d) ≡ false
 neither e f = ap₂ ◌||◌ e f
 
-returns_3 : tie.Need-returns-3
+returns_3 : tie.Need-returns
 returns_3 c =
     let at = c.before.before in
     let t = at.before in
     let s = t.before.before.before.before in
     let a = s.args in
     c.own_step.ensures
-    ∙ own_seen a.t2 a.used a.row a.a a.wish s.well_formed.1.0.1.0.1 at.at.result at.at.ensures (neither (ne_eqb _ _ t.before.before.if1.false) (ne_eqb _ _ t.if2.false))
+    ∙ own_seen a.ps a.used a.row a.a a.wish s.well_formed.1.0.1.0.1 at.at-k.result at.at-k.ensures (neither (ne_eqb _ _ t.before.before.if-a-eq2.false) (ne_eqb _ _ t.if-a-eq3.false))
 
 pub stage_step_spec : {M : Type 1} → statement M
 unfolding change_at
@@ -34,7 +34,7 @@ stage_step_spec =
     tie.close
     (tie.spec
     (λ c κs. search rules)
-    (λ c. c.hold.ensures ∙ at_stage _ _ _ c.before.if1.true)
+    (λ c. c.hold.ensures ∙ at_stage _ _ _ c.before.if-a-eq2.true)
     (λ c κs. search rules)
-    (λ c. let a = c.before.before.before.before.before.args in c.act.ensures ∙ acts_rowless a.t2 a.used a.row a.a ∙ at_stage _ _ _ c.before.if2.true)
+    (λ c. let a = c.before.before.before.before.before.args in c.act.ensures ∙ acts_rowless a.ps a.used a.row a.a ∙ at_stage _ _ _ c.before.if-a-eq3.true)
     (λ c κs. search rules) (λ c. search rules) (λ c. search rules) (λ c κs. search rules) returns_3)

@@ -15,30 +15,30 @@ use borrow.Author.Rules.{rules}
 use Rattle.step.proofs.carry_out.Statement.{statement}
 use Rattle.step.proofs.carry_out.Tie as tie
 
-returns : tie.Need-returns
+returns : tie.Need-returns-then-d
 unfolding carried_out
 returns c =
     let at = c.before.before.before in
     let s = at.before.args in
-    rw c.before.if1.true
-    (c.shift.ensures ∙ ap (λ (i : ℕ). made (shifted (cell_of s.t1) s.agent (get_or s.t1.agents i no_agent) s.d.motion)) at.at.ensures)
+    rw c.before.if-d.true
+    (c.shift.ensures ∙ ap (λ (i : ℕ). made (shifted (cell_of s.c) s.agent (get_or s.c.agents i no_agent) s.d.motion)) at.at-k.ensures)
 
-returns_2 : tie.Need-returns-2
+returns_2 : tie.Need-returns
 unfolding carried_out
 returns_2 c =
     let lock = c.before in
     let stage = lock.before.before in
     let at = stage.before.before.before in
     let s = at.before.args in
-    rw stage.before.if1.false
-    (ap₂ (λ (b : Agent) (ls : List ℕ). record { cell = put_locks (put_agents s.t1 (set s.t1.agents at.at.result b)) ls; answer = s.d.answer })
-    stage.at_stage.ensures
-    (locks_put s.t1.locks lock.with_lock.result c.with_lock2.result s.d.first s.d.second s.d.lock (sized s.t1 at.before.well_formed.0).locks lock.with_lock.ensures c.with_lock2.ensures)
+    rw stage.before.if-d.false
+    (ap₂ (λ (b : Agent) (ls : List ℕ). record { cell = put_locks (put_agents s.c (set s.c.agents at.at-k.result b)) ls; answer = s.d.answer })
+    stage.at_stage-b.ensures
+    (locks_put s.c.locks lock.with_lock-ms.result c.with_lock-ns.result s.d.first s.d.second s.d.lock (sized s.c at.before.well_formed.0).locks lock.with_lock-ms.ensures c.with_lock-ns.ensures)
     ∙ ap (λ (i : ℕ). record {
-      cell = put_locks (put_agents s.t1 (set s.t1.agents i (at_stage (get_or s.t1.agents i no_agent) s.d.stage s.d.remembered s.d.choice))) (set (set s.t1.locks s.d.first s.d.lock) s.d.second s.d.lock);
+      cell = put_locks (put_agents s.c (set s.c.agents i (at_stage (get_or s.c.agents i no_agent) s.d.stage s.d.remembered s.d.choice))) (set (set s.c.locks s.d.first s.d.lock) s.d.second s.d.lock);
       answer = s.d.answer;
     })
-    at.at.ensures)
+    at.at-k.ensures)
 
 pub carry_out_spec : {M : Type 1} → statement M
 carry_out_spec =

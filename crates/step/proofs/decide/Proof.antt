@@ -7,21 +7,21 @@ use Rattle.step.specs.Decided.{settling, settling_in, decided}
 use Rattle.step.proofs.decide.Statement.{statement}
 use Rattle.step.proofs.decide.Tie as tie
 
-returns : tie.Need-returns
+returns : tie.Need-returns-then-is_step
 unfolding decided
 returns c =
     let at = c.before in
     let change = at.before.before in
     let test = change.before.before.before.before.before in
     let a = test.before.before.before.before.args in
-    rw (sym test.before.is_step.ensures ∙ test.if1.true)
+    rw (sym test.before.is_step.ensures ∙ test.if-is_step.true)
     (c.settled.ensures
-    ∙ ap (λ (i : ℕ). settling change.stage_step.result a.agent a.seen.agent (get_or a.c.locks i 0)) (at.at.ensures ∙ ap (λ (q : ℕ). q % 64) at.before.wanted.ensures)
-    ∙ ap (settling_in a.c a.agent a.seen.agent) change.stage_step.ensures)
+    ∙ ap (λ (i : ℕ). settling change.stage_step-change.result a.agent a.seen.agent (get_or a.c.locks i 0)) (at.at-k.ensures ∙ ap (λ (q : ℕ). q % 64) at.before.wanted-q.ensures)
+    ∙ ap (settling_in a.c a.agent a.seen.agent) change.stage_step-change.ensures)
 
-returns_2 : tie.Need-returns-2
+returns_2 : tie.Need-returns
 unfolding decided
-returns_2 c = rw (sym c.before.before.is_step.ensures ∙ c.before.if1.false) c.refused.ensures
+returns_2 c = rw (sym c.before.before.is_step.ensures ∙ c.before.if-is_step.false) c.refused.ensures
 
 pub decide_spec : {M : Type 1} → statement M
 decide_spec =

@@ -12,7 +12,7 @@ returns : tie.Need-returns
 returns c =
     let a = c.before.before.before in
     c.carry_out.ensures
-    ∙ ap (carried_out a.args.c a.args.agent) (c.before.decide.ensures ∙ ap (λ (s : Seen). decided s a.args.c a.args.agent a.args.wish) c.before.before.see.ensures)
+    ∙ ap (carried_out a.args.c a.args.agent) (c.before.decide-d.ensures ∙ ap (λ (s : Seen). decided s a.args.c a.args.agent a.args.wish) c.before.before.see-s.ensures)
     ∙ decided_step a.args.c (sized a.args.c a.well_formed.0) a.args.agent a.args.wish
 
 pub step_spec : {M : Type 1} → statement M

@@ -1,6 +1,5 @@
 -- The three words, one after another.
-use Prim.Native.Nat.{ℕ}
-use borrow.Author.Tests.{eq-eqb, ne_eqb}
+use borrow.Author.Tests.{ne_eqb}
 use Rattle.writer.proofs.says_move.Statement.{statement}
 use Rattle.writer.proofs.says_move.Tie as tie
 
@@ -8,6 +7,6 @@ pub says_move_spec : {M : Type 1} → statement M
 says_move_spec =
     tie.close
     (tie.spec
-    (λ c. rw c.if1.true)
-    (λ c. rw c.if2.true)
-    (λ c. rw (ne_eqb _ _ c.before.if1.false, ne_eqb _ _ c.if2.false)))
+    (λ c. rw c.if-word-eq5.true)
+    (λ c. rw c.if-word-eq7.true)
+    (λ c. rw (ne_eqb _ _ c.before.if-word-eq5.false, ne_eqb _ _ c.if-word-eq7.false)))

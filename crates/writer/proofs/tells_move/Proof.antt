@@ -10,5 +10,5 @@ tells_move_spec =
     tie.close
     (tie.spec
     (λ c κs. search rules)
-    (λ c. rw (eq-eqb (c.before.before.args.asked % 256) 0 c.before.if1.true) c.says_move.ensures)
-    (λ c. rw (ne_eqb (c.before.args.asked % 256) 0 c.if1.false)))
+    (λ c. rw (eq-eqb (c.before.before.args.asked % 256) 0 c.before.if-asked-eq0.true) c.says_move.ensures)
+    (λ c. rw (ne_eqb (c.before.args.asked % 256) 0 c.if-asked-eq0.false)))

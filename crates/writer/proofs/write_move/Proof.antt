@@ -11,7 +11,7 @@ write_move_spec =
     tie.close
     (tie.spec
     (λ c κs. search rules)
-    (λ c. no_room _ _ _ (sym c.before.before.tells_move.ensures ∙ c.before.if1.true) c.if2.true)
+    (λ c. no_room _ _ _ (sym c.before.before.tells_move.ensures ∙ c.before.if-tells_move.true) c.if-trail-lt2.true)
     (λ c. search rules) (λ c. search rules) (λ c. search rules) (λ c. search rules)
-    (λ c. room _ _ _ (sym c.before.before.tells_move.ensures ∙ c.before.if1.true) (omega (arith, c.if2.false)))
-    (λ c. no_move _ _ _ (sym c.before.tells_move.ensures ∙ c.if1.false)))
+    (λ c. room _ _ _ (sym c.before.before.tells_move.ensures ∙ c.before.if-tells_move.true) (omega (arith, c.if-trail-lt2.false)))
+    (λ c. no_move _ _ _ (sym c.before.tells_move.ensures ∙ c.if-tells_move.false)))

@@ -11,4 +11,4 @@ common_place_spec =
     tie.close
     (tie.spec
     (λ c κs. search rules) (λ c κs. search rules)
-    (λ c. let a = c.before.before.args in c.first_among.ensures ∙ first_common (up_in a.ps) a.q a.r c.before.holders.result c.before.holders.ensures))
+    (λ c. let a = c.before.before.args in c.first_among.ensures ∙ first_common (up_in a.ps) a.q a.r c.before.holders-s.result c.before.holders-s.ensures))

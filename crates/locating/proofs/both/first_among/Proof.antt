@@ -11,42 +11,42 @@ use Rattle.locating.proofs.OutwardsLaws.{out_none, out_hit, out_floor, out_more}
 use Rattle.locating.proofs.both.first_among.Statement.{statement}
 use Rattle.locating.proofs.both.first_among.Tie as tie
 
-abbrev invariant_loop : tie.invariant_loop
+abbrev invariant_loop : tie.invariant-loop-left
 invariant_loop ps s q at₀ left₀ at left = outwards left (up_in ps) (member s) at ≡ outwards most_outwards (up_in ps) (member s) q
 
-abbrev decreases_loop : tie.decreases_loop
+abbrev decreases_loop : tie.decreases-loop-left
 decreases_loop ps s q at₀ left₀ at left = left
 
-returns : tie.Need-returns invariant_loop decreases_loop
+returns : tie.Need-returns-then-has invariant_loop decreases_loop
 returns c =
     let h = c.before in
     let l = h.before.before in
     let a = l.before.args in
-    sym (out_hit (up_in a.ps) (member a.s) l.loop.left l.loop.at h.before.loop_test.true (sym h.has.ensures ∙ c.if1.true)) ∙ l.loop.invariant
+    sym (out_hit (up_in a.ps) (member a.s) l.loop-left.left l.loop-left.at h.before.loop-left-test.true (sym h.has.ensures ∙ c.if-has.true)) ∙ l.loop-left.invariant
 
-returns_2 : tie.Need-returns-2 invariant_loop decreases_loop
+returns_2 : tie.Need-returns-then-at-eq0 invariant_loop decreases_loop
 returns_2 c =
     let h = c.before.before in
     let l = h.before.before in
     let a = l.before.args in
-    sym (out_floor (up_in a.ps) (member a.s) l.loop.left l.loop.at h.before.loop_test.true (sym h.has.ensures ∙ c.before.if1.false) c.if2.true)
-    ∙ l.loop.invariant
+    sym (out_floor (up_in a.ps) (member a.s) l.loop-left.left l.loop-left.at h.before.loop-left-test.true (sym h.has.ensures ∙ c.before.if-has.false) c.if-at-eq0.true)
+    ∙ l.loop-left.invariant
 
-loop_again : tie.Need-loop-preserved invariant_loop decreases_loop
+loop_again : tie.Need-loop-left-preserved invariant_loop decreases_loop
 loop_again c =
     let h = c.before.before.before in
     let l = h.before.before in
     let a = l.before.args in
-    ap (λ (x : Place). outwards (l.loop.left - 1) (up_in a.ps) (member a.s) x.parent) c.place_at.ensures
-    ∙ sym (out_more (up_in a.ps) (member a.s) l.loop.left l.loop.at h.before.loop_test.true (sym h.has.ensures ∙ c.before.before.if1.false)
-    c.before.if2.false)
-    ∙ l.loop.invariant
+    ap (λ (x : Place). outwards (l.loop-left.left - 1) (up_in a.ps) (member a.s) x.parent) c.place_at-x.ensures
+    ∙ sym (out_more (up_in a.ps) (member a.s) l.loop-left.left l.loop-left.at h.before.loop-left-test.true (sym h.has.ensures ∙ c.before.before.if-has.false)
+    c.before.if-at-eq0.false)
+    ∙ l.loop-left.invariant
 
-returns_3 : tie.Need-returns-3 invariant_loop decreases_loop
+returns_3 : tie.Need-returns invariant_loop decreases_loop
 returns_3 c =
     let l = c.before in
     let a = l.before.args in
-    sym (out_none (up_in a.ps) (member a.s) l.loop.left l.loop.at c.loop_test.false) ∙ l.loop.invariant
+    sym (out_none (up_in a.ps) (member a.s) l.loop-left.left l.loop-left.at c.loop-left-test.false) ∙ l.loop-left.invariant
 
 pub first_among_spec : {M : Type 1} → statement M
 first_among_spec =

@@ -12,14 +12,14 @@ unfolding known_nearest
 nearest_known_spec =
     tie.close
     (tie.spec
-    (λ c. rw (c.before.if1.true, le-leb _ _ c.if2.true) refl)
+    (λ c. rw (c.before.if-known.true, le-leb _ _ c.if-place-ge64.true) refl)
     (λ c κs. search rules) (λ c κs. search rules) (λ c κs. search rules)
     (λ c.
     let used = c.before.before.before in
     let has = used.before in
-    rw (has.before.before.before.if1.true, lt-leb _ _ has.before.before.if2.false, sym has.has.ensures ∙ used.if3.true)
-    (c.found_place.ensures ∙ ap found_place c.before.nearest_place.ensures))
+    rw (has.before.before.before.if-known.true, lt-leb _ _ has.before.before.if-place-ge64.false, sym has.has.ensures ∙ used.if-has.true)
+    (c.found_place.ensures ∙ ap found_place c.before.nearest_place-p.ensures))
     (λ c.
     let has = c.before in
-    rw (has.before.before.before.if1.true, lt-leb _ _ has.before.before.if2.false, sym has.has.ensures ∙ c.if3.false) refl)
-    (λ c. rw c.if1.false refl))
+    rw (has.before.before.before.if-known.true, lt-leb _ _ has.before.before.if-place-ge64.false, sym has.has.ensures ∙ c.if-has.false) refl)
+    (λ c. rw c.if-known.false refl))

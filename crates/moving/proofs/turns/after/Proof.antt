@@ -7,6 +7,6 @@ pub after_spec : {M : Type 1} → statement M
 after_spec =
     tie.close
     (tie.spec
-    (λ c κs. search rules) (λ c. rw c.before.if1.true c.dissolve_agent.ensures)
-    (λ c κs. search rules) (λ c. rw (c.before.before.if1.false, c.before.if2.true) c.at_stage.ensures)
+    (λ c κs. search rules) (λ c. rw c.before.if-opens.true c.dissolve_agent.ensures)
+    (λ c κs. search rules) (λ c. rw (c.before.before.if-opens.false, c.before.if-woken.true) c.at_stage.ensures)
     (λ c. search rules))

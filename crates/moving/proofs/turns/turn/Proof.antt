@@ -11,7 +11,7 @@ returns c =
     let after = changed.before in
     let freed = after.before in
     let woken = freed.before in
-    rw (c.standing.ensures, rest.rest.ensures, holders.insert_if2.ensures, sleepers.insert_if.ensures, changed.changes.ensures, after.after.ensures, freed.frees.ensures, woken.wakes.ensures)
+    rw (c.standing-v.ensures, rest.rest-rest.ensures, holders.insert_if-holders.ensures, sleepers.insert_if-sleepers.ensures, changed.changes-c.ensures, after.after-b.ensures, freed.frees-freed.ensures, woken.wakes-woken.ensures)
 
 pub turn_spec : {M : Type 1} → statement M
 turn_spec =

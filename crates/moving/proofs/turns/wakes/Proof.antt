@@ -8,4 +8,4 @@ wakes_spec =
     tie.close
     (tie.spec
     (λ c κs. search rules) (λ c κs. search rules)
-    (λ c. rw c.before.if1.true c.woken_by.ensures) (λ c. rw c.before.if1.false c.asleep_on.ensures))
+    (λ c. rw c.before.if-opens.true c.woken_by.ensures) (λ c. rw c.before.if-opens.false c.asleep_on.ensures))

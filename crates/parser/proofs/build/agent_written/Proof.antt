@@ -5,25 +5,25 @@ use borrow.Author.Rules.{rules}
 use Rattle.parser.proofs.build.agent_written.Statement.{statement}
 use Rattle.parser.proofs.build.agent_written.Tie as tie
 
-returns : tie.Need-returns
+returns : tie.Need-returns-in-Nothing
 unfolding agent_written
-returns c = rw c.before.enum_told.given.1 c.before2.ensures
+returns c = rw c.before.in-Nothing.is c.before-in-Nothing.ensures
 
-returns_3 : tie.Need-returns-3
+returns_3 : tie.Need-returns-in-NewAction
 unfolding agent_written
-returns_3 c = rw c.before.enum_told3.given.1 c.before3.ensures
+returns_3 c = rw c.before.in-NewAction.is c.before-in-NewAction.ensures
 
-returns_4 : tie.Need-returns-4
+returns_4 : tie.Need-returns-in-NewPlace
 unfolding agent_written
-returns_4 c = rw c.before.enum_told4.given.1 c.before4.ensures
+returns_4 c = rw c.before.in-NewPlace.is c.before-in-NewPlace.ensures
 
-returns_5 : tie.Need-returns-5
+returns_5 : tie.Need-returns-in-EndPlace
 unfolding agent_written
-returns_5 c = rw c.before.enum_told5.given.1 c.before5.ensures
+returns_5 c = rw c.before.in-EndPlace.is c.before-in-EndPlace.ensures
 
-returns_6 : tie.Need-returns-6
+returns_6 : tie.Need-returns-in-LastAction
 unfolding agent_written
-returns_6 c = rw c.before.enum_told6.given.1 c.before6.ensures
+returns_6 c = rw c.before.in-LastAction.is c.before-in-LastAction.ensures
 
 pub agent_written_spec : {M : Type 1} → statement M
 unfolding agent_written

@@ -5,9 +5,9 @@ use borrow.Author.Rules.{rules}
 use Rattle.parser.proofs.build.gives_agent.Statement.{statement}
 use Rattle.parser.proofs.build.gives_agent.Tie as tie
 
-returns_2 : tie.Need-returns-2
+returns_2 : tie.Need-returns-in-NewAgent
 unfolding gives_agent
-returns_2 c = rw (c.struct_known.given.1, c.before.enum_told2.given.1)
+returns_2 c = rw (c.struct_known-1.given.1, c.before.in-NewAgent.is)
 
 pub gives_agent_spec : {M : Type 1} → statement M
 unfolding gives_agent

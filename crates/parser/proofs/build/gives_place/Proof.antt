@@ -5,9 +5,9 @@ use borrow.Author.Rules.{rules}
 use Rattle.parser.proofs.build.gives_place.Statement.{statement}
 use Rattle.parser.proofs.build.gives_place.Tie as tie
 
-returns_4 : tie.Need-returns-4
+returns_4 : tie.Need-returns-in-NewPlace
 unfolding gives_place
-returns_4 c = rw (c.struct_known.given.1, c.before.enum_told4.given.1)
+returns_4 c = rw (c.struct_known-1.given.1, c.before.in-NewPlace.is)
 
 pub gives_place_spec : {M : Type 1} → statement M
 unfolding gives_place

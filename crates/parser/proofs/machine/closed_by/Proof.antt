@@ -6,11 +6,11 @@ use borrow.Author.Rules.{rules}
 use Rattle.parser.proofs.machine.closed_by.Statement.{statement}
 use Rattle.parser.proofs.machine.closed_by.Tie as tie
 
-returns_2 : tie.Need-returns-2
-returns_2 c = closed_one _ _ _ c.before.if1.false c.if2.true
+returns_2 : tie.Need-returns-then-b-eq93
+returns_2 c = closed_one _ _ _ c.before.if-d-eq0.false c.if-b-eq93.true
 
-returns_3 : tie.Need-returns-3
-returns_3 c = closed_none _ _ _ c.if2.false
+returns_3 : tie.Need-returns-else-b-eq93
+returns_3 c = closed_none _ _ _ c.if-b-eq93.false
 
 pub closed_by_spec : {M : Type 1} → statement M
 unfolding closed

@@ -5,13 +5,13 @@ use Rattle.table.specs.Base.{tab}
 use Rattle.parser.proofs.words.word_last.Statement.{statement}
 use Rattle.parser.proofs.words.word_last.Tie as tie
 
-returns_2 : tie.Need-returns-2
+returns_2 : tie.Need-returns-in-2
 unfolding kind_text tab
-returns_2 c = rw c.match.keys2 (search tests)
+returns_2 c = rw c.in-2.is (search tests)
 
-returns_3 : tie.Need-returns-3
+returns_3 : tie.Need-returns-in-3
 unfolding kind_text tab
-returns_3 c = rw c.match.keys3 (search tests)
+returns_3 c = rw c.in-3.is (search tests)
 
 pub word_last_spec : {M : Type 1} → statement M
 unfolding kind_text tab

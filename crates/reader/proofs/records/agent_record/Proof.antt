@@ -11,6 +11,6 @@ agent_record_spec =
     tie.close
     (tie.spec
     (λ c. search tests) (λ c. search tests)
-    (λ c. rw (lt-leb _ _ c.before.before.if1.false, lt-leb _ _ c.before.if2.false, c.if3.true))
-    (λ c. rw (lt-leb _ _ c.before.before.before.if1.false, lt-leb _ _ c.before.before.if2.false, c.before.if3.false, c.if4.true))
-    (λ c. rw (lt-leb _ _ c.before.before.before.if1.false, lt-leb _ _ c.before.before.if2.false, c.before.if3.false, c.if4.false)))
+    (λ c. rw (lt-leb _ _ c.before.before.if-number-ge64.false, lt-leb _ _ c.before.if-home-ge64.false, c.if-taken.true))
+    (λ c. rw (lt-leb _ _ c.before.before.before.if-number-ge64.false, lt-leb _ _ c.before.before.if-home-ge64.false, c.before.if-taken.false, c.if-known.true))
+    (λ c. rw (lt-leb _ _ c.before.before.before.if-number-ge64.false, lt-leb _ _ c.before.before.if-home-ge64.false, c.before.if-taken.false, c.if-known.false)))

@@ -17,4 +17,4 @@ keyed_name_spec =
     let x = c.before.before.before in
     let e = x.before.before.before in
     let n = e.before.before.before in
-    λ j. record { name = n.two_bytes.ensures j; entering = e.two_bytes2.ensures j; exiting = x.two_bytes3.ensures j; opening = c.two_bytes4.ensures j }))
+    λ j. record { name = n.two_bytes-n.ensures j; entering = e.two_bytes-e.ensures j; exiting = x.two_bytes-x.ensures j; opening = c.two_bytes-o.ensures j }))

@@ -5,4 +5,4 @@ use Rattle.reader.proofs.records.place_length.Statement.{statement}
 use Rattle.reader.proofs.records.place_length.Tie as tie
 
 pub place_length_spec : {M : Type 1} → statement M
-place_length_spec = tie.close (tie.spec (λ c. rw (eq-eqb _ _ c.if1.true) refl) (λ c. rw (ne_eqb _ _ c.if1.false) refl))
+place_length_spec = tie.close (tie.spec (λ c. rw (eq-eqb _ _ c.if-kind-eq6.true) refl) (λ c. rw (ne_eqb _ _ c.if-kind-eq6.false) refl))

@@ -9,4 +9,4 @@ place_named_spec =
     (tie.spec
     (λ c. search rules) (λ c. search rules) (λ c. search rules) (λ c. search rules)
     (λ c κs. search rules) (λ c κs. search rules) (λ c κs. search rules)
-    (λ c. rw (← c.before.before.has.ensures, ← c.before.has2.ensures) c.place_record.ensures))
+    (λ c. rw (← c.before.before.has-taken.ensures, ← c.before.has-known.ensures) c.place_record.ensures))

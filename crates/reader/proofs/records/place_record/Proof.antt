@@ -13,31 +13,31 @@ place_record_spec =
     (λ c. search tests) (λ c. search tests) (λ c. search tests)
     (λ c.
     rw (
-      le-ltb _ _ c.before.before.before.if1.false,
-      lt-leb _ _ c.before.before.if2.false,
-      lt-leb _ _ c.before.if3.false,
-      c.if4.true,
+      le-ltb _ _ c.before.before.before.if-number-lt1.false,
+      lt-leb _ _ c.before.before.if-number-ge64.false,
+      lt-leb _ _ c.before.if-parent-ge64.false,
+      c.if-taken.true,
     ))
     (λ c.
     let t = c.before.before.before.before in
     rw (
-      le-ltb _ _ t.before.before.if1.false,
-      lt-leb _ _ t.before.if2.false,
-      lt-leb _ _ t.if3.false,
-      c.before.before.before.if4.false,
-      c.before.before.if5.true,
-      lt-ltb _ _ c.if6.true,
+      le-ltb _ _ t.before.before.if-number-lt1.false,
+      lt-leb _ _ t.before.if-number-ge64.false,
+      lt-leb _ _ t.if-parent-ge64.false,
+      c.before.before.before.if-taken.false,
+      c.before.before.if-known.true,
+      lt-ltb _ _ c.if-name-lt1.true,
     ))
     (λ c.
     let t = c.before.before.before.before in
     rw (
-      le-ltb _ _ t.before.before.if1.false,
-      lt-leb _ _ t.before.if2.false,
-      lt-leb _ _ t.if3.false,
-      c.before.before.before.if4.false,
-      c.before.before.if5.true,
-      le-ltb _ _ c.if6.false,
+      le-ltb _ _ t.before.before.if-number-lt1.false,
+      lt-leb _ _ t.before.if-number-ge64.false,
+      lt-leb _ _ t.if-parent-ge64.false,
+      c.before.before.before.if-taken.false,
+      c.before.before.if-known.true,
+      le-ltb _ _ c.if-name-lt1.false,
     ))
     (λ c.
     let t = c.before.before in
-    rw (le-ltb _ _ t.before.before.if1.false, lt-leb _ _ t.before.if2.false, lt-leb _ _ t.if3.false, c.before.if4.false, c.if5.false)))
+    rw (le-ltb _ _ t.before.before.if-number-lt1.false, lt-leb _ _ t.before.if-number-ge64.false, lt-leb _ _ t.if-parent-ge64.false, c.before.if-taken.false, c.if-known.false)))

@@ -11,6 +11,6 @@ touch_record_spec =
     tie.close
     (tie.spec
     (λ c. search tests)
-    (λ c. rw (lt-leb _ _ c.before.if1.false, c.if2.true))
-    (λ c. rw (lt-leb _ _ c.before.before.if1.false, c.before.if2.false, c.if3.true))
-    (λ c. rw (lt-leb _ _ c.before.before.if1.false, c.before.if2.false, c.if3.false)))
+    (λ c. rw (lt-leb _ _ c.before.if-place-ge64.false, c.if-taken.true))
+    (λ c. rw (lt-leb _ _ c.before.before.if-place-ge64.false, c.before.if-taken.false, c.if-known.true))
+    (λ c. rw (lt-leb _ _ c.before.before.if-place-ge64.false, c.before.if-taken.false, c.if-known.false)))

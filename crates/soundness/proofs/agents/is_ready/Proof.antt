@@ -12,10 +12,6 @@ unfolding ready
 is_ready_spec =
     tie.close
     (tie.spec
-    (λ c.
-    let k = c.if-kind-ge3.true in
-    rw (c.before.before.if-some.true, c.before.if-known.true, le-leb open_kind c.before.before.before.args.kind (omega arith)))
-    (λ c.
-    let k = c.if-kind-ge3.false in
-    rw (c.before.before.if-some.true, c.before.if-known.true, lt-leb open_kind c.before.before.before.args.kind (omega arith)))
+    (λ c. rw (c.before.before.if-some.true, c.before.if-known.true, le-leb open_kind c.before.before.before.args.kind (omega arith)))
+    (λ c. rw (c.before.before.if-some.true, c.before.if-known.true, lt-leb open_kind c.before.before.before.args.kind (omega arith)))
     (λ c. search (tests, c.if-known.false, c.before.if-some.true)) (λ c. search (tests, c.if-some.false)))

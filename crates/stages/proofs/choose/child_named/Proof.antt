@@ -9,5 +9,5 @@ child_named_spec =
     tie.close
     (tie.spec
     (λ c κs. search rules) (λ c κs. search rules)
-    (λ c. let t = c.before.before in rw (c.key_of.ensures, sym t.before.Linked-to.ensures ∙ t.if1.true))
-    (λ c. rw (sym c.before.Linked-to.ensures ∙ c.if1.false)))
+    (λ c. let t = c.before.before in rw (c.key_of.ensures, sym t.before.linked_to.ensures ∙ t.if-linked_to.true))
+    (λ c. rw (sym c.before.linked_to.ensures ∙ c.if-linked_to.false)))

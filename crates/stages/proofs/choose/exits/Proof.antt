@@ -8,5 +8,5 @@ pub exits_spec : {M : Type 1} → statement M
 exits_spec =
     tie.close
     (tie.spec
-    (λ c κs. search rules) (λ c. rw (sym c.before.before.linked.ensures ∙ c.before.if1.true))
-    (λ c. rw (sym c.before.linked.ensures ∙ c.if1.false)))
+    (λ c κs. search rules) (λ c. rw (sym c.before.before.linked.ensures ∙ c.before.if-linked.true))
+    (λ c. rw (sym c.before.linked.ensures ∙ c.if-linked.false)))

@@ -7,5 +7,5 @@ pub key_of_spec : {M : Type 1} → statement M
 key_of_spec =
     tie.close
     (tie.spec
-    (λ c. rw (eq-eqb _ _ c.if1.true)) (λ c. rw (ne_eqb _ _ c.before.if1.false, eq-eqb _ _ c.if2.true))
-    (λ c. rw (ne_eqb _ _ c.before.if1.false, ne_eqb _ _ c.if2.false)))
+    (λ c. rw (eq-eqb _ _ c.if-kind-eq1.true)) (λ c. rw (ne_eqb _ _ c.before.if-kind-eq1.false, eq-eqb _ _ c.if-kind-eq2.true))
+    (λ c. rw (ne_eqb _ _ c.before.if-kind-eq1.false, ne_eqb _ _ c.if-kind-eq2.false)))

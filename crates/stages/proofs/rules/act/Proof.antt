@@ -19,12 +19,12 @@ fired : (m : tie.After-has) → m.has.result
     m.before.before.before.before.args.a
 fired m =
     let a = m.before.before.before.before.args in
-    fires_test a.ps a.used a.a _ m.before.before.before.next_action.ensures _ m.before.before.qualifying.ensures
-    (search rules) _ _ m.before.target.ensures m.has.ensures
+    fires_test a.ps a.used a.a _ m.before.before.before.next_action-x.ensures _ m.before.before.qualifying-s.ensures
+    (search rules) _ _ m.before.target-t.ensures m.has.ensures
 
-kind : (m : tie.After-has) (k : ℕ) (b : Bool) → eqb m.before.before.before.next_action.result.kind k ≡ b
+kind : (m : tie.After-has) (k : ℕ) (b : Bool) → eqb m.before.before.before.next_action-x.result.kind k ≡ b
     → eqb (next_action m.before.before.before.before.args.a).kind k ≡ b
-kind m k b = kind_test _ _ k b m.before.before.before.next_action.ensures
+kind m k b = kind_test _ _ k b m.before.before.before.next_action-x.ensures
 
 pub act_spec : {M : Type 1} → statement M
 unfolding acts
@@ -32,22 +32,22 @@ act_spec =
     tie.close
     (tie.spec
     (λ c κs. search rules) (λ c κs. search rules) (λ c κs. search rules) (λ c κs. search rules)
-    (λ c. let m = c.before.before.before in rw (sym (fired m) ∙ c.before.before.if1.true, kind m 3 true (eq-eqb _ _ c.if2.true)))
+    (λ c. let m = c.before.before.before in rw (sym (fired m) ∙ c.before.before.if-has.true, kind m 3 true (eq-eqb _ _ c.if-x-eq3.true)))
     (λ c.
     let m = c.before.before.before.before.before in
     rw (
-      sym (fired m) ∙ c.before.before.before.before.if1.true,
-      kind m 3 false (ne_eqb _ _ c.before.before.if2.false),
-      kind m 1 true (eq-eqb _ _ c.if3.true),
+      sym (fired m) ∙ c.before.before.before.before.if-has.true,
+      kind m 3 false (ne_eqb _ _ c.before.before.if-x-eq3.false),
+      kind m 1 true (eq-eqb _ _ c.if-x-eq1.true),
     ))
     (λ c κs. search rules)
     (λ c.
     let m = c.before.before.before.before.before.before in
     rw (
-      sym (fired m) ∙ c.before.before.before.before.before.if1.true,
-      kind m 3 false (ne_eqb _ _ c.before.before.before.if2.false),
-      kind m 1 false (ne_eqb _ _ c.before.if3.false),
-      c.place_at.ensures,
+      sym (fired m) ∙ c.before.before.before.before.before.if-has.true,
+      kind m 3 false (ne_eqb _ _ c.before.before.before.if-x-eq3.false),
+      kind m 1 false (ne_eqb _ _ c.before.if-x-eq1.false),
+      c.place_at-p.ensures,
     ))
-    (λ c. let m = c.before.before.before in rw (sym (fired m) ∙ c.before.before.if1.false, kind m 3 true (eq-eqb _ _ c.if4.true)))
-    (λ c. let m = c.before.before.before in rw (sym (fired m) ∙ c.before.before.if1.false, kind m 3 false (ne_eqb _ _ c.if4.false))))
+    (λ c. let m = c.before.before.before in rw (sym (fired m) ∙ c.before.before.if-has.false, kind m 3 true (eq-eqb _ _ c.if-x-eq3-2.true)))
+    (λ c. let m = c.before.before.before in rw (sym (fired m) ∙ c.before.before.if-has.false, kind m 3 false (ne_eqb _ _ c.if-x-eq3-2.false))))

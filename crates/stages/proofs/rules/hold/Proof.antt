@@ -18,36 +18,36 @@ stayed : (m : tie.After-stays) → m.stays.result
     m.before.before.before.before.args.a
 stayed m =
     let a = m.before.before.before.before.args in
-    m.stays.ensures ∙ stays_test a.ps a.used a.a _ m.before.before.before.next_action.ensures _ _ m.before.has.ensures
-    m.before.before.place_at.ensures
+    m.stays.ensures ∙ stays_test a.ps a.used a.a _ m.before.before.before.next_action-x.ensures _ _ m.before.has-u.ensures
+    m.before.before.place_at-h.ensures
     ∙ stays_rowless a.ps a.used a.row a.a
 
 -- the new place of a release
-returns : tie.Need-returns
+returns : tie.Need-returns-then-x-eq4
 unfolding holds
 returns c =
     let m = c.before.before.before.before.before in
     let a = m.before.before.before.before.args in
     rw (
-      sym (stayed m) ∙ c.before.before.before.before.if1.true,
-      kind_test _ _ 4 true m.before.before.before.next_action.ensures (eq-eqb _ _ c.before.before.if2.true),
+      sym (stayed m) ∙ c.before.before.before.before.if-stays.true,
+      kind_test _ _ 4 true m.before.before.before.next_action-x.ensures (eq-eqb _ _ c.before.before.if-x-eq4.true),
     )
-    (c.put_or_sleep.ensures ∙ ap (puts_or_sleeps a.a) c.before.fresh_number.ensures)
+    (c.put_or_sleep.ensures ∙ ap (puts_or_sleeps a.a) c.before.fresh_number-n.ensures)
 
 -- the choice of any other action
-returns_2 : tie.Need-returns-2
+returns_2 : tie.Need-returns-then-stays
 unfolding holds
 returns_2 c =
     let m = c.before.before.before.before.before.before in
     let a = m.before.before.before.before.args in
-    let e = m.before.before.before.next_action.ensures in
+    let e = m.before.before.before.next_action-x.ensures in
     rw (
-      sym (stayed m) ∙ c.before.before.before.before.before.if1.true,
-      kind_test _ _ 4 false e (ne_eqb _ _ c.before.before.before.if2.false),
+      sym (stayed m) ∙ c.before.before.before.before.before.if-stays.true,
+      kind_test _ _ 4 false e (ne_eqb _ _ c.before.before.before.if-x-eq4.false),
     )
     (c.lock_second.ensures
     ∙ ap (locks_second a.a) (choice_test a.ps a.used a.a _ e _
-    c.before.before.qualifying.ensures a.row a.wish _ c.before.chosen.ensures))
+    c.before.before.qualifying-s.ensures a.row a.wish _ c.before.chosen-q.ensures))
 
 pub hold_spec : {M : Type 1} → statement M
 unfolding holds
@@ -57,4 +57,4 @@ hold_spec =
     (λ c κs. search rules) (λ c κs. search rules) (λ c κs. search rules) (λ c κs. search rules)
     (λ c κs. search rules) (λ c κs. search rules) returns
     (λ c κs. search rules) (λ c κs. search rules) (λ c κs. search rules) returns_2
-    (λ c. rw (sym (stayed c.before) ∙ c.if1.false)))
+    (λ c. rw (sym (stayed c.before) ∙ c.if-stays.false)))

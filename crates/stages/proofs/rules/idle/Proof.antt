@@ -7,4 +7,4 @@ pub idle_spec : {M : Type 1} → statement M
 idle_spec =
     tie.close
     (tie.spec
-    (λ c. rw (eq-eqb _ _ c.if1.true)) (λ c. rw (ne_eqb _ _ c.if1.false)))
+    (λ c. rw (eq-eqb _ _ c.if-s-eq7.true)) (λ c. rw (ne_eqb _ _ c.if-s-eq7.false)))

@@ -17,24 +17,24 @@ lock_second_spec =
     (tie.spec
     (λ c κs. search rules)
     (λ c.
-    let e = c.before.before.next_action.ensures in
+    let e = c.before.before.next_action-x.ensures in
     rw (
-      lt-ltb _ _ c.before.before.before.if1.true,
-      kind_test _ _ 3 true e (eq-eqb _ _ c.if2.true),
-      kind_test _ _ 2 false e (ap (λ (k : ℕ). eqb k 2) c.if2.true),
+      lt-ltb _ _ c.before.before.before.if-q-lt64.true,
+      kind_test _ _ 3 true e (eq-eqb _ _ c.if-x-eq3.true),
+      kind_test _ _ 2 false e (ap (λ (k : ℕ). eqb k 2) c.if-x-eq3.true),
     ))
     (λ c.
-    let e = c.before.before.before.before.next_action.ensures in
+    let e = c.before.before.before.before.next_action-x.ensures in
     rw (
-      lt-ltb _ _ c.before.before.before.before.before.if1.true,
-      kind_test _ _ 3 false e (ne_eqb _ _ c.before.before.if2.false),
-      kind_test _ _ 2 true e (eq-eqb _ _ c.if3.true),
+      lt-ltb _ _ c.before.before.before.before.before.if-q-lt64.true,
+      kind_test _ _ 3 false e (ne_eqb _ _ c.before.before.if-x-eq3.false),
+      kind_test _ _ 2 true e (eq-eqb _ _ c.if-x-eq2.true),
     ))
     (λ c.
-    let e = c.before.before.before.before.next_action.ensures in
+    let e = c.before.before.before.before.next_action-x.ensures in
     rw (
-      lt-ltb _ _ c.before.before.before.before.before.if1.true,
-      kind_test _ _ 3 false e (ne_eqb _ _ c.before.before.if2.false),
-      kind_test _ _ 2 false e (ne_eqb _ _ c.if3.false),
+      lt-ltb _ _ c.before.before.before.before.before.if-q-lt64.true,
+      kind_test _ _ 3 false e (ne_eqb _ _ c.before.before.if-x-eq3.false),
+      kind_test _ _ 2 false e (ne_eqb _ _ c.if-x-eq2.false),
     ))
-    (λ c. rw (le-ltb _ _ c.if1.false)))
+    (λ c. rw (le-ltb _ _ c.if-q-lt64.false)))

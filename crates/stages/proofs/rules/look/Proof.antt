@@ -15,19 +15,19 @@ look_spec =
     tie.close
     (tie.spec
     (λ c κs. search rules)
-    (λ c. rw (kind_tested looks_home _ _ true c.before.before.next_action.ensures (le-leb 3 _ c.if1.true)))
+    (λ c. rw (kind_tested looks_home _ _ true c.before.before.next_action-x.ensures (le-leb 3 _ c.if-x-ge3.true)))
     (λ c κs. search rules) (λ c κs. search rules)
     (λ c.
     let t = c.before.before.before in
     rw (
-      kind_tested looks_home _ _ false t.before.before.next_action.ensures (lt-leb 3 _ t.if1.false),
-      ← c.before.before.has.ensures,
-      sym c.before.linked.ensures ∙ c.if2.true,
+      kind_tested looks_home _ _ false t.before.before.next_action-x.ensures (lt-leb 3 _ t.if-x-ge3.false),
+      ← c.before.before.has-u.ensures,
+      sym c.before.linked.ensures ∙ c.if-linked.true,
     ))
     (λ c.
     let t = c.before.before.before in
     rw (
-      kind_tested looks_home _ _ false t.before.before.next_action.ensures (lt-leb 3 _ t.if1.false),
-      ← c.before.before.has.ensures,
-      sym c.before.linked.ensures ∙ c.if2.false,
+      kind_tested looks_home _ _ false t.before.before.next_action-x.ensures (lt-leb 3 _ t.if-x-ge3.false),
+      ← c.before.before.has-u.ensures,
+      sym c.before.linked.ensures ∙ c.if-linked.false,
     )))

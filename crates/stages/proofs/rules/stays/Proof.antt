@@ -8,5 +8,5 @@ pub stays_spec : {M : Type 1} → statement M
 stays_spec =
     tie.close
     (tie.spec
-    (λ c κs. search rules) (λ c. rw (le-leb 3 _ c.if1.true))
-    (λ c. rw (lt-leb 3 _ c.before.if1.false) c.Linked-to.ensures))
+    (λ c κs. search rules) (λ c. rw (le-leb 3 _ c.if-kind-ge3.true))
+    (λ c. rw (lt-leb 3 _ c.before.if-kind-ge3.false) c.linked_to.ensures))

@@ -9,6 +9,6 @@ unfolding travels
 travel_spec =
     tie.close
     (tie.spec
-    (λ c. rw (eq-eqb _ _ c.if1.true))
-    (λ c. rw (ne_eqb _ _ c.before.before.if1.false, eq-eqb _ _ c.if2.true))
-    (λ c. rw (ne_eqb _ _ c.before.before.if1.false, ne_eqb _ _ c.if2.false)))
+    (λ c. rw (eq-eqb _ _ c.if-a-eq4.true))
+    (λ c. rw (ne_eqb _ _ c.before.before.if-a-eq4.false, eq-eqb _ _ c.if-a-eq5.true))
+    (λ c. rw (ne_eqb _ _ c.before.before.if-a-eq4.false, ne_eqb _ _ c.if-a-eq5.false)))
