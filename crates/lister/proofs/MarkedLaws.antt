@@ -1,6 +1,6 @@
 -- Texts in byte order have as many bytes as they had before. Assumes nothing.
 -- Idea: every text adds its bytes and a bar, but for the first.
-use Rattle.std.specs.Prelude.{◌≡◌, refl, Bool, cond, List, [], ◌∷◌, ◌++◌, ℕ, ◌+◌, ◌-◌, ◌<◌, length, eqb}
+use Rattle.std.specs.Prelude.{◌≡◌, refl, Bool, cond, List, [], ◌∷◌, ◌++◌, ℕ, ◌+◌, ◌-◌, ◌<◌, length}
 use Rattle.std.proofs.Common.{sym, ap, ◌∙◌, arith, length-append, ne_eqb}
 use Rattle.table.specs.Base.{tab}
 use Rattle.table.proofs.BaseLaws.{Told, yea, nay, told}

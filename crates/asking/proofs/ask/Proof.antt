@@ -16,8 +16,8 @@ returns c =
     let sees = d.before.before in
     let v = sees.before in
     let s = v.args in
-    told_of s.c _ _ _ _ c.asked.ensures woke.waking.ensures
-    ∙ ap₂ (asked_of s.c) (ap (λ (w : Seen). w.agent) sees.see.ensures) (d.decide.ensures ∙ ap (λ (w : Seen). decided w s.c s.agent s.wish) sees.see.ensures)
+    told_of s.c _ _ _ _ c.asked.ensures woke.waking-n.ensures
+    ∙ ap₂ (asked_of s.c) (ap (λ (w : Seen). w.agent) sees.see-s.ensures) (d.decide-d.ensures ∙ ap (λ (w : Seen). decided w s.c s.agent s.wish) sees.see-s.ensures)
     ∙ decided_ask s.c (sized s.c v.well_formed.0) s.agent s.wish
 
 pub ask_spec : {M : Type 1} → statement M

@@ -10,5 +10,5 @@ unfolding made_if turned_away
 made_if_spec =
     tie.close
     (tie.spec
-    (λ c κs. search rules) (λ c. rw c.before.if1.true c.carry_out.ensures)
-    (λ c. rw c.if1.false))
+    (λ c κs. search rules) (λ c. rw c.before.if-same.true c.carry_out.ensures)
+    (λ c. rw c.if-same.false))

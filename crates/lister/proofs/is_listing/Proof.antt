@@ -8,7 +8,7 @@ use Rattle.lister.proofs.DrawnLaws.{drawn_short}
 use Rattle.lister.proofs.is_listing.Statement.{statement}
 use Rattle.lister.proofs.is_listing.Tie as tie
 
-is_floor_requires : tie.Need-is-floor-requires
+is_floor_requires : tie.Need-is_floor-requires
 is_floor_requires c κs =
     let f = c.before.before.before.before.before.before.before.before.before.before.before.before.before.before in
     let d = c.before.before.before.before.before.before.lay.ensures in

@@ -15,19 +15,19 @@ use Rattle.lister.proofs.write_bar.Statement.{statement}
 use Rattle.lister.proofs.write_bar.Tie as tie
 
 -- there is room for it
-there : (c : tie.Else1) → Fits (32 ∷ 124 ∷ 32 ∷ []) c.before.args.at c.before.args.buf.now
+there : (c : tie.Else-at-from) → Fits (32 ∷ 124 ∷ 32 ∷ []) c.before.args.at c.before.args.buf.now
 unfolding tab
-there c = fits_as (ap (λ (z : Bool). cond z [] bar) (ne_eqb _ _ c.if1.false)) c.before.requires
+there c = fits_as (ap (λ (z : Bool). cond z [] bar) (ne_eqb _ _ c.if-at-from.false)) c.before.requires
 
-written : tie.Need-returns-2
+written : tie.Need-returns
 unfolding tab
-written c = rw (ne_eqb _ _ c.if1.false) (stores (32 ∷ 124 ∷ 32 ∷ []) (there c))
+written c = rw (ne_eqb _ _ c.if-at-from.false) (stores (32 ∷ 124 ∷ 32 ∷ []) (there c))
 
 pub write_bar_spec : {M : Type 1} → statement M
 write_bar_spec =
     tie.close
     (tie.spec
-    (λ c. rw (eq-eqb _ _ c.if1.true) (begun c.before.requires.placed))
+    (λ c. rw (eq-eqb _ _ c.if-at-from.true) (begun c.before.requires.placed))
     (λ c. let h : 3 ≤ length c.before.args.buf.now = (there c).room in omega arith)
     (λ c. let h : 3 ≤ length c.before.args.buf.now = (there c).room in simp length-set (omega arith))
     (λ c. let h : 3 ≤ length c.before.args.buf.now = (there c).room in simp length-set (omega arith))

@@ -21,11 +21,11 @@ returns c =
     let sees = d.before.before in
     let v = sees.before in
     let s = v.args in
-    let is : d.decide.result ≡ decided (seen_of s.c s.agent) s.c s.agent s.wish =
-    d.decide.ensures ∙ ap (λ (w : Seen). decided w s.c s.agent s.wish) sees.see.ensures in
+    let is : d.decide-d.result ≡ decided (seen_of s.c s.agent) s.c s.agent s.wish =
+    d.decide-d.ensures ∙ ap (λ (w : Seen). decided w s.c s.agent s.wish) sees.see-s.ensures in
     c.made_if.ensures
     ∙ ap₂ (λ (y : Bool) (e : Decision). made_if y s.c s.agent e)
-    (c.before.hands_back.ensures ∙ ap (λ (b : Asked). hands_back b s.answer) (told_of s.c _ _ _ _ c.before.before.asked.ensures woke.waking.ensures ∙ ap₂ (asked_of s.c) (ap (λ (w : Seen). w.agent) sees.see.ensures) is)) is
+    (c.before.hands_back-same.ensures ∙ ap (λ (b : Asked). hands_back b s.answer) (told_of s.c _ _ _ _ c.before.before.asked-t.ensures woke.waking-n.ensures ∙ ap₂ (asked_of s.c) (ap (λ (w : Seen). w.agent) sees.see-s.ensures) is)) is
     ∙ made_handed s.c (sized s.c v.well_formed.0) s.agent s.wish s.answer
 
 pub handed_spec : {M : Type 1} → statement M

@@ -10,22 +10,22 @@ use Rattle.lister.proofs.RowLaws.{row_laid}
 use Rattle.lister.proofs.agents.write_agent.Statement.{statement}
 use Rattle.lister.proofs.agents.write_agent.Tie as tie
 
-write_row_requires : tie.Need-write-row-requires
+write_row_requires : tie.Need-write_row-requires
 write_row_requires c κs =
     let f = c.before.before.before.before.before in
     let a = f.args in
-    let e = c.before.least.ensures in (
+    let e = c.before.least-end.ensures in (
       omega (arith, f.requires.0),
       (
         (least_le _ _ _ e).1,
-        fits_as (sym (row_laid a.kinds.now a.numbers.now (16 * a.x) (get_or a.bounds.now a.x 0) c.before.before.index.ensures.0 e)) f.requires.1,
+        fits_as (sym (row_laid a.kinds.now a.numbers.now (16 * a.x) (get_or a.bounds.now a.x 0) c.before.before.index-b.ensures.0 e)) f.requires.1,
       ),
     )
 
 returns : tie.Need-returns
 returns c =
     let a = c.before.before.before.before.before.before.before.before.args in
-    wrote_as (row_laid a.kinds.now a.numbers.now (16 * a.x) (get_or a.bounds.now a.x 0) c.before.before.before.before.before.index.ensures.0 c.before.before.before.before.least.ensures) c.before.before.write_row.ensures
+    wrote_as (row_laid a.kinds.now a.numbers.now (16 * a.x) (get_or a.bounds.now a.x 0) c.before.before.before.before.before.index-b.ensures.0 c.before.before.before.before.least-end.ensures) c.before.before.write_row.ensures
 
 pub write_agent_spec : {M : Type 1} → statement M
 write_agent_spec =

@@ -13,7 +13,7 @@ use Rattle.lister.proofs.names.write_head.Tie as tie
 
 returns : tie.Need-returns
 unfolding head_text tab
-returns c = stored 91 c.before.before.write_name.ensures c.before.before.before.before.before.requires refl
+returns c = stored 91 c.before.before.write_name-mid.ensures c.before.before.before.before.before.requires refl
 
 pub write_head_spec : {M : Type 1} → statement M
 unfolding head_text tab
@@ -21,11 +21,11 @@ write_head_spec =
     tie.close
     (tie.spec
     (λ c κs. fits_first (name_text (unpacked_of c.before.before.args.word)) (91 ∷ []) c.before.before.requires)
-    (λ c. omega (arith, fits_exactly (fits_first (name_text (unpacked_of c.before.before.before.before.before.args.word)) (91 ∷ []) c.before.before.before.before.before.requires) c.before.before.write_name.ensures))
-    (λ c. store_in 91 c.before.before.write_name.ensures c.before.before.before.before.before.requires refl)
+    (λ c. omega (arith, fits_exactly (fits_first (name_text (unpacked_of c.before.before.before.before.before.args.word)) (91 ∷ []) c.before.before.before.before.before.requires) c.before.before.write_name-mid.ensures))
+    (λ c. store_in 91 c.before.before.write_name-mid.ensures c.before.before.before.before.before.requires refl)
     (λ c. omega (
       arith,
-      fits_exactly (fits_first (name_text (unpacked_of c.before.before.before.before.before.args.word)) (91 ∷ []) c.before.before.before.before.before.requires) c.before.before.write_name.ensures,
+      fits_exactly (fits_first (name_text (unpacked_of c.before.before.before.before.before.args.word)) (91 ∷ []) c.before.before.before.before.before.requires) c.before.before.write_name-mid.ensures,
       length-append (name_text (unpacked_of c.before.before.before.before.before.args.word)) (91 ∷ []),
       c.before.before.before.before.before.requires.room,
       c.before.before.before.before.before.requires.placed,

@@ -7,4 +7,4 @@ use Rattle.lister.proofs.parts.same_eight.Tie as tie
 pub same_eight_spec : {M : Type 1} → statement M
 same_eight_spec =
     tie.close
-    (tie.spec (λ c κs. search rules) (λ c κs. search rules) (λ c. eight_alike _ _ _ c.before.eight.ensures c.eight2.ensures))
+    (tie.spec (λ c κs. search rules) (λ c κs. search rules) (λ c. eight_alike _ _ _ c.before.eight.ensures c.eight-2.ensures))

@@ -8,4 +8,4 @@ pub above_spec : {M : Type 1} → statement M
 above_spec =
     tie.close
     (tie.spec
-    (λ c. rw (eq-eqb _ _ c.if1.true)) (λ c κs. search rules) (λ c. rw (ne_eqb _ _ c.before.if1.false) c.wide.ensures.0))
+    (λ c. rw (eq-eqb _ _ c.if-q-eq0.true)) (λ c κs. search rules) (λ c. rw (ne_eqb _ _ c.before.if-q-eq0.false) c.wide.ensures.0))

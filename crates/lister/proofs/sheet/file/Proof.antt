@@ -24,7 +24,7 @@ pub file_spec : {M : Type 1} → statement M
 file_spec =
     tie.close
     (tie.spec
-    (λ c. omega (arith, c.if1.true)) (λ c. omega (arith, c.if1.true)) (λ c κs. search rules)
-    (λ c. omega (arith, c.before.before.if1.true)) (λ c. omega (arith, c.before.before.if1.true))
-    (λ c. put_there _ _ _ _ c.before.before.if1.true c.insert.ensures)
-    (λ c. nowhere _ _ _ c.if1.false))
+    (λ c. omega (arith, c.if-p-lt64.true)) (λ c. omega (arith, c.if-p-lt64.true)) (λ c κs. search rules)
+    (λ c. omega (arith, c.before.before.if-p-lt64.true)) (λ c. omega (arith, c.before.before.if-p-lt64.true))
+    (λ c. put_there _ _ _ _ c.before.before.if-p-lt64.true c.insert-t.ensures)
+    (λ c. nowhere _ _ _ c.if-p-lt64.false))

@@ -1,0 +1,11 @@
+-- Before turn k the text of the actions before k is written.
+use Rattle.std.proofs.Common.{◌≡◌, ◌⊎◌, ◌-◌, ◌≤◌}
+use Rattle.text.specs.Wrote.{Wrote}
+use Rattle.lister.proofs.RowLaws.{text_to}
+use Rattle.lister.proofs.agents.write_row.Given as goal
+
+abbrev pub invariant-loop-k : goal.invariant-loop-k
+invariant-loop-k l = (l.first ≤ l.k) × (((l.k ≤ l.end) ⊎ (l.k ≡ l.first)) × Wrote (text_to l.kinds l.numbers l.row l.first l.end l.k) l.from l.fn.buf l.buf l.at)
+
+abbrev pub decreases-loop-k : goal.decreases-loop-k
+decreases-loop-k l = l.end - l.k
