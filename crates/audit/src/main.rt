@@ -26,6 +26,7 @@ enum Naming {
 
 // Without arguments the names are `cell`, `trail` and `final`; three arguments are the names; anything else is not understood. The
 // program's own name is counted among its arguments.
+#[tactic(auto, unfolding(crate::specs::Names::naming_by))]
 fn naming_by(count: usize) -> Naming
     ensures { result ≡ naming_by count }
 {

@@ -1,5 +1,5 @@
 -- A typed report is not longer than the longest report, and the order's first 32,768 bytes decide it. Assumes nothing.
-use Rattle.std.specs.Prelude.{◌≡◌, true, cond, List, ◌++◌, map, ℕ, ◌+◌, ◌-◌, ◌≤◌, leb, length, take, drop, replicate}
+use Rattle.std.specs.Prelude.{◌≡◌, cond, List, ◌++◌, map, ℕ, ◌-◌, ◌≤◌, leb, length, take, drop, replicate}
 use Rattle.std.proofs.Common.{ap, ◌∙◌, le_refl, arith, length-append, length-take, leb-true}
 use Rattle.std.proofs.lemmas.List.{length-map, length-replicate}
 use Rattle.table.specs.Base.{tab}
@@ -9,7 +9,7 @@ use Rattle.meaning.specs.File.{Load, accepted, refused}
 use Rattle.meaning.specs.Report.{refused_line, calls_in}
 use Rattle.language.specs.Grammar.{Text}
 use Rattle.language.specs.Read.{read_text}
-use Rattle.language.proofs.Answers.{Answers, too_many, outside, answers}
+use Rattle.language.proofs.Answers.{Answers, says_too_many, outside, answers}
 use Rattle.language.specs.TypedReport.{line_of, most_shown, shown_before, shown, shown_from, window, caret_line, pointed, typed_of, typed_report}
 use Rattle.text.specs.Wrote.{Wrote}
 use Rattle.lengths.specs.Longest.{longest_report}
@@ -57,7 +57,7 @@ answer_longest line (refused number offset) a order bytes =
     omega (arith, length-append (refused_line number offset) (pointed line offset), refused_length number offset, pointed_length line offset (within a))
   where
     within : {n i : ℕ} → Answers line (refused n i) → i ≤ length line
-    within (too_many c e t) = le_refl (length line)
+    within (says_too_many c e t) = le_refl (length line)
     within (outside i n v) = v.within
 
 -- the typed report of an order of bytes, on every file

@@ -11,7 +11,6 @@ use Rattle.table.specs.declared.Action.{Action}
 use Rattle.table.specs.declared.Agent.{Agent}
 use Rattle.table.specs.declared.Name.{Name}
 use Rattle.table.specs.declared.Place.{Place}
-use Rattle.meaning.specs.Calculus.{Tree}
 use Rattle.meaning.specs.Plain.{tree_of}
 
 -- a test that no number from 64 on passes

@@ -1,7 +1,7 @@
 // Checking a trail: the file is loaded, each move of the trail is made on the table, and the listing at the end is compared.
 //
 // No lock is taken and no stage is read. An enter and an exit are two stores into the table; an opening and a release are one call of
-// `moves::shift`, whose time is bounded by the 64 places and agents.
+// `moving::shift_lent`, whose time is bounded by the 64 places and agents.
 
 #![tactic(auto)]
 
@@ -10,12 +10,16 @@ mod rules;
 mod turns;
 
 ghost use Rattle.std.specs.Prelude.{◌≡◌, ◌≢◌, ◌*◌, ◌%◌, ◌≤◌, length};
+ghost use Rattle.table.specs.Cell.{bare_table, cell_of};
 ghost use Rattle.meaning.specs.declared.Verdict.TheVariants.{Accepted};
+ghost use Rattle.meaning.specs.File.{load_of};
+ghost use Rattle.meaning.specs.Listing.{listing};
+ghost use Rattle.text.specs.Same.{same_text};
 ghost use Rattle.trail.specs.Trail.{finding};
 ghost use Rattle.checker.specs.OnTable.{Ready, Stops, Plays, FoundAnyway};
 
 use making::make;
-use meaning::Verdict;
+use meaning::{Loaded, Verdict};
 use table::Cell;
 use trail::Finding;
 use turns::{count_used, turn_of};
@@ -42,6 +46,7 @@ pub struct Played {
 }
 
 // So many moves of a trail, made from a loaded table as far as they are allowed.
+#[inline(never)]
 fn run(c: Cell, trail: &[u8], moves: usize) -> Played
     requires { Ready c × (2 * moves ≤ length trail.now) }
     ensures { (result.verdict ≡ Accepted) × Stops c trail.now moves result }
@@ -77,8 +82,7 @@ fn run(c: Cell, trail: &[u8], moves: usize) -> Played
                 d.agents[k].next = next;
             }
             Turn::Shift => {
-                let e = make(d, x, a, b);
-                d = e;
+                d = make(d, x, a, b);
             }
         }
         n += 1;
@@ -91,14 +95,32 @@ fn run(c: Cell, trail: &[u8], moves: usize) -> Played
     }
 }
 
+// The cell file loaded, from a bare floor. A function of its own, like the next two, so that its copies of the table have left the stack when
+// it returns.
+#[inline(never)]
+fn load(file: &[u8]) -> Loaded
+    ensures { result ≡ load_of bare_table file.now }
+{
+    let c = table::bare();
+    reader::load(c, file)
+}
+
+// Whether a text is the listing of a cell.
+#[inline(never)]
+fn is_listing(c: Cell, text: &[u8]) -> bool
+    ensures { result ≡ same_text text.now (listing (cell_of c)) }
+{
+    lister::is_listing(c, text)
+}
+
 // The file loaded, and so many moves of a trail made. Two functions call it, so it is compiled as a function of its own, and its copies
 // of the table have left the stack when the listing is written.
+#[inline(never)]
 fn play(file: &[u8], trail: &[u8], moves: usize) -> Played
     requires { 2 * moves ≤ length trail.now }
     ensures { Plays file.now trail.now moves result }
 {
-    let c = table::bare();
-    let l = reader::load(c, file);
+    let l = load(file);
     let v = l.verdict;
     let d = l.cell;
     match v {
@@ -138,7 +160,7 @@ fn judge_even(file: &[u8], trail: &[u8], text: &[u8]) -> Finding
                 return Finding::Denied(p.made, p.reason);
             }
             let d = p.cell;
-            if lister::is_listing(d, text) {
+            if is_listing(d, text) {
                 return Finding::Upheld;
             }
             Finding::Denied(p.made, 4)

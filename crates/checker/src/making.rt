@@ -21,12 +21,14 @@ fn motion_of(used: Set, a: Agent) -> Motion
 }
 
 // The table after agent x, which is a, opens the place b or releases: it stands at its own place and has chosen b.
+#[inline(never)]
 pub(super) fn make(c: Cell, x: u8, a: Agent, b: u8) -> Cell
     ensures { result ≡ made_on c x a b }
 {
     let used = c.used;
     let o = at_stage(a, 3, a.home, b);
     let m = motion_of(used, a);
-    let s = moves::shift(c, x, o, m);
-    s.cell
+    let mut d = c;
+    let _answer = moving::shift_lent(&mut d, x, o, m);
+    d
 }

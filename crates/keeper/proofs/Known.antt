@@ -1,14 +1,11 @@
 -- What a call whether all agents are asleep or done answers, told whether the table is sound and whether they are: `idle_of` is the case where it was told the truth.
-use Rattle.std.specs.Prelude.{◌≡◌, Bool, cond}
+use Rattle.std.specs.Prelude.{◌≡◌, Bool}
 use Rattle.std.proofs.Common.{ap₂}
 use Rattle.table.specs.Cell.{cell_of}
 use Rattle.table.specs.Sound.{sound}
 use Rattle.table.specs.Idle.{idle}
 use Rattle.table.specs.declared.Cell.{Cell}
 use Rattle.meaning.specs.Codes.{idle_of}
-use Rattle.meaning.specs.Refusals.{unsound_table}
-use Rattle.meaning.specs.declared.Idled.{Idled}
-use Rattle.meaning.specs.declared.Idled.TheVariants.{Idle, Busy, Unknown}
 use Rattle.keeper.specs.Known.{known_idle}
 
 -- told the truth of the table, it is the call

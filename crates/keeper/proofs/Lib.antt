@@ -1,2 +1,1 @@
-pub mod LentWindow
 pub mod Known

@@ -1,5 +1,6 @@
 // What a step, an ask and a commit read in a lent cell, and what they store there.
 ghost use Rattle.std.specs.Prelude.{◌≡◌};
+ghost use Rattle.table.specs.Bounds.{Sized};
 ghost use Rattle.table.specs.Cell.{cell_of};
 ghost use Rattle.meaning.specs.declared.Answer.TheVariants.{Did};
 ghost use Rattle.soundness.specs.Seen.{seen_of};
@@ -31,7 +32,8 @@ fn changed(cell: &Cell, a: Agent, wish: u8) -> Change
 
 // What a call for this agent with this wish does to a lent cell.
 pub(super) fn decided(cell: &Cell, agent: u8, wish: u8) -> Decision
-    ensures { result ≡ decided_of (seen_of cell.now agent) cell.now agent wish }
+    ensures decision { result ≡ decided_of (seen_of cell.now agent) cell.now agent wish }
+    ensures sizes { Sized cell.now }
 {
     let s = sound_lent(cell);
     let own = at(agent);

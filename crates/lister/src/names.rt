@@ -75,6 +75,7 @@ fn write_name(word: u64, at: usize, buf: &mut [u8]) -> usize
 }
 
 // The name in a word, and the bracket that opens the contents.
+#[inline(never)]
 pub(super) fn write_head(word: u64, at: usize, buf: &mut [u8]) -> usize
     requires { Fits (head_text (unpacked_of word)) at buf.old }
     ensures { Wrote (head_text (unpacked_of word)) at buf.old buf.new result }

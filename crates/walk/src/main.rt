@@ -29,6 +29,7 @@ enum Naming {
 
 // Without arguments the names are `cell` and `order`; two arguments are the names, unless the first is the option; so are the two
 // after the option; anything else is not understood. The program's own name is counted among its arguments.
+#[tactic(auto, unfolding(crate::specs::Names::naming_by))]
 fn naming_by(count: usize, option: bool) -> Naming
     ensures { result ≡ naming_by count option }
 {

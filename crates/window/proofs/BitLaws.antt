@@ -1,9 +1,9 @@
 -- The operators on a byte, by its bits: or sets one, and with the complement clears, and tells whether a bit is shared; and what bits the flags have then.
 -- Assumes nothing.
 -- Idea: two bytes with the same bits are the same; the complement goes by the lowest bit first.
-use Rattle.std.specs.Prelude.{◌≡◌, ◌⊎◌, ◌≢◌, Bool, true, not, ◌&&◌, ◌||◌, ℕ, zero, suc, ◌+◌, ◌*◌, ◌-◌, ◌/◌, ◌%◌, ◌^◌, ◌≤◌, ◌<◌, eqb}
+use Rattle.std.specs.Prelude.{◌≡◌, ◌⊎◌, ◌≢◌, Bool, true, not, ◌&&◌, ◌||◌, ℕ, zero, suc, ◌-◌, ◌/◌, ◌%◌, ◌^◌, ◌<◌, eqb}
 use Rattle.std.proofs.Math.Path.{refl}
-use Rattle.std.proofs.Common.{sym, ap, ap₂, ◌∙◌, subst, inl, inr, pow-suc, le_of_suc-le-suc, not-suc-le-zero, arith, lit<}
+use Rattle.std.proofs.Common.{sym, ap, ◌∙◌, inl, inr, pow-suc, le_of_suc-le-suc, not-suc-le-zero, arith}
 use Rattle.std.proofs.Math.Bool.{false, or_comm}
 use Rattle.std.specs.Int.Bits.{bit_and, bit_or, and_lt}
 use Rattle.std.proofs.lemmas.Nat.{or_lt, and_shr, and_mod}
@@ -11,7 +11,7 @@ use Rattle.std.proofs.Math.Pow.{pow-lt}
 use Rattle.sets.specs.Word.{bit, has, word_of}
 use Rattle.sets.proofs.WordLaws.{two_cases, has_zero, has_suc, word_ext, word_has, has_word, has_or, has_none, has_pow}
 use Rattle.table.specs.Base.{any_below}
-use Rattle.table.proofs.BaseLaws.{Told, yea, nay, told, clash, any_at, any_found, any_ext}
+use Rattle.table.proofs.BaseLaws.{Told, yea, nay, told, clash, any_at, any_found}
 use Rattle.window.specs.Window.{with_flag, cleared, shares}
 
 -- ---- or

@@ -1,8 +1,8 @@
 -- The window after a step is told by the number of the step's answer; and what a command comes to.
 -- Idea: a step wakes at most 64 and is refused with 10 or 11, so that word, number woken and refusal are read off the number.
 -- Assumes nothing.
-use Rattle.std.specs.Prelude.{◌≡◌, refl, ◌≢◌, Bool, true, false, cond, ℕ, ◌+◌, ◌*◌, ◌/◌, ◌%◌, ◌≤◌, ◌<◌, eqb, ltb, leb}
-use Rattle.std.proofs.Common.{sym, ap, ap₂, ◌∙◌, arith, lit<, ne_eqb, eq-eqb}
+use Rattle.std.specs.Prelude.{◌≡◌, ◌≢◌, Bool, true, false, cond, ℕ, ◌+◌, ◌*◌, ◌/◌, ◌%◌, ◌≤◌, ◌<◌, eqb, ltb, leb}
+use Rattle.std.proofs.Common.{ap, ap₂, ◌∙◌, arith, lit<, ne_eqb, eq-eqb}
 use Rattle.sets.proofs.WordLaws.{count_most}
 use Rattle.table.proofs.BaseLaws.{Told, yea, nay, told}
 use Rattle.table.specs.Cell.{State, cell_of, none, fresh_number, linked, looks_home, kind_of, open_kind, release_kind}
@@ -15,14 +15,12 @@ use Rattle.meaning.specs.declared.Word.{Word}
 use Rattle.meaning.specs.declared.Word.TheVariants.{Looked, Took, Held, Back, Slept, Left, Came, Opened, Put, Asleep, Done}
 use Rattle.meaning.specs.declared.Answer.{Answer}
 use Rattle.meaning.specs.declared.Answer.TheVariants.{Did, Refused}
-use Rattle.meaning.specs.declared.Stepped.{Stepped}
 use Rattle.meaning.specs.Codes.{word_number, above, step_number}
 use Rattle.meaning.specs.Step.{Outcome, stays, fires, choice, still, turn, take, release, look, lock_first, put, put_or_sleep, lock_second, hold, leave, dissolve, act, arrive, travel, step_at, step}
 use Rattle.meaning.specs.Run.{made, turned_away, step_of}
 use Rattle.window.specs.declared.Window.{Window}
-use Rattle.window.specs.declared.Commanded.{Commanded}
 use Rattle.window.specs.Window.{refused_flag, refused_base, with_flag, with_answer, lined, step_window, command_of}
-use Rattle.window.specs.Noted.{did_of, refused_of, noted_of}
+use Rattle.window.specs.Noted.{did_of, noted_of}
 
 -- ---- a step wakes at most 64
 

@@ -5,7 +5,7 @@ use Rattle.std.specs.Prelude.{◌≡◌, refl, [], ℕ}
 use Rattle.std.proofs.Common.{sym, ap, ◌∙◌}
 use Rattle.table.specs.declared.Cell.{Cell}
 use Rattle.window.specs.declared.Window.{Window}
-use Rattle.window.specs.Window.{with_answer, with_flags, with_line, lined, cleared, command_of, clear_of}
+use Rattle.window.specs.Window.{with_answer, with_flags, with_line, lined, command_of, clear_of}
 use Rattle.window.specs.Session.{CardsKept, commands, acted, session}
 use Rattle.window.proofs.SessionLaws.{session_right}
 

@@ -10,4 +10,4 @@ keeper_audit_spec =
     tie.close
     (tie.spec
     (λ c κs. search rules) (λ c κs. search rules)
-    (λ c. c.finding_number.ensures ∙ ap finding_number c.before.check_trail.ensures))
+    (λ c. c.finding_number.ensures ∙ ap finding_number c.before.check_trail-found.ensures))

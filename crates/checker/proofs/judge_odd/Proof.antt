@@ -9,8 +9,6 @@ use Rattle.checker.proofs.judge_odd.Tie as tie
 pub judge_odd_spec : {M : Type 1} → statement M
 judge_odd_spec = tie.close (tie.spec
     (λ c κs. omega arith) (λ c. search rules) (λ c. search rules)
-    (λ c. let p = c.before.before in
-    let f = p.before.before.before in
-    let g = p.play.ensures.good c.enum_told.given.1 in
-    λ text. odd_found g.0 f.args.trail.now text f.requires ∙ g.1.0 f.args.trail.now text)
-    (λ c. c.before.before.before.play.ensures.bad _ _ c.before.v.given.1 _))
+    (λ c. let g = c.play-p.ensures.good c.in-Accepted.is in
+    λ text. odd_found g.0 c.args.trail.now text c.requires ∙ g.1.0 c.args.trail.now text)
+    (λ c. c.play-p.ensures.bad _ _ c.in-Rejected.is _))

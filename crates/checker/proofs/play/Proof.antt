@@ -7,9 +7,8 @@ use Rattle.checker.proofs.play.Tie as tie
 
 pub play_spec : {M : Type 1} → statement M
 play_spec = tie.close (tie.spec
-    (λ c κs. search rules) (λ c κs. search rules) (λ c. search rules)
-    (λ c κs. let l = c.before.before.before in (accepted_ready _ _ l.load.result l.load.ensures c.enum_told.given.1, l.before.before.before.before.requires))
+    (λ c κs. search rules) (λ c. search rules)
+    (λ c κs. (accepted_ready _ _ c.load-l.result c.load-l.ensures c.in-Accepted.is, c.requires))
     (λ c. search rules)
-    (λ c. let l = c.before.before.before.before in
-    plays_on _ _ l.load.result l.load.ensures _ _ _ c.before.enum_told.given.1 c.run.ensures.0 c.run.ensures.1)
-    (λ c. let l = c.before.before.before.before in plays_not _ _ l.load.result l.load.ensures _ _ _ _ _ c.before.v.given.1 refl))
+    (λ c. plays_on _ _ c.load-l.result c.load-l.ensures _ _ _ c.in-Accepted.is c.run.ensures.0 c.run.ensures.1)
+    (λ c. plays_not _ _ c.load-l.result c.load-l.ensures _ _ _ _ _ c.in-Rejected.is refl))

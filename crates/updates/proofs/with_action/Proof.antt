@@ -1,4 +1,5 @@
 -- Where there is room: the action at the count, the count one higher, and looking.
+use native.Mathlib.Omega.{arith}
 use mathlib.Core.Path.{refl}
 use borrow.Author.Rules.{rules}
 use borrow.Author.Tests.{lt-leb}
@@ -7,10 +8,10 @@ use Rattle.meaning.specs.File.{with_action}
 use Rattle.updates.proofs.with_action.Statement.{statement}
 use Rattle.updates.proofs.with_action.Tie as tie
 
-returns : tie.Need-returns-then-g-lt16
-unfolding with_action
-returns c = let t = c.before.before in let a = t.before.before.args in rw (lt-leb 16 a.g.count t.if-g-lt16.true) refl
-
 pub with_action_spec : {M : Type 1} → statement M
 unfolding with_action
-with_action_spec = tie.close (tie.spec (λ c. search rules) (λ c. search rules) (λ c. search rules) (λ c. search rules) returns (λ c. search tests))
+with_action_spec =
+    tie.close
+    (tie.spec
+    (λ c. search rules) (λ c. search rules) (λ c. search rules) (λ c. search rules)
+    (λ c. rw (lt-leb 16 c.args.g.count (omega arith)) refl) (λ c. search tests))

@@ -10,7 +10,7 @@ returns : tie.Need-returns
 returns c =
     let a = c.before.before.before.args in
     c.with_line.ensures
-    ∙ ap (λ (f : ℕ). lined (with_answer a.w a.word a.woken f)) (c.before.with_rest.ensures ∙ ap (with_flag rest_flag a.rest) c.before.before.with_woke.ensures)
+    ∙ ap (λ (f : ℕ). lined (with_answer a.w a.word a.woken f)) (c.before.with_rest.ensures ∙ ap (with_flag rest_flag a.rest) c.before.before.with_woke-f.ensures)
 
 pub did_spec : {M : Type 1} → statement M
 did_spec = tie.close (tie.spec (λ c κs. search rules) (λ c κs. search rules) (λ c κs. search rules) returns)

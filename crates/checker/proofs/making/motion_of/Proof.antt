@@ -12,9 +12,9 @@ motion_of_spec = tie.close (tie.spec
     (λ c κs. search rules)
     (λ c. let n = c.before.before in
     let a = n.before.args in
-    motion_open (member a.used) a.a (sym (ap (λ (y : Action). y.kind) n.next_action.ensures) ∙ c.if1.true))
+    motion_open (member a.used) a.a (sym (ap (λ (y : Action). y.kind) n.next_action-n.ensures) ∙ c.if-n-eq3.true))
     (λ c κs. search rules)
     (λ c. let n = c.before.before.before in
     let a = n.before.args in
-    motion_release (member a.used) a.a (λ e. c.before.if1.false (ap (λ (y : Action). y.kind) n.next_action.ensures ∙ e))
-    c.fresh_number.result c.fresh_number.ensures))
+    motion_release (member a.used) a.a (λ e. c.before.if-n-eq3.false (ap (λ (y : Action). y.kind) n.next_action-n.ensures ∙ e))
+    c.fresh_number-q.result c.fresh_number-q.ensures))

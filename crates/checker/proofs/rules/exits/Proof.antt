@@ -12,7 +12,7 @@ use Rattle.checker.proofs.rules.exits.Tie as tie
 pub exits_spec : {M : Type 1} → statement M
 unfolding may_exit
 exits_spec = tie.close (tie.spec
-    (λ c l e. and_no _ _ (equals c.before.args.h 0 c.if1.true))
+    (λ c l e. and_no _ _ (equals c.before.args.h 0 c.if-h-eq0.true))
     (λ c l e. let a = c.before.before.before.args in
     ap (λ (n : Name). eqb n.exiting a.x.name) (sym e)
-    ∙ and_yes _ _ (eq-eqb (parent_of l a.h) (parent_of l a.h) refl) ∙ and_yes _ _ (differs a.h 0 c.before.before.if1.false)))
+    ∙ and_yes _ _ (eq-eqb (parent_of l a.h) (parent_of l a.h) refl) ∙ and_yes _ _ (differs a.h 0 c.before.before.if-h-eq0.false)))

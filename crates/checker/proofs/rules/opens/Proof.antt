@@ -14,6 +14,6 @@ opens_spec = tie.close (tie.spec
     (λ c κs. search rules)
     (λ c l n. let s = c.before.before.before in
     let a = s.before.args in
-    let there = sym (s.stands.ensures l n a.h a.x) ∙ c.before.before.if1.true in
+    let there = sym (s.stands.ensures l n a.h a.x) ∙ c.before.before.if-stands.true in
     ap (λ (m : Name). eqb m.opening a.x.name) (name_there n a.h a.x a.h there) ∙ and_yes _ _ there)
-    (λ c l n. let s = c.before in and_no _ _ (sym (s.stands.ensures l n s.before.args.h s.before.args.x) ∙ c.if1.false)))
+    (λ c l n. let s = c.before in and_no _ _ (sym (s.stands.ensures l n s.before.args.h s.before.args.x) ∙ c.if-stands.false)))

@@ -8,5 +8,5 @@ use Rattle.checker.proofs.turns.count_used.Tie as tie
 pub count_used_spec : {M : Type 1} → statement M
 count_used_spec = tie.close (tie.spec
     (λ c. search rules)
-    (λ c. sym (rw (lt-ltb c.before.args.next c.before.args.count c.if1.true)))
-    (λ c. sym (rw (le-ltb c.before.args.next c.before.args.count c.if1.false))))
+    (λ c. sym (rw (lt-ltb c.before.args.next c.before.args.count c.if-next-count.true)))
+    (λ c. sym (rw (le-ltb c.before.args.next c.before.args.count c.if-next-count.false))))

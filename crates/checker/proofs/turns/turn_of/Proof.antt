@@ -14,15 +14,15 @@ turn_of_spec = tie.close (tie.spec
     let n = w.before in
     let h = n.before.before in
     let a = h.before.args in
-    let g = sym h.has.ensures ∙ n.before.if1.true in
-    c.turn_by.ensures ∙ turn_allowed t r a.x a.b s g n.next_action.result n.next_action.ensures
-    (sym (w.allowed.ensures (cell_of t).land (seen t r a.x a.b s g)) ∙ c.before.if2.true))
+    let g = sym h.has.ensures ∙ n.before.if-has.true in
+    c.turn_by.ensures ∙ turn_allowed t r a.x a.b s g n.next_action-n.result n.next_action-n.ensures
+    (sym (w.allowed.ensures (cell_of t).land (seen t r a.x a.b s g)) ∙ c.before.if-allowed.true))
     (λ c κs. search rules)
     (λ c t r s. let w = c.before.before in
     let n = w.before in
     let h = n.before.before in
     let a = h.before.args in
-    let g = sym h.has.ensures ∙ n.before.if1.true in
-    ap Deny c.why_not.ensures ∙ turn_denied t r a.x a.b s g n.next_action.result n.next_action.ensures
-    (sym (w.allowed.ensures (cell_of t).land (seen t r a.x a.b s g)) ∙ c.before.if2.false))
-    (λ c t r s. let a = c.before.before.args in turn_absent t r a.x a.b s (sym c.before.has.ensures ∙ c.if1.false)))
+    let g = sym h.has.ensures ∙ n.before.if-has.true in
+    ap Deny c.why_not-why.ensures ∙ turn_denied t r a.x a.b s g n.next_action-n.result n.next_action-n.ensures
+    (sym (w.allowed.ensures (cell_of t).land (seen t r a.x a.b s g)) ∙ c.before.if-allowed.false))
+    (λ c t r s. let a = c.before.before.args in turn_absent t r a.x a.b s (sym c.before.has.ensures ∙ c.if-has.false)))

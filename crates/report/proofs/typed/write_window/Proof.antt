@@ -12,14 +12,14 @@ use Rattle.report.proofs.typed.write_window.Tie as tie
 returns : tie.Need-returns
 returns c =
     let f = c.before.before.before.before.before.before.before.before.before.before.args in
-    wrote_as (ap (map shown) (window_is f.line.now f.place _ _ _ c.before.before.before.before.before.before.before.shown_from.ensures c.before.before.before.before.before.before.least.ensures c.before.before.before.before.before.least2.ensures)) c.before.before.write_shown.ensures
+    wrote_as (ap (map shown) (window_is f.line.now f.place _ _ _ c.before.before.before.before.before.before.before.shown_from-from.ensures c.before.before.before.before.before.before.least-i.ensures c.before.before.before.before.before.least.ensures)) c.before.before.write_shown.ensures
 
 pub write_window_spec : {M : Type 1} → statement M
 write_window_spec =
     tie.close
     (tie.spec
-    (λ c κs. search rules) (λ c κs. search rules) (λ c. (least_le _ _ _ c.least.ensures).1) (λ c κs. search rules)
-    (λ c. omega (arith, (least_le _ _ _ c.least2.ensures).1, (least_le _ _ _ c.before.least.ensures).1, c.before.before.before.before.before.well_formed))
+    (λ c κs. search rules) (λ c κs. search rules) (λ c. (least_le _ _ _ c.least-i.ensures).1) (λ c κs. search rules)
+    (λ c. omega (arith, (least_le _ _ _ c.least.ensures).1, (least_le _ _ _ c.before.least-i.ensures).1, c.before.before.before.before.before.well_formed))
     (λ c. search rules) (λ c. search rules)
-    (λ c. omega (arith, (least_le _ _ _ c.least2.ensures).0, (least_le _ _ _ c.before.least.ensures).1))
+    (λ c. omega (arith, (least_le _ _ _ c.least.ensures).0, (least_le _ _ _ c.before.least-i.ensures).1))
     (λ c κs. search rules) (λ c. wrote_length (returns c)) returns)

@@ -7,5 +7,5 @@ use Rattle.window.proofs.flags.with_woke.Tie as tie
 
 pub with_woke_spec : {M : Type 1} → statement M
 with_woke_spec = tie.close (tie.spec
-    (λ c. let a = c.before.args in rw c.if1.true (or_flag a.flags 0 (search rules) (lit< tt)))
-    (λ c. let a = c.before.args in rw c.if1.false (no_flag a.flags 0 (search rules))))
+    (λ c. let a = c.before.args in rw c.if-b.true (or_flag a.flags 0 (search rules) (lit< tt)))
+    (λ c. let a = c.before.args in rw c.if-b.false (no_flag a.flags 0 (search rules))))

@@ -1,0 +1,8 @@
+-- The number of what is answered, told the truth of the cell.
+use Rattle.std.proofs.Common.{ap, ◌∙◌}
+use Rattle.meaning.specs.Codes.{found_number}
+use Rattle.locating.proofs.KnownLaws.{nearest_told}
+use Rattle.keeper.proofs.exports.keeper_nearest.Goals as goal
+
+pub returns : goal.returns
+returns c = c.numbered_nearest.ensures ∙ ap found_number (nearest_told c.args.cell.now c.args.place c.args.name c.sound_lent-s.result c.sound_lent-s.ensures)
