@@ -28,6 +28,14 @@ five_bytes kind n e = rw e (go (eqb kind 6))
     go true = lit≤ tt
     go false = lit≤ tt
 
+-- and eleven at most
+pub eleven_bytes : (kind n : ℕ) → n ≡ place_length kind → n ≤ 11
+eleven_bytes kind n e = rw e (go (eqb kind 6))
+  where
+    go : (b : Bool) → cond b 11 5 ≤ 11
+    go true = lit≤ tt
+    go false = lit≤ tt
+
 -- ---- the load from an offset on
 
 -- the load from an offset on, with the table d, the full agents, the counted places and those that came so far, comes to the load of the
