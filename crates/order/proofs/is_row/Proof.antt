@@ -14,23 +14,22 @@ invariant_loop order bits seen₀ j₀ seen j = Gathered order seen j
 abbrev decreases_loop : tie.decreases-loop-j
 decreases_loop order bits seen₀ j₀ seen j = 64 - j
 
-returns : tie.Need-returns-then-bits-ge64 invariant_loop decreases_loop
-returns c = large_none _ (sym c.before.bits_of-bits.ensures ∙ le-ltb c.before.bits_of-bits.result 64 c.if-bits-ge64.true)
-
 loop_again : tie.Need-loop-j-preserved invariant_loop decreases_loop
 loop_again c =
     let l = c.before in
     let b = l.before.before in
-    gathered_turn b.before.well_formed.0.1.0.1 (sym b.bits_of-bits.ensures ∙ lt-ltb b.bits_of-bits.result 64 l.before.if-bits-ge64.false) l.loop-j.invariant c.loop-j-test.true
+    gathered_turn b.before.well_formed.0.1.0.1 (sym b.bits_of-bits.ensures ∙ lt-ltb b.bits_of-bits.result 64 (omega arith)) l.loop-j.invariant c.loop-j-test.true
 
-returns_2 : tie.Need-returns invariant_loop decreases_loop
-returns_2 c =
+returns : tie.Need-returns invariant_loop decreases_loop
+returns c =
     let l = c.before in
     let b = l.before.before in
-    gathered_all b.before.well_formed.0.1.0.1 (sym b.bits_of-bits.ensures ∙ lt-ltb b.bits_of-bits.result 64 l.before.if-bits-ge64.false) l.loop-j.invariant c.loop-j-test.false
+    gathered_all b.before.well_formed.0.1.0.1 (sym b.bits_of-bits.ensures ∙ lt-ltb b.bits_of-bits.result 64 (omega arith)) l.loop-j.invariant c.loop-j-test.false
 
 pub is_row_spec : {M : Type 1} → statement M
 is_row_spec =
     tie.close
-    (tie.spec invariant_loop decreases_loop (λ c κs. tt) returns (λ c. gathered_start _) (λ c. omega arith) (λ c. search rules) (λ c. search rules) (λ c. omega arith) (λ c. omega arith)
-    loop_again returns_2)
+    (tie.spec invariant_loop decreases_loop (λ c κs. tt)
+    (λ c. large_none _ (sym c.before.bits_of-bits.ensures ∙ le-ltb c.before.bits_of-bits.result 64 (omega arith)))
+    (λ c. gathered_start _) (λ c. omega arith) (λ c. search rules) (λ c. search rules) (λ c. omega arith) (λ c. omega arith)
+    loop_again returns)

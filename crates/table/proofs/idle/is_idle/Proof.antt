@@ -50,14 +50,6 @@ loop_holds c =
     let x = c.before.args.c in
     tested_start (has x.given.bits) (rests x) x.given (rest_start x.given (sized x c.before.well_formed.0).given)
 
-returns : tie.Need-returns-then-stage-lt7 invariant_loop decreases_loop
-unfolding idle cell_of
-returns c =
-    let l = c.before.before.before.before.before in
-    let x = l.before.before.args.c in
-    sym (tested_stop (has x.given.bits) (rests x) (not_given x) l.loop-rest.invariant (pos_of_ne-zero c.before.before.before.loop-rest-test.true)
-    (ap (rests x) (sym c.before.before.first-i.ensures) ∙ at_rest c.before ∙ lt-leb 7 _ c.if-stage-lt7.true))
-
 loop_less : tie.Need-loop-rest-smaller invariant_loop decreases_loop
 loop_less c =
     let l = c.before.before.before.before.before.loop-rest in
@@ -70,19 +62,25 @@ loop_again c =
     let x = l.before.before.args.c in
     subst (Tested (has x.given.bits) (rests x)) (sym c.before.rest-rest.ensures)
     (tested_more (has x.given.bits) (rests x) (not_given x) l.loop-rest.invariant (pos_of_ne-zero c.before.before.before.loop-rest-test.true)
-    (ap (rests x) (sym c.before.before.first-i.ensures) ∙ at_rest c.before ∙ le-leb 7 _ c.if-stage-lt7.false))
+    (ap (rests x) (sym c.before.before.first-i.ensures) ∙ at_rest c.before ∙ le-leb 7 _ (omega arith)))
 
-returns_2 : tie.Need-returns invariant_loop decreases_loop
+returns : tie.Need-returns invariant_loop decreases_loop
 unfolding idle cell_of
-returns_2 c =
+returns c =
     let l = c.before.before in
     let x = l.before.before.args.c in
     sym (tested_end (has x.given.bits) (rests x) (not_given x) l.loop-rest.invariant c.loop-rest-test.false)
 
 pub is_idle_spec : {M : Type 1} → statement M
+unfolding idle cell_of
 is_idle_spec =
     tie.close
     (tie.spec invariant_loop decreases_loop
     loop_holds (λ c κs. tt) (λ c κs. tt)
     (λ c. let h = small c in omega arith) (λ c. let h = small c in omega arith) (λ c. let h = small c in omega arith)
-    returns loop_less loop_again returns_2)
+    (λ c.
+    let l = c.before.before.before.before.before in
+    let x = l.before.before.args.c in
+    sym (tested_stop (has x.given.bits) (rests x) (not_given x) l.loop-rest.invariant (pos_of_ne-zero c.before.before.before.loop-rest-test.true)
+    (ap (rests x) (sym c.before.before.first-i.ensures) ∙ at_rest c.before ∙ lt-leb 7 _ (omega arith))))
+    loop_less loop_again returns)
