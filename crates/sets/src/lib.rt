@@ -5,9 +5,11 @@
 ghost use Rattle.std.specs.Prelude.{◌≡◌};
 ghost use Rattle.sets.specs.Word.{count_of, lowest_of};
 ghost use Rattle.sets.specs.Set.{member, inserted, inserted_if, removed, united};
+ghost use Rattle.sets.specs.Walk.{TakesLowest};
+ghost use Rattle.std.specs.Iterator.{at_most};
 
 #[repr(C)]
-#[derive(Clone, Copy)]
+#[derive(Clone, Copy, Debug, PartialEq, Eq)]
 pub struct Set {
     pub bits: u64,
 }
@@ -105,5 +107,24 @@ impl Set {
                 bits: self.bits & (self.bits - 1),
             }
         }
+    }
+}
+
+// A walk over a set takes its members, the lowest first.
+impl Iterator for Set {
+    type Item = u8;
+
+    ghost next_gives = { TakesLowest };
+
+    ghost remaining = { λ s. at_most s.bits };
+
+    fn next(&mut self) -> Option<u8> {
+        let left = self.bits;
+        if left == 0 {
+            return None;
+        }
+        let i = self.first();
+        *self = self.rest();
+        Some(i)
     }
 }
