@@ -21,10 +21,10 @@ fn waking(c: Cell, a: Agent, d: Decision) -> u8
     ensures { result ≡ woken_by (cell_of c) a d }
 {
     if d.moves {
-        let m = d.motion;
-        return moves::woken(c, a, m);
+        moving::woken_lent(&c, a, d.motion)
+    } else {
+        0
     }
-    0
 }
 
 // What an ask tells of the step that was decided and would wake so many.
