@@ -1,6 +1,7 @@
 -- The walk over the agents, turn by turn, comes to what soundness asks of them. Assumes nothing.
 -- Idea: before each turn all agents so far fit, which is `Passed`, or the table is not sound and the walk is at its end.
 use Rattle.std.specs.Prelude.{◌≡◌, ◌≢◌, ◌⊎◌, ◌&&◌, cond, ℕ, ◌+◌, ◌%◌, ◌≤◌, ◌<◌, eqb, get_or}
+use Rattle.std.specs.Option.{is_some}
 use Rattle.std.proofs.Math.Path.{refl}
 use Rattle.std.proofs.Common.{sym, ap, ◌∙◌, subst, inr, pos_of_ne-zero, arith}
 use Rattle.std.proofs.Math.Logic.{inl}
@@ -21,10 +22,11 @@ use Rattle.table.specs.declared.Place.{Place}
 use Rattle.table.specs.declared.Cell.{Cell}
 use Rattle.soundness.specs.Pass.{quiet, quiet_fits, busy_fits, lands_fit}
 use Rattle.soundness.specs.Left.{left_of}
+use Rattle.soundness.proofs.LeftLaws.{left_tested}
 use Rattle.soundness.proofs.AgentLaws.{home_out, row_out, second_same, busy_same, quiet_same}
 use Rattle.soundness.proofs.PassLaws.{Passed, passed_are, passed_start, passed_stop, passed_twice, passed_quiet, passed_busy}
 use Rattle.soundness.proofs.SoundLaws.{lands_same}
-use Rattle.soundness.specs.Turn.{standing_at, stopped_of, start_of, still_with, busy_with, glance_of, second_of, passed_of, busy_of, Walked, tell_of}
+use Rattle.soundness.specs.Turn.{standing_at, stopped_of, start_of, still_with, busy_with, glance_of, second_of, passed_of, busy_of, Walked}
 use Rattle.soundness.specs.declared.turns.Walk.{Walk}
 use Rattle.soundness.specs.declared.turns.Sight.{Sight}
 
@@ -271,6 +273,6 @@ module _ (c : Cell) (z : Words c) where
 -- ---- the whole
 
 -- the places, the touches and the row decide
-pub tell_sound : (c : Cell) (b : Bool) → b ≡ core_sound (cell_of c) → tell_of b (left_of c.touches c.used) c.order ≡ sound (cell_of c)
-unfolding sound books_sound left_of touch_sum cell_of
-tell_sound c b e = ap (λ (b : Bool). b && ((left_of c.touches c.used).fits && row_fits c.order)) e
+pub sound_seen : (c : Cell) → (core_sound (cell_of c) && (is_some (left_of c.touches c.used) && row_fits c.order)) ≡ sound (cell_of c)
+unfolding sound books_sound touch_sum cell_of
+sound_seen c = rw left_tested

@@ -1,19 +1,17 @@
 -- The walk over the agents as the program goes about it, one turn at a time: what the agents before said, what the next one says by itself, and
 -- what they say together then.
-use Rattle.std.specs.Prelude.{ℕ, ◌%◌, ◌≡◌, Bool, true, false, ◌&&◌, cond, List, eqb}
+use Rattle.std.specs.Prelude.{ℕ, ◌%◌, ◌≡◌, Bool, true, false, ◌&&◌, cond, eqb}
 use Rattle.sets.specs.Word.{has}
 use Rattle.sets.specs.Set.{member, inserted, removed}
 use Rattle.sets.specs.Set.{empty_set}
 use Rattle.sets.specs.Walk.{lowest_in}
 use Rattle.sets.specs.declared.Set.{Set}
-use Rattle.order.specs.Row.{row_fits}
 use Rattle.table.specs.Cell.{has_action, kind_of, cell_of}
 use Rattle.table.specs.Sound.{actions_fit, remembers, ready, holds_both, first_held, second_held, going_from, core_sound}
 use Rattle.table.specs.declared.Agent.{Agent}
 use Rattle.table.specs.declared.Place.{Place}
 use Rattle.table.specs.declared.Cell.{Cell}
 use Rattle.soundness.specs.Pass.{quiet, quiet_fits, lock_is_at, linked_at, busy_fits, lands_fit}
-use Rattle.soundness.specs.declared.touches.Left.{Left}
 use Rattle.soundness.specs.declared.turns.Walk.{Walk}
 use Rattle.soundness.specs.declared.turns.Sight.{Sight}
 
@@ -91,7 +89,3 @@ core c w = w.fit && lands_fit c.places c.locks c.used w.claimed w.going
 -- after all agents the places decide
 abbrev pub Walked : Cell → Walk → Type 0
 Walked c w = core c w ≡ core_sound (cell_of c)
-
--- and then the touches and the row
-abbrev pub tell_of : Bool → Left → List ℕ → Bool
-tell_of fit left row = fit && (left.fits && row_fits row)

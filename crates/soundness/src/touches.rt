@@ -7,34 +7,13 @@ use sets::Set;
 // The largest sum of touches in a sound table.
 const MOST: u64 = 1000000000000;
 
-// Whether the touches sum to at most that, and how many more may come.
-#[derive(Clone, Copy)]
-pub struct Left {
-    pub fits: bool,
-    pub room: u64,
-}
-
-// What is left for touches beside those of the places in use.
-pub fn touches_left(ts: &[u64; 64], used: Set) -> Left
+// How many touches may still come beside those of the places in use; none where these pass the bound.
+pub fn touches_left(ts: &[u64; 64], used: Set) -> Option<u64>
     ensures { result ≡ left_of ts.now used }
 {
     let mut left = MOST;
-    let mut rest = used;
-    while rest.bits != 0 {
-        let q = rest.first();
-        rest = rest.rest();
-        let k = q as usize;
-        let n = ts[k];
-        if n > left {
-            return Left {
-                fits: false,
-                room: 0,
-            };
-        }
-        left -= n;
+    for q in used {
+        left = left.checked_sub(ts[q as usize])?;
     }
-    Left {
-        fits: true,
-        room: left,
-    }
+    Some(left)
 }

@@ -3,12 +3,12 @@ ghost use Rattle.std.specs.Prelude.{◌≡◌};
 ghost use Rattle.table.specs.Cell.{cell_of};
 ghost use Rattle.table.specs.Sound.{sound};
 ghost use Rattle.soundness.specs.Seen.{seen_of};
-ghost use Rattle.soundness.specs.Turn.{Walked, core, tell_of};
+ghost use Rattle.soundness.specs.Turn.{Walked, core};
 
 use super::sound::Seen;
-use super::touches::{Left, touches_left};
+use super::touches::touches_left;
 use super::turns::Walk;
-use super::{books, lands, turns};
+use super::{lands, turns};
 use table::{Cell, at};
 
 // What all agents say together.
@@ -58,36 +58,21 @@ fn places_seen(cell: &Cell, w: Walk) -> bool
     lands::led(l, up)
 }
 
-// Whether the table is sound, after its agents, its places and its touches.
-fn tell(fit: bool, left: Left, row: [u8; 64]) -> bool
-    ensures { result ≡ tell_of fit left row }
-{
-    if fit {
-        books::books_fit(left.fits, row)
-    } else {
-        false
-    }
-}
-
 // Whether a lent cell is sound.
 pub fn sound_lent(cell: &Cell) -> bool
     ensures { result ≡ sound (cell_of cell.now) }
 {
     let w = agents_seen(cell);
     let fit = places_seen(cell, w);
-    let left = touches_left(&cell.touches, cell.used);
-    tell(fit, left, cell.order)
+    fit && touches_left(&cell.touches, cell.used).is_some() && order::is_row(cell.order)
 }
 
 // What a call for this agent sees of a lent cell; past 63 agents are numbered from 0 again.
 pub fn see_lent(cell: &Cell, agent: u8) -> Seen
     ensures { result ≡ seen_of cell.now agent }
 {
-    let s = sound_lent(cell);
-    let own = at(agent);
-    let mine = cell.agents[own];
     Seen {
-        sound: s,
-        agent: mine,
+        sound: sound_lent(cell),
+        agent: cell.agents[at(agent)],
     }
 }

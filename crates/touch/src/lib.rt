@@ -47,26 +47,24 @@ pub fn decide_touch(
 ) -> TouchDecision
     ensures { result ≡ known_touch known used touches.now place number }
 {
-    let k = table::at(place);
-    let count = touches[k];
-    if known {
-        if 64 <= place {
-            return refused(count, 3);
-        }
-        if used.has(place) {
-            let left = soundness::touches_left(touches, used);
-            if !left.fits {
-                return refused(count, 15);
-            }
-            let more = number as u64;
-            if left.room < more {
-                return refused(count, 15);
-            }
-            return counted(count + more);
-        }
+    let count = touches[table::at(place)];
+    if !known {
+        return refused(count, 10);
+    }
+    if 64 <= place {
+        return refused(count, 3);
+    }
+    if !used.has(place) {
         return refused(count, 5);
     }
-    refused(count, 10)
+    let Some(left) = soundness::touches_left(touches, used) else {
+        return refused(count, 15);
+    };
+    let more = number as u64;
+    if left < more {
+        return refused(count, 15);
+    }
+    counted(count + more)
 }
 
 // A touch call.
