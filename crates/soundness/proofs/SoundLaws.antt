@@ -12,7 +12,6 @@ use Rattle.sets.specs.declared.Set.{Set}
 use Rattle.table.specs.Base.{all_below, any_below, count_below}
 use Rattle.table.proofs.BaseLaws.{Told, yea, nay, told, and_left, and_right, and_cong, cond_cong, same_test, all_at, all_yes}
 use Rattle.table.specs.Cell.{none, no_place, State, cell_of}
-use Rattle.lent.proofs.Words.{Words}
 use Rattle.table.specs.Sound.{claims, goes, nameless, place_fits, place_sound, leads, core_sound}
 use Rattle.soundness.specs.Pass.{all_lead, floor_stands, floor_fits, floor_sound, child_stands, child_fits, child_test, child_at, children_fit, lands_fit}
 use Rattle.soundness.proofs.PassLaws.{Passed, passed_fit, passed_held, passed_moved}
@@ -58,7 +57,7 @@ pub floor_decides : (ps : List Place) (ls : List ℕ) (used claimed going : Set)
 unfolding lands_fit
 floor_decides ps ls used claimed going b e = sym (ap (λ (y : Bool). y && children_fit ps ls used claimed going) e)
 
-module _ (c : Cell) (z : Words c) where
+module _ (c : Cell) where
   abbrev u : ℕ → Bool
   u = has c.used.bits
 
@@ -99,10 +98,10 @@ module _ (c : Cell) (z : Words c) where
   pub lands_same : (claimed going rest : Set) → Passed c claimed going rest → rest.bits ≡ 0 → lands_fit c.places c.locks c.used claimed going ≡ core_sound (cell_of c)
   unfolding lands_fit floor_sound children_fit all_lead core_sound cell_of
   lands_same claimed going rest p e =
-      let held = passed_held c z claimed going rest p e in
-      let moved = passed_moved c z claimed going rest p e in
+      let held = passed_held c claimed going rest p e in
+      let moved = passed_moved c claimed going rest p e in
       sym (and_assoc (u 0) (floor_fits (place 0) (get_or c.locks 0 0) (member claimed 0) (member going 0)) (children_fit c.places c.locks c.used claimed going))
       ∙ and_cong (u 0) _ _ (λ f.
       and_assoc (floor_fits (place 0) (get_or c.locks 0 0) (member claimed 0) (member going 0)) (all_below (child_at c.places c.locks c.used claimed going) 64) (all_lead (λ q. (get_or c.places q no_place).parent) c.used)
       ∙ ap (λ (b : Bool). b && all_lead (λ q. (get_or c.places q no_place).parent) c.used) (places_same claimed going held moved f)
-      ∙ sym (ap (λ (b : Bool). b && (all_below (place_sound w) 64 && all_below (leads w) 64)) (passed_fit c z claimed going rest p e)))
+      ∙ sym (ap (λ (b : Bool). b && (all_below (place_sound w) 64 && all_below (leads w) 64)) (passed_fit c claimed going rest p e)))
