@@ -1,8 +1,8 @@
 -- The window after a step is told by the number of the step's answer; and what a command comes to.
 -- Idea: a step wakes at most 64 and is refused with 10 or 11, so that word, number woken and refusal are read off the number.
 -- Assumes nothing.
-use Rattle.std.specs.Prelude.{◌≡◌, ◌≢◌, Bool, true, false, cond, ℕ, ◌+◌, ◌*◌, ◌/◌, ◌%◌, ◌≤◌, ◌<◌, eqb, ltb, leb}
-use Rattle.std.proofs.Common.{ap, ap₂, ◌∙◌, arith, lit<, ne_eqb, eq-eqb}
+use Rattle.std.specs.Prelude.{◌≡◌, ◌≢◌, Bool, true, false, cond, List, ℕ, ◌+◌, ◌*◌, ◌/◌, ◌%◌, ◌≤◌, ◌<◌, eqb, ltb, leb, get_or}
+use Rattle.std.proofs.Common.{sym, ap, ap₂, ◌∙◌, arith, lit<, ne_eqb, eq-eqb}
 use Rattle.sets.proofs.WordLaws.{count_most}
 use Rattle.table.proofs.BaseLaws.{Told, yea, nay, told}
 use Rattle.table.specs.Cell.{State, cell_of, none, fresh_number, linked, looks_home, kind_of, open_kind, release_kind}
@@ -20,7 +20,8 @@ use Rattle.meaning.specs.Step.{Outcome, stays, fires, choice, still, turn, take,
 use Rattle.meaning.specs.Run.{made, turned_away, step_of}
 use Rattle.window.specs.declared.Window.{Window}
 use Rattle.window.specs.Window.{refused_flag, refused_base, with_flag, with_answer, lined, step_window, command_of}
-use Rattle.window.specs.Noted.{did_of, noted_of}
+use Rattle.window.specs.Noted.{did_of, refused_of, noted_of}
+use Rattle.std.specs.Int.{w64, to_le_bytes}
 
 -- ---- a step wakes at most 64
 
@@ -124,6 +125,18 @@ noted_answer w rest (Refused number) l =
     let some : number % 256 ≢ 0 = λ e. omega (arith, e, low, l.0) in
     let same : number % 256 % 128 ≡ number = omega (arith, l.1) in
     rw (ne_eqb (number % 256) 0 some) (ap (λ (n : ℕ). lined (with_answer w (refused_base + n) 0 (with_flag refused_flag true w.flags))) same)
+
+-- the same told by the bytes of the number, the lowest first
+module _ (w : Window) (bytes : List ℕ) (number : ℕ) (rest : Bool) (e : bytes ≡ to_le_bytes w64 number) where
+  pub noted_did : get_or bytes 0 0 ≡ 0 → did_of w (get_or bytes 1 0) (get_or bytes 2 0) rest ≡ noted_of w number rest
+  unfolding noted_of
+  noted_did z = rw (eq-eqb (number % 256) 0 (sym (ap (λ (s : List ℕ). get_or s 0 0) e) ∙ z))
+      (ap₂ (λ (m n : ℕ). did_of w m n rest) (ap (λ (s : List ℕ). get_or s 1 0) e) (ap (λ (s : List ℕ). get_or s 2 0) e))
+
+  pub noted_refused : get_or bytes 0 0 ≢ 0 → refused_of w (get_or bytes 0 0) ≡ noted_of w number rest
+  unfolding noted_of
+  noted_refused z = rw (ne_eqb (number % 256) 0 (λ n. z (ap (λ (s : List ℕ). get_or s 0 0) e ∙ n)))
+      (ap (refused_of w) (ap (λ (s : List ℕ). get_or s 0 0) e))
 
 -- so after any step call
 pub noted_step : (t : Cell) (x wish : ℕ) (w : Window) (rest : Bool) → noted_of w (step_number (step_of t x wish).answer) rest ≡ step_window w rest (step_of t x wish).answer
