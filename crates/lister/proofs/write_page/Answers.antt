@@ -24,6 +24,6 @@ returns c =
     let f = page_fits (floor_on (sheet_of c.args.sheet.now)) c.requires.1 in
     let w = wrote_as (page_holds f c.write_floor-n.ensures) c.write_bytes.ensures in
     elim c.else-whole.branch [
-      else-whole-via-then-whole+else-buf-n b ↦ wholly c.args.whole (omega (arith, page_long f c.write_floor-n.ensures, b.if-buf-n.false)) w
-    | else-whole-via-else-whole b ↦ rw b.if-whole.false (partly w)
+      | else-whole-via-then-whole+else-buf-n b ↦ wholly c.args.whole (omega (arith, page_long f c.write_floor-n.ensures, b.if-buf-n.false)) w
+      | else-whole-via-else-whole b ↦ rw b.if-whole.false (partly w)
     ]
