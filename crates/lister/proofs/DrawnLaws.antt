@@ -17,7 +17,8 @@ use Rattle.table.specs.declared.Cell.{Cell}
 use Rattle.meaning.specs.Listing.{lists_in, stands_under}
 use Rattle.lengths.specs.Longest.{longest_listing}
 use Rattle.lengths.proofs.ListingLength.{listing_longest}
-use Rattle.lister.specs.Sheet.{parents_of, is_listed, homes_of, grouped_of, agent_on, Shown, Drawn, floor_on}
+use Rattle.lister.specs.Listed.{parents_of, is_listed, homes_of, grouped_of, agent_on}
+use Rattle.lister.specs.Sheet.{Shown, Drawn, floor_on}
 use Rattle.lister.proofs.SheetLaws.{floor_is}
 
 -- x is in the set of p

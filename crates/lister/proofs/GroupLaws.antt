@@ -17,7 +17,7 @@ use Rattle.table.proofs.BaseLaws.{Told, yea, nay, told, eq?, upd_at, upd_other, 
 use Rattle.table.specs.Cell.{no_place, no_agent, has_unused}
 use Rattle.table.specs.declared.Agent.{Agent}
 use Rattle.table.specs.declared.Place.{Place}
-use Rattle.lister.specs.Sheet.{parents_of, is_listed, homes_of, grouped_of, filed}
+use Rattle.lister.specs.Listed.{parents_of, is_listed, homes_of, grouped_of, filed}
 
 -- the key of a place is the place that it stands in
 pub parent_key : (ps : List Place) (q k : ℕ) → k ≡ q → q < 64 → cond (eqb q 0) 64 (get_or ps k no_place).parent ≡ get_or (parents_of ps) q 0

@@ -21,7 +21,7 @@ use Rattle.text.specs.Wrote.{Wrote, Fits}
 use Rattle.text.proofs.TextLaws.{part, back, wrote_as}
 use Rattle.text.proofs.RoomLaws.{fits_less, fits_as, fits_first, fits_exactly, first_in, fits_next, then_next, store_in, stored}
 use Rattle.lengths.specs.Longest.{longest_listing}
-use Rattle.lister.specs.Sheet.{bar, Shown, Drawn, HaveTexts, OnPage, head_text, contents_on, place_on, floor_on}
+use Rattle.lister.specs.Sheet.{bar, Shown, Drawn, OnPage, head_text, contents_on, place_on, floor_on}
 use Rattle.lister.specs.Marked.{grouped, Filled}
 use Rattle.lister.proofs.RowLaws.{agent_some}
 use Rattle.lister.proofs.MemberLaws.{texts_ext, texts_filled, texts_none, texts_some, one_group, both_groups, first_group}
@@ -51,7 +51,7 @@ unfolding place_on bracketed head_text tab
 place_is depth h q = refl
 
 -- the agents of a place have texts, where every listed agent has one
-pub agents_filled : (h : Shown) → HaveTexts h → (p : ℕ) → p < 64 → Filled (agents_on h p)
+pub agents_filled : (h : Shown) → ((p x : ℕ) → p < 64 → x < 64 → h.lives p x ≡ true → 0 < length (h.text x)) → (p : ℕ) → p < 64 → Filled (agents_on h p)
 agents_filled h t p l = texts_filled (h.lives p) h.text 64 (λ x m e. t p x l m e)
 
 -- and so have places, which have brackets
@@ -170,7 +170,7 @@ module _ {c : State} {h : Shown} (d : Drawn c h) where
   floor_is = ap (λ (t : List ℕ). cond (eqb (length t) 0) (48 ∷ []) t) (contents_are 65 0 (omega arith))
 
   -- an agent that is listed has an unused action, and so a text
-  pub drawn_texts : HaveTexts h
+  pub drawn_texts : (p x : ℕ) → p < 64 → x < 64 → h.lives p x ≡ true → 0 < length (h.text x)
   unfolding lists_in
   drawn_texts p x l m e =
       let q : lists_in (c.given x) (c.agent x) p ≡ true = sym (d.lives p x l m) ∙ e in

@@ -1,40 +1,15 @@
 -- What the writers are lent, read as functions of numbers, and the text that they make of it.
-use Rattle.std.specs.Prelude.{◌≡◌, Bool, true, ◌&&◌, cond, List, [], ◌++◌, ℕ, zero, suc, ◌+◌, ◌<◌, ◌≤◌, eqb, ltb, length, get_or, set}
-use Rattle.sets.specs.Set.{member, set_of, inserted, empty_set}
-use Rattle.sets.specs.declared.Set.{Set}
+use Rattle.std.specs.Prelude.{◌≡◌, Bool, true, ◌&&◌, cond, List, [], ◌++◌, ℕ, zero, suc, ◌+◌, ◌<◌, ◌≤◌, eqb, ltb, length, get_or}
+use Rattle.sets.specs.Set.{member, empty_set}
 use Rattle.table.specs.Base.{tab}
-use Rattle.table.specs.Cell.{State, no_place, no_agent, has_unused}
+use Rattle.table.specs.Cell.{State, no_place}
 use Rattle.table.specs.declared.Name.{Name}
-use Rattle.table.specs.declared.Agent.{Agent}
-use Rattle.table.specs.declared.Place.{Place}
-use Rattle.table.specs.declared.Cell.{Cell}
 use Rattle.meaning.specs.Text.{ascii, decimal, overlay}
 use Rattle.meaning.specs.Listing.{agent_text, lists_in, stands_under, texts_of, slashed, name_text, bracketed, in_order}
 use Rattle.text.specs.Wrote.{capped, Fits}
 use Rattle.lengths.specs.Longest.{longest_listing}
+use Rattle.lister.specs.Listed.{agent_on}
 use Rattle.lister.specs.declared.sheet.Sheet.{Sheet}
-
--- ---- the sets that are lent
-
--- where each place stands; 64 for the floor, which stands in none
-unfoldable pub parents_of : List Place → List ℕ
-parents_of ps = tab (λ q. cond (eqb q 0) 64 (get_or ps q no_place).parent) 64 0
-
--- x is an agent with unused actions
-abbrev pub is_listed : Set → List Agent → ℕ → Bool
-is_listed given crew x = member given x && has_unused (get_or crew x no_agent)
-
--- where each agent is listed: its home, or 64 where it has no unused action
-unfoldable pub homes_of : Set → List Agent → List ℕ
-homes_of given crew = tab (λ x. cond (is_listed given crew x) (get_or crew x no_agent).home 64) 64 0
-
--- for each number below 64, the set of the members whose key it is
-unfoldable pub grouped_of : Set → List ℕ → List Set
-grouped_of s keys = tab (λ p. set_of (λ x. member s x && eqb (get_or keys x 0) p)) 64 0
-
--- sets with x put into that of p; a p that is not below 64 has none
-unfoldable pub filed : List Set → ℕ → ℕ → List Set
-filed sets p x = cond (ltb p 64) (set sets p (inserted (get_or sets p empty_set) x)) sets
 
 -- ---- the text
 
@@ -45,10 +20,6 @@ bar = ascii " | "
 -- `.`
 abbrev pub dot : List ℕ
 dot = ascii "."
-
--- the text of the agent at x
-abbrev pub agent_on : Cell → ℕ → List ℕ
-agent_on c x = agent_text (get_or c.agents x no_agent)
 
 -- what is lent: which places stand in a place, which agents are listed in it, names, and agents' texts
 pub record Shown : Type 0 where
@@ -103,10 +74,6 @@ place_on depth h q = bracketed (h.name q) (contents_on depth h q)
 unfoldable pub floor_on : Shown → List ℕ
 unfolding contents_on tab
 floor_on h = cond (eqb (length (contents_on 65 h 0)) 0) (ascii "0") (contents_on 65 h 0)
-
--- every agent that is listed somewhere has a text
-abbrev pub HaveTexts : Shown → Type 0
-HaveTexts h = (p x : ℕ) → p < 64 → x < 64 → h.lives p x ≡ true → 0 < length (h.text x)
 
 -- ---- the room that a writer is lent
 

@@ -6,7 +6,8 @@ ghost use Rattle.std.specs.Prelude.{◌<◌};
 ghost use Rattle.sets.specs.Set.{member};
 ghost use Rattle.meaning.specs.Listing.{texts_of};
 ghost use Rattle.text.specs.Wrote.{Wrote};
-ghost use Rattle.lister.specs.Sheet.{agent_on, sheet_of, HaveTexts, OnPage, contents_on, place_on};
+ghost use Rattle.lister.specs.Listed.{agent_on};
+ghost use Rattle.lister.specs.Sheet.{sheet_of, OnPage, contents_on, place_on};
 ghost use Rattle.lister.specs.Marked.{grouped, Filled};
 
 use crate::sheet::Sheet;
@@ -36,7 +37,7 @@ fn write_agents(c: &Cell, agents: Set, from: usize, buf: &mut [u8]) -> usize
 // Place q: its name, and its contents so many levels deep.
 #[cycle(write_contents_write_place_write_places)]
 fn write_place(sheet: &Sheet, q: u8, depth: u8, at: usize, buf: &mut [u8]) -> usize
-    requires { (q < 64) × (HaveTexts (sheet_of sheet.now) × OnPage (place_on depth (sheet_of sheet.now) q) at buf.old) }
+    requires { (q < 64) × OnPage (place_on depth (sheet_of sheet.now) q) at buf.old }
     ensures { Wrote (place_on depth (sheet_of sheet.now) q) at buf.old buf.new result }
 {
     let mid = names::write_head(sheet.cell.places[q as usize].name, at, buf);
@@ -49,8 +50,7 @@ fn write_place(sheet: &Sheet, q: u8, depth: u8, at: usize, buf: &mut [u8]) -> us
 // The places of a set in byte order, each with its contents so many levels deep.
 #[cycle(write_contents_write_place_write_places)]
 fn write_places(sheet: &Sheet, inside: Set, depth: u8, from: usize, buf: &mut [u8]) -> usize
-    requires { HaveTexts (sheet_of sheet.now)
-        × OnPage (grouped (texts_of (member inside) (place_on depth (sheet_of sheet.now)) 64)) from buf.old }
+    requires { OnPage (grouped (texts_of (member inside) (place_on depth (sheet_of sheet.now)) 64)) from buf.old }
     ensures { Wrote (grouped (texts_of (member inside) (place_on depth (sheet_of sheet.now)) 64)) from buf.old buf.new result }
 {
     let mut marks: [u16; 64] = [0; 64];
@@ -69,7 +69,7 @@ fn write_places(sheet: &Sheet, inside: Set, depth: u8, from: usize, buf: &mut [u
 // The contents of p so many levels deep: agents, then places.
 #[cycle(write_contents_write_place_write_places)]
 pub(super) fn write_contents(sheet: &Sheet, p: u8, depth: u8, from: usize, buf: &mut [u8]) -> usize
-    requires { (p < 64) × (HaveTexts (sheet_of sheet.now) × OnPage (contents_on depth (sheet_of sheet.now) p) from buf.old) }
+    requires { (p < 64) × OnPage (contents_on depth (sheet_of sheet.now) p) from buf.old }
     ensures { Wrote (contents_on depth (sheet_of sheet.now) p) from buf.old buf.new result }
 {
     if depth == 0 {

@@ -6,10 +6,10 @@ use Rattle.lister.proofs.WriteLaws.{page_fits, page_holds, page_within, page_cut
 use Rattle.lister.proofs.is_floor.Goals as goal
 
 pub slice_bounds-page-end : goal.slice_bounds-page-end
-slice_bounds-page-end c = page_within (page_fits (floor_on (sheet_of c.args.sheet.now)) c.requires.1) c.write_floor-n.ensures
+slice_bounds-page-end c = page_within (page_fits (floor_on (sheet_of c.args.sheet.now)) c.requires) c.write_floor-n.ensures
 
 pub slice_bounds-eq-end : goal.slice_bounds-eq-end
-slice_bounds-eq-end c = page_cut (page_fits (floor_on (sheet_of c.args.sheet.now)) c.requires.1) c.write_floor-n.ensures
+slice_bounds-eq-end c = page_cut (page_fits (floor_on (sheet_of c.args.sheet.now)) c.requires) c.write_floor-n.ensures
 
 pub returns : goal.returns
-returns c = c.eq.ensures ∙ same_pairs _ _ ∙ ap (same_text c.args.text.now) (page_holds (page_fits (floor_on (sheet_of c.args.sheet.now)) c.requires.1) c.write_floor-n.ensures)
+returns c = c.eq.ensures ∙ same_pairs _ _ ∙ ap (same_text c.args.text.now) (page_holds (page_fits (floor_on (sheet_of c.args.sheet.now)) c.requires) c.write_floor-n.ensures)

@@ -9,19 +9,19 @@ use Rattle.lister.proofs.write_page.Goals.{else-whole-via-then-whole+else-buf-n,
 
 pub returns-then-buf-n : goal.returns-then-buf-n
 returns-then-buf-n c =
-    let f = page_fits (floor_on (sheet_of c.args.sheet.now)) c.requires.1 in
+    let f = page_fits (floor_on (sheet_of c.args.sheet.now)) c.requires in
     let n = page_long f c.write_floor-n.ensures in
     rw c.if-whole.true (not_at_all (omega (arith, c.if-buf-n.true)) (c.plus.ensures ∙ ap (λ (k : ℕ). capped (c.args.at + k)) n))
 
 pub slice_bounds-page-end : goal.slice_bounds-page-end
-slice_bounds-page-end c = page_within (page_fits (floor_on (sheet_of c.args.sheet.now)) c.requires.1) c.write_floor-n.ensures
+slice_bounds-page-end c = page_within (page_fits (floor_on (sheet_of c.args.sheet.now)) c.requires) c.write_floor-n.ensures
 
 pub slice_bounds-write_bytes-end : goal.slice_bounds-write_bytes-end
-slice_bounds-write_bytes-end c = page_cut (page_fits (floor_on (sheet_of c.args.sheet.now)) c.requires.1) c.write_floor-n.ensures
+slice_bounds-write_bytes-end c = page_cut (page_fits (floor_on (sheet_of c.args.sheet.now)) c.requires) c.write_floor-n.ensures
 
 pub returns : goal.returns
 returns c =
-    let f = page_fits (floor_on (sheet_of c.args.sheet.now)) c.requires.1 in
+    let f = page_fits (floor_on (sheet_of c.args.sheet.now)) c.requires in
     let w = wrote_as (page_holds f c.write_floor-n.ensures) c.write_bytes.ensures in
     elim c.else-whole.branch [
       | else-whole-via-then-whole+else-buf-n b ↦ wholly c.args.whole (omega (arith, page_long f c.write_floor-n.ensures, b.if-buf-n.false)) w

@@ -20,18 +20,18 @@ use Rattle.lister.proofs.contents.+write_contents_write_place_write_places.Goals
 
 pub write_contents-returns-then-depth-eq0 : goal.write_contents-returns-then-depth-eq0
 write_contents-returns-then-depth-eq0 t c =
-    wrote_as (sym (contents_none _ _ _ c.if-depth-eq0.true)) (begun c.requires.1.1.fits.placed)
+    wrote_as (sym (contents_none _ _ _ c.if-depth-eq0.true)) (begun c.requires.1.fits.placed)
 
 pub write_contents-write_agents-at-requires : goal.write_contents-write_agents-at-requires
 write_contents-write_agents-at-requires t c =
     let h = sheet_of c.args.sheet.now in
-    (agents_page c.args.depth h c.args.p c.if-depth-eq0.false c.requires.1.1, agents_filled h c.requires.1.0 c.args.p c.requires.0)
+    (agents_page c.args.depth h c.args.p c.if-depth-eq0.false c.requires.1, agents_filled h c.args.sheet.now.have_texts c.args.p c.requires.0)
 
 -- no place stands there
 pub write_contents-returns-then-inside-eq0 : goal.write_contents-returns-then-inside-eq0
 write_contents-returns-then-inside-eq0 t c =
     let h = sheet_of c.args.sheet.now in
-    agents_alone c.args.depth h c.args.p c.if-depth-eq0.false c.requires.1.1 (no_texts (rest_start _ (search rules)) (place_on (c.args.depth - 1) h) c.if-inside-eq0.true) c.write_agents-at.ensures
+    agents_alone c.args.depth h c.args.p c.if-depth-eq0.false c.requires.1 (no_texts (rest_start _ (search rules)) (place_on (c.args.depth - 1) h) c.if-inside-eq0.true) c.write_agents-at.ensures
 
 -- some do
 some : (t : ℕ) (c : write_contents-Else-inside-eq0 t) → 0 < length (places_on (c.args.depth - 1) (sheet_of c.args.sheet.now) c.args.p)
@@ -43,7 +43,7 @@ some t c =
 both : (t : ℕ) (c : write_contents-Else-inside-eq0 t) →
     let h = sheet_of c.args.sheet.now in
     Fits (joined bar (grouped (agents_on h c.args.p)) (grouped (places_on (c.args.depth - 1) h c.args.p))) c.args.from c.args.buf.now
-both t c = both_fit c.args.depth (sheet_of c.args.sheet.now) c.args.p c.if-depth-eq0.false c.requires.1.1 (some t c)
+both t c = both_fit c.args.depth (sheet_of c.args.sheet.now) c.args.p c.if-depth-eq0.false c.requires.1 (some t c)
 
 pub write_contents-overflow_sub-at : goal.write_contents-overflow_sub-at
 write_contents-overflow_sub-at t c =
@@ -79,17 +79,14 @@ write_contents-write_places-requires t c =
     let h = sheet_of c.args.sheet.now in
     let z = c.if-depth-eq0.false in (
       omega (arith, c.decreases, z),
-      (
-        c.requires.1.0,
-        places_page c.args.depth h c.args.p z c.requires.1.1 (some t (goal.at.write_contents-write_places-requires t c).Else-inside-eq0) (set_texts (rest_start _ (search rules)) (place_on (c.args.depth - 1) h))
-            (part_fits bar _ c.write_agents-at.ensures (both t (goal.at.write_contents-write_places-requires t c).Else-inside-eq0) refl c.write_bar-mid.ensures refl),
-      ),
+      places_page c.args.depth h c.args.p z c.requires.1 (some t (goal.at.write_contents-write_places-requires t c).Else-inside-eq0) (set_texts (rest_start _ (search rules)) (place_on (c.args.depth - 1) h))
+          (part_fits bar _ c.write_agents-at.ensures (both t (goal.at.write_contents-write_places-requires t c).Else-inside-eq0) refl c.write_bar-mid.ensures refl),
     )
 
 pub write_contents-returns : goal.write_contents-returns
 write_contents-returns t c =
     let h = sheet_of c.args.sheet.now in
-    both_written c.args.depth h c.args.p c.if-depth-eq0.false c.requires.1.1 (some t (goal.at.write_contents-returns t c).Else-inside-eq0)
+    both_written c.args.depth h c.args.p c.if-depth-eq0.false c.requires.1 (some t (goal.at.write_contents-returns t c).Else-inside-eq0)
     (turned bar _ c.write_agents-at.ensures (both t (goal.at.write_contents-returns t c).Else-inside-eq0) refl c.write_bar-mid.ensures refl (wrote_as (ap grouped (set_texts (rest_start _ (search rules)) (place_on (c.args.depth - 1) h))) c.write_places.ensures))
 
 -- ---- a place
@@ -97,47 +94,47 @@ write_contents-returns t c =
 pub write_place-write_head-mid-requires : goal.write_place-write_head-mid-requires
 write_place-write_head-mid-requires t c =
     let h = sheet_of c.args.sheet.now in
-    head_fits c.args.depth h c.args.q c.requires.1.1.fits
+    head_fits c.args.depth h c.args.q c.requires.1.fits
 
 pub write_place-overflow_sub-mid : goal.write_place-overflow_sub-mid
 write_place-overflow_sub-mid t c =
     let h = sheet_of c.args.sheet.now in
-    head_before c.args.depth h c.args.q c.requires.1.1.fits c.write_head-mid.ensures refl
+    head_before c.args.depth h c.args.q c.requires.1.fits c.write_head-mid.ensures refl
 
 pub write_place-slice_bounds-write_contents-count : goal.write_place-slice_bounds-write_contents-count
 write_place-slice_bounds-write_contents-count t c =
     let h = sheet_of c.args.sheet.now in
-    contents_in c.args.depth h c.args.q c.requires.1.1.fits c.write_head-mid.ensures refl
+    contents_in c.args.depth h c.args.q c.requires.1.fits c.write_head-mid.ensures refl
 
 pub write_place-slice_bounds-write_contents-start : goal.write_place-slice_bounds-write_contents-start
 write_place-slice_bounds-write_contents-start t c =
     let h = sheet_of c.args.sheet.now in
-    contents_in c.args.depth h c.args.q c.requires.1.1.fits c.write_head-mid.ensures refl
+    contents_in c.args.depth h c.args.q c.requires.1.fits c.write_head-mid.ensures refl
 
 pub write_place-write_contents-full-requires : goal.write_place-write_contents-full-requires
 write_place-write_contents-full-requires t c =
     let h = sheet_of c.args.sheet.now in
-    (omega (arith, c.decreases), (c.requires.0, (c.requires.1.0, contents_page c.args.depth h c.args.q c.requires.1.1.fits c.write_head-mid.ensures refl c.requires.1.1.short)))
+    (omega (arith, c.decreases), (c.requires.0, contents_page c.args.depth h c.args.q c.requires.1.fits c.write_head-mid.ensures refl c.requires.1.short))
 
 pub write_place-overflow_sub-j : goal.write_place-overflow_sub-j
 write_place-overflow_sub-j t c =
     let h = sheet_of c.args.sheet.now in
-    contents_before c.args.depth h c.args.q c.requires.1.1.fits c.write_head-mid.ensures refl c.write_contents-full.ensures refl
+    contents_before c.args.depth h c.args.q c.requires.1.fits c.write_head-mid.ensures refl c.write_contents-full.ensures refl
 
 pub write_place-bounds-buf-j : goal.write_place-bounds-buf-j
 write_place-bounds-buf-j t c =
     let h = sheet_of c.args.sheet.now in
-    bracket_in c.args.depth h c.args.q c.requires.1.1.fits c.write_head-mid.ensures refl c.write_contents-full.ensures refl
+    bracket_in c.args.depth h c.args.q c.requires.1.fits c.write_head-mid.ensures refl c.write_contents-full.ensures refl
 
 pub write_place-overflow_add-result : goal.write_place-overflow_add-result
 write_place-overflow_add-result t c =
     let h = sheet_of c.args.sheet.now in
-    omega (arith, bracket_placed c.args.depth h c.args.q c.requires.1.1.fits c.write_head-mid.ensures refl c.write_contents-full.ensures refl)
+    omega (arith, bracket_placed c.args.depth h c.args.q c.requires.1.fits c.write_head-mid.ensures refl c.write_contents-full.ensures refl)
 
 pub write_place-returns : goal.write_place-returns
 write_place-returns t c =
     let h = sheet_of c.args.sheet.now in
-    place_written c.args.depth h c.args.q c.requires.1.1.fits c.write_head-mid.ensures refl c.write_contents-full.ensures refl
+    place_written c.args.depth h c.args.q c.requires.1.fits c.write_head-mid.ensures refl c.write_contents-full.ensures refl
 
 -- ---- places
 
@@ -145,13 +142,13 @@ write_place-returns t c =
 low : (t : ℕ) (c : write_places-In-Some t) → c.in-Some.q < 64
 low t c =
     let h = sheet_of c.args.sheet.now in
-    turn_low (member c.args.inside) (place_on c.args.depth h) c.requires.1 (places_filled c.args.depth h (member c.args.inside)) c.loop-q.invariant c.in-Some.ensures.steps
+    turn_low (member c.args.inside) (place_on c.args.depth h) c.requires (places_filled c.args.depth h (member c.args.inside)) c.loop-q.invariant c.in-Some.ensures.steps
 
 -- there is a mark left for it
 slot : (t : ℕ) (c : write_places-In-Some t) → c.loop-q.many < 64
 slot t c =
     let h = sheet_of c.args.sheet.now in
-    turn_slot (member c.args.inside) (place_on c.args.depth h) c.requires.1 (places_filled c.args.depth h (member c.args.inside)) c.loop-q.invariant c.in-Some.ensures.steps
+    turn_slot (member c.args.inside) (place_on c.args.depth h) c.requires (places_filled c.args.depth h (member c.args.inside)) c.loop-q.invariant c.in-Some.ensures.steps
 
 -- and room for its text
 room : (t : ℕ) (c : write_places-In-Some t) →
@@ -159,12 +156,12 @@ room : (t : ℕ) (c : write_places-In-Some t) →
     Fits (joined bar (barred (texts_of (member c.args.inside) (place_on c.args.depth h) c.loop-q.invariant.upto)) (place_on c.args.depth h c.in-Some.q)) c.args.from c.args.buf.now
 room t c =
     let h = sheet_of c.args.sheet.now in
-    turn_room (member c.args.inside) (place_on c.args.depth h) c.requires.1 (places_filled c.args.depth h (member c.args.inside)) c.loop-q.invariant c.in-Some.ensures.steps
+    turn_room (member c.args.inside) (place_on c.args.depth h) c.requires (places_filled c.args.depth h (member c.args.inside)) c.loop-q.invariant c.in-Some.ensures.steps
 
 pub write_places-loop-q-init : goal.write_places-loop-q-init
 write_places-loop-q-init t c =
     let h = sheet_of c.args.sheet.now in
-    walked_none (member c.args.inside) (place_on c.args.depth h) c.requires.1 (places_filled c.args.depth h (member c.args.inside)) (rw c.into_iter-q-iterator.ensures.into_iter_gives (rest_start c.args.inside (search rules)))
+    walked_none (member c.args.inside) (place_on c.args.depth h) c.requires (places_filled c.args.depth h (member c.args.inside)) (rw c.into_iter-q-iterator.ensures.into_iter_gives (rest_start c.args.inside (search rules)))
 
 pub write_places-overflow_sub-at : goal.write_places-overflow_sub-at
 write_places-overflow_sub-at t c =
@@ -199,19 +196,16 @@ write_places-write_place-at-requires t c =
     let h = sheet_of c.args.sheet.now in (
       omega (arith, c.decreases),
       (
-        (low t (goal.at.write_places-write_place-at-requires t c).In-Some),
-        (
-          c.requires.0,
-          turn_page (member c.args.inside) (place_on c.args.depth h) c.requires.1 (places_filled c.args.depth h (member c.args.inside)) c.loop-q.invariant c.in-Some.ensures.steps
-              (part_fits bar _ c.loop-q.invariant.wrote (room t (goal.at.write_places-write_place-at-requires t c).In-Some) refl c.write_bar-mid.ensures refl),
-        ),
+        low t (goal.at.write_places-write_place-at-requires t c).In-Some,
+        turn_page (member c.args.inside) (place_on c.args.depth h) c.requires (places_filled c.args.depth h (member c.args.inside)) c.loop-q.invariant c.in-Some.ensures.steps
+            (part_fits bar _ c.loop-q.invariant.wrote (room t (goal.at.write_places-write_place-at-requires t c).In-Some) refl c.write_bar-mid.ensures refl),
       ),
     )
 
 pub write_places-overflow_sub-marks : goal.write_places-overflow_sub-marks
 write_places-overflow_sub-marks t c =
     let h = sheet_of c.args.sheet.now in
-    turn_after (member c.args.inside) (place_on c.args.depth h) c.requires.1 (places_filled c.args.depth h (member c.args.inside)) c.loop-q.invariant c.in-Some.ensures.steps
+    turn_after (member c.args.inside) (place_on c.args.depth h) c.requires (places_filled c.args.depth h (member c.args.inside)) c.loop-q.invariant c.in-Some.ensures.steps
     (turned bar _ c.loop-q.invariant.wrote (room t (goal.at.write_places-overflow_sub-marks t c).In-Some) refl c.write_bar-mid.ensures refl c.write_place-at.ensures)
 
 pub write_places-overflow_cast-marks : goal.write_places-overflow_cast-marks
@@ -219,7 +213,7 @@ write_places-overflow_cast-marks t c =
     let h = sheet_of c.args.sheet.now in
     omega (
       arith,
-      mark_small (member c.args.inside) (place_on c.args.depth h) c.requires.1 (places_filled c.args.depth h (member c.args.inside)) c.loop-q.invariant c.in-Some.ensures.steps
+      mark_small (member c.args.inside) (place_on c.args.depth h) c.requires (places_filled c.args.depth h (member c.args.inside)) c.loop-q.invariant c.in-Some.ensures.steps
           (turned bar _ c.loop-q.invariant.wrote (room t (goal.at.write_places-overflow_cast-marks t c).In-Some) refl c.write_bar-mid.ensures refl c.write_place-at.ensures),
     )
 
@@ -240,15 +234,15 @@ write_places-overflow_add-many t c =
 pub write_places-loop-q-preserved : goal.write_places-loop-q-preserved
 write_places-loop-q-preserved t c =
     let h = sheet_of c.args.sheet.now in
-    walked_more (member c.args.inside) (place_on c.args.depth h) c.requires.1 (places_filled c.args.depth h (member c.args.inside)) c.loop-q.invariant c.in-Some.ensures.steps
+    walked_more (member c.args.inside) (place_on c.args.depth h) c.requires (places_filled c.args.depth h (member c.args.inside)) c.loop-q.invariant c.in-Some.ensures.steps
     (turned bar _ c.loop-q.invariant.wrote (room t (goal.at.write_places-loop-q-preserved t c).In-Some) refl c.write_bar-mid.ensures refl c.write_place-at.ensures)
 
 pub write_places-arrange-requires : goal.write_places-arrange-requires
 write_places-arrange-requires t c =
     let h = sheet_of c.args.sheet.now in
-    (texts_of (member c.args.inside) (place_on c.args.depth h) 64, walked_marked (member c.args.inside) (place_on c.args.depth h) c.requires.1 (places_filled c.args.depth h (member c.args.inside)) c.loop-q.invariant c.in-None.ensures.steps.0)
+    (texts_of (member c.args.inside) (place_on c.args.depth h) 64, walked_marked (member c.args.inside) (place_on c.args.depth h) c.requires (places_filled c.args.depth h (member c.args.inside)) c.loop-q.invariant c.in-None.ensures.steps.0)
 
 pub write_places-returns : goal.write_places-returns
 write_places-returns t c =
     let h = sheet_of c.args.sheet.now in
-    walked_all (member c.args.inside) (place_on c.args.depth h) c.requires.1 (places_filled c.args.depth h (member c.args.inside)) c.loop-q.invariant c.in-None.ensures.steps.0 c.arrange.ensures
+    walked_all (member c.args.inside) (place_on c.args.depth h) c.requires (places_filled c.args.depth h (member c.args.inside)) c.loop-q.invariant c.in-None.ensures.steps.0 c.arrange.ensures

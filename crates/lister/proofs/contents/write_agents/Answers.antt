@@ -5,7 +5,8 @@ use Rattle.sets.proofs.WalkLaws.{rest_start}
 use Rattle.meaning.specs.Text.{joined}
 use Rattle.meaning.specs.Listing.{texts_of}
 use Rattle.text.specs.Wrote.{Fits}
-use Rattle.lister.specs.Sheet.{bar, agent_on}
+use Rattle.lister.specs.Listed.{agent_on}
+use Rattle.lister.specs.Sheet.{bar}
 use Rattle.lister.specs.Marked.{barred}
 use Rattle.lister.proofs.PartLaws.{begun_before, between_in, between_fits, parted_after, part_in, part_fits, turned}
 use Rattle.lister.proofs.TurnLaws.{walked_none, turn_low, turn_room, turn_slot, turn_after, mark_small, walked_more, walked_marked, walked_all}

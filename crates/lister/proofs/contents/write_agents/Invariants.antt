@@ -1,6 +1,6 @@
 -- Before each turn the texts of the agents that were taken are written, and it is noted where each ends.
 use Rattle.sets.specs.Set.{member}
-use Rattle.lister.specs.Sheet.{agent_on}
+use Rattle.lister.specs.Listed.{agent_on}
 use Rattle.lister.proofs.TurnLaws.{Walked}
 use Rattle.lister.proofs.contents.write_agents.Given as goal
 

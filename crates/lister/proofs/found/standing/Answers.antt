@@ -2,7 +2,7 @@
 use Rattle.std.proofs.Common.{refl, arith, rules, ◌∙◌}
 use Rattle.sets.proofs.WalkLaws.{rest_start, turn_below}
 use Rattle.lister.proofs.GroupLaws.{parent_key, sets_none, sets_turned, sets_all}
-use Rattle.lister.proofs.sheet.standing.Goals as goal
+use Rattle.lister.proofs.found.standing.Goals as goal
 
 pub loop-q-init : goal.loop-q-init
 loop-q-init c = (0, (rw c.into_iter-q-iterator.ensures.into_iter_gives (rest_start _ (search rules)), sets_none _ _))

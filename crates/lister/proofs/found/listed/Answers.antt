@@ -2,7 +2,7 @@
 use Rattle.std.proofs.Common.{refl, arith, rules, ◌∙◌}
 use Rattle.sets.proofs.WalkLaws.{rest_start, turn_below, turn_member}
 use Rattle.lister.proofs.GroupLaws.{home_key, sets_none, sets_turned, sets_all}
-use Rattle.lister.proofs.sheet.listed.Goals as goal
+use Rattle.lister.proofs.found.listed.Goals as goal
 
 pub loop-x-init : goal.loop-x-init
 loop-x-init c = (0, (rw c.into_iter-x-iterator.ensures.into_iter_gives (rest_start _ (search rules)), sets_none _ _))

@@ -1,7 +1,7 @@
 -- The set of p with x put into it, where there is one.
 use Rattle.std.proofs.Common.{lt-ltb, le-ltb}
-use Rattle.lister.specs.Sheet.{filed}
-use Rattle.lister.proofs.sheet.file.Goals as goal
+use Rattle.lister.specs.Listed.{filed}
+use Rattle.lister.proofs.found.file.Goals as goal
 
 pub returns-then-p-lt64 : goal.returns-then-p-lt64
 unfolding filed
