@@ -5,11 +5,12 @@ use Rattle.std.proofs.Common.{sym, ap, ◌∙◌, subst, arith}
 use Rattle.std.proofs.lemmas.Bool.{leb-false}
 use Rattle.sets.specs.Set.{member}
 use Rattle.sets.proofs.ToldLaws.{Told, yea, nay, told, clash}
-use Rattle.table.specs.Cell.{has_action}
-use Rattle.table.specs.Sound.{ready, holds_both, stage_fits, first_held, second_place, second_held}
+use Rattle.table.specs.Cell.{none, has_action}
+use Rattle.table.specs.Sound.{ready, holds_both, stage_fits, first_held, second_place, second_held, going_from}
 use Rattle.soundness.specs.Pass.{quiet, lock_is_at, linked_at, busy_fits}
-use Rattle.soundness.specs.Turn.{fits_of, holds_first, holds_second}
+use Rattle.soundness.specs.Turn.{held_with, fits_of, second_of, busy_of, holds_first, holds_second}
 use Rattle.soundness.specs.declared.turns.Busy.{Busy}
+use Rattle.soundness.specs.declared.turns.Held.{Held}
 
 and_one : (a b : Bool) → (a && b) ≡ (a && (b && true))
 and_one true true = refl
@@ -79,3 +80,36 @@ module _ (b : Busy) where
   at_six e =
       by_stage 6 (λ z. (lock_is_at (member z.used z.agent.home) z.agent.home z.first_lock z.number && lock_is_at (member z.used z.home.parent) z.home.parent z.second_lock z.number) ≡ fits_of z)
       e refl
+
+-- ---- what it adds
+
+module _ (b : Busy) (h : Held) where
+  pub adds_two : b.agent.stage ≡ 2 → held_with h (holds_first b) b.agent.remembered none none ≡ busy_of b h
+  unfolding first_held second_held going_from
+  adds_two e =
+      ap (λ (x : Bool). held_with h x b.agent.remembered none none) (at_two b e)
+      ∙ by_stage b 2 (λ z. held_with h (fits_of z) z.agent.remembered none none ≡ busy_of z h) e refl
+
+  pub adds_three : b.agent.stage ≡ 3 → held_with h (holds_first b && holds_second b) b.agent.remembered (second_of b) none ≡ busy_of b h
+  unfolding first_held going_from
+  adds_three e =
+      ap (λ (x : Bool). held_with h x b.agent.remembered (second_of b) none) (at_three b e)
+      ∙ by_stage b 3 (λ z. held_with h (fits_of z) z.agent.remembered (second_of z) none ≡ busy_of z h) e refl
+
+  pub adds_four : b.agent.stage ≡ 4 → held_with h true none none b.agent.home ≡ busy_of b h
+  unfolding first_held second_held going_from
+  adds_four e =
+      ap (λ (x : Bool). held_with h x none none b.agent.home) (at_four b e)
+      ∙ by_stage b 4 (λ z. held_with h (fits_of z) none none z.agent.home ≡ busy_of z h) e refl
+
+  pub adds_five : b.agent.stage ≡ 5 → held_with h (lock b b.agent.home b.first_lock) b.agent.home none b.agent.home ≡ busy_of b h
+  unfolding first_held second_held going_from
+  adds_five e =
+      ap (λ (x : Bool). held_with h x b.agent.home none b.agent.home) (at_five b e)
+      ∙ by_stage b 5 (λ z. held_with h (fits_of z) z.agent.home none z.agent.home ≡ busy_of z h) e refl
+
+  pub adds_six : b.agent.stage ≡ 6 → held_with h (lock b b.agent.home b.first_lock && lock b b.home.parent b.second_lock) b.agent.home b.home.parent b.agent.home ≡ busy_of b h
+  unfolding first_held second_held going_from
+  adds_six e =
+      ap (λ (x : Bool). held_with h x b.agent.home b.home.parent b.agent.home) (at_six b e)
+      ∙ by_stage b 6 (λ z. held_with h (fits_of z) z.agent.home z.home.parent z.agent.home ≡ busy_of z h) e refl

@@ -20,11 +20,13 @@ row_kind a = cond (actions_fit a) (Some (kind_of a)) None
 
 -- ---- a busy agent
 
--- with two places that it holds and a third one that it moves, each 64 where there is none; none where that is moved already
-abbrev pub held_with : Held → ℕ → ℕ → ℕ → Option Held
-held_with h first second from =
-    cond (member h.going from) None
-    (Some (record { claimed = inserted (inserted h.claimed first) second; going = inserted h.going from }))
+-- with two places that it holds and a third one that it moves, each 64 where there is none; none where it does not fit, or that is moved already
+abbrev pub held_with : Held → Bool → ℕ → ℕ → ℕ → Option Held
+held_with h fits first second from =
+    cond fits
+    (cond (member h.going from) None
+    (Some (record { claimed = inserted (inserted h.claimed first) second; going = inserted h.going from })))
+    None
 
 -- the place whose lock it took second
 abbrev pub second_of : Busy → ℕ
@@ -37,7 +39,7 @@ fits_of b =
 
 -- what is held with what it adds; none where it does not fit
 abbrev pub busy_of : Busy → Held → Option Held
-busy_of b h = cond (fits_of b) (held_with h (first_held b.agent) (second_of b) (going_from b.agent)) None
+busy_of b h = held_with h (fits_of b) (first_held b.agent) (second_of b) (going_from b.agent)
 
 -- what stages 2 and 3 ask: the agent is ready, and the lock of the place that it remembers is its own
 unfoldable pub holds_first : Busy → Bool

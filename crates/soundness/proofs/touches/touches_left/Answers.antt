@@ -1,5 +1,5 @@
 -- Each turn takes the lowest place that is left, and its touches from what is left of the bound.
-use Rattle.std.proofs.Common.{◌<◌, ◌∙◌, sym, arith, rules, get_or}
+use Rattle.std.proofs.Common.{sym, rules}
 use Rattle.sets.proofs.WalkLaws.{rest_start, rest_lt}
 use Rattle.soundness.proofs.LeftLaws.{taken_start, taken_end, taken_stop, taken_more, left_some, left_none}
 use Rattle.soundness.proofs.touches.touches_left.Goals as goal
@@ -11,17 +11,15 @@ pub bounds-ts-q : goal.bounds-ts-q
 bounds-ts-q c = let e = c.in-Some.ensures.steps in rw e.1.0 (rest_lt c.loop-q.invariant.walk e.0)
 
 -- the place of a turn has more than is left
-pub returns-in_err-left : goal.returns-in_err-left
-returns-in_err-left c =
+pub returns-then-n-left : goal.returns-then-n-left
+returns-then-n-left c =
     let e = c.in-Some.ensures.steps in
-    let l : c.loop-q.left < get_or c.args.ts.now c.in-Some.q 0 = omega (arith, c.in_err-left.ensures) in
-    c.from_residual.ensures ∙ sym (left_none c.args.ts.now c.args.used (taken_stop _ _ _ c.loop-q.invariant e.0 (rw (sym e.1.0) l)))
+    sym (left_none c.args.ts.now c.args.used (taken_stop _ _ _ c.loop-q.invariant e.0 (rw (sym e.1.0) c.if-n-left.true)))
 
 pub loop-q-preserved : goal.loop-q-preserved
 loop-q-preserved c =
     let e = c.in-Some.ensures.steps in
-    let o = c.in_ok-left.ensures in
-    rw (o.1, e.1.1, e.1.0) (taken_more _ _ _ c.loop-q.invariant e.0 (rw (sym e.1.0) o.0))
+    rw (e.1.1, e.1.0) (taken_more _ _ _ c.loop-q.invariant e.0 (rw (sym e.1.0) c.if-n-left.false))
 
 -- nobody is left
 pub returns : goal.returns
