@@ -1,6 +1,6 @@
 -- How large the ceiling of a cell can be; what the code counts is what is defined; told the truth of the cell, the call is answered as it is
 -- defined. Assumes nothing.
-use Rattle.std.specs.Prelude.{◌≡◌, refl, Bool, true, false, cond, ℕ, zero, suc, ◌+◌, ◌*◌, ◌-◌, ◌≤◌, ◌<◌, ltb}
+use Rattle.std.specs.Prelude.{◌≡◌, refl, Bool, true, false, cond, ℕ, zero, suc, ◌+◌, ◌*◌, ◌-◌, ◌≤◌, ltb}
 use Rattle.std.proofs.Common.{sym, ap, ap₂, ◌∙◌, mul-le-mul, arith, ltb-true}
 use Rattle.sets.specs.Word.{bit, has, count_of}
 use Rattle.table.specs.Base.{count_below}
