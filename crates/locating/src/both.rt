@@ -5,7 +5,7 @@ ghost use Rattle.meaning.specs.Where as places;
 ghost use Rattle.locating.specs.Outwards.{up_in};
 ghost use Rattle.locating.specs.Known.{known_common};
 
-use super::{MOST_OUTWARDS, NONE, found_place};
+use super::{MOST_OUTWARDS, first_outwards, found_place};
 use meaning::Found;
 use sets::Set;
 use table::{Cell, Place};
@@ -16,15 +16,12 @@ fn holders(ps: [Place; 64], r: u8) -> Set
 {
     let mut s = Set::EMPTY;
     let mut at = r;
-    let mut left = MOST_OUTWARDS;
-    while 0 < left {
+    for _turn in 0..MOST_OUTWARDS {
         s = s.insert(at);
         if at == 0 {
             return s;
         }
-        let x = table::place_at(ps, at);
-        at = x.parent;
-        left -= 1;
+        at = table::place_at(ps, at).parent;
     }
     s
 }
@@ -33,20 +30,7 @@ fn holders(ps: [Place; 64], r: u8) -> Set
 fn first_among(ps: [Place; 64], s: Set, q: u8) -> u8
     ensures { result ≡ places.outwards places.most_outwards (up_in ps) (member s) q }
 {
-    let mut at = q;
-    let mut left = MOST_OUTWARDS;
-    while 0 < left {
-        if s.has(at) {
-            return at;
-        }
-        if at == 0 {
-            return NONE;
-        }
-        let x = table::place_at(ps, at);
-        at = x.parent;
-        left -= 1;
-    }
-    NONE
+    first_outwards(ps, q, |p| s.has(p))
 }
 
 // The innermost place that holds or is both q and r, or 64.

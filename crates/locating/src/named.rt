@@ -4,7 +4,7 @@ ghost use Rattle.meaning.specs.Where as places;
 ghost use Rattle.locating.specs.Outwards.{up_in, name_in, named_in};
 ghost use Rattle.locating.specs.Known.{known_nearest};
 
-use super::{MOST_OUTWARDS, NONE, found_place};
+use super::{NONE, first_outwards, found_place};
 use meaning::Found;
 use table::{Cell, Place};
 
@@ -12,20 +12,7 @@ use table::{Cell, Place};
 fn first_named(ps: [Place; 64], q: u8, name: u16) -> u8
     ensures { result ≡ places.outwards places.most_outwards (up_in ps) (named_in ps name) q }
 {
-    let mut at = q;
-    let mut left = MOST_OUTWARDS;
-    while 0 < left {
-        let x = table::place_at(ps, at);
-        if x.name.name == name {
-            return at;
-        }
-        if at == 0 {
-            return NONE;
-        }
-        at = x.parent;
-        left -= 1;
-    }
-    NONE
+    first_outwards(ps, q, |p| table::place_at(ps, p).name.name == name)
 }
 
 // The nearest place of this name that encloses q, or 64: nothing encloses the floor.
