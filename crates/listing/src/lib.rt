@@ -23,14 +23,14 @@ pub fn write_listing(c: Cell, at: usize, buf: &mut [u8]) -> usize
 pub fn list_known(known: bool, c: Cell, buf: &mut [u8]) -> Listed
     ensures { (result ≡ known_answer known (cell_of c) buf.old) × (buf.new ≡ known_buffer known (cell_of c) buf.old) }
 {
-    if known {
-        let n = lister::write_if(c, true, 0, buf);
-        if buf.len() < n {
-            return Listed::Unlisted(12);
-        }
-        return Listed::Length(n);
+    if !known {
+        return Listed::Unlisted(10);
     }
-    Listed::Unlisted(10)
+    let n = lister::write_if(c, true, 0, buf);
+    if buf.len() < n {
+        return Listed::Unlisted(12);
+    }
+    Listed::Length(n)
 }
 
 // The listing call.
