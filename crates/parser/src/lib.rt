@@ -73,26 +73,26 @@ pub fn read(c: Cell, s: &[u8]) -> Loaded
         at = k;
         d = n;
         i = r.i + 1;
-        let Event::Nothing = e else {
-            let around = b.places[table::at(x.here)].parent;
-            let which = agent_written(x, e);
-            let y = table::at(which);
-            let g = b.agents[y];
-            b.agents[y] = agent_after(g, x, e);
-            b.given = b.given.insert_if(which, gives_agent(x, e));
-            let q = table::at(x.places + 1);
-            b.places[q] = place_after(b.places[q], x, e);
-            b.used = b.used.insert_if(x.places + 1, gives_place(x, e));
-            x = marks_after(x, e, g.count, around);
-            if let Control::Dot = k {
-                let z = table::at(x.agents.saturating_sub(1));
-                let row = with_row(s, i, b.agents[z]);
-                b.agents[z] = row.agent;
-                at = row.at;
-                i = row.i;
-            }
+        if let Event::Nothing = e {
             continue;
-        };
+        }
+        let around = b.places[table::at(x.here)].parent;
+        let which = agent_written(x, e);
+        let y = table::at(which);
+        let g = b.agents[y];
+        b.agents[y] = agent_after(g, x, e);
+        b.given = b.given.insert_if(which, gives_agent(x, e));
+        let q = table::at(x.places + 1);
+        b.places[q] = place_after(b.places[q], x, e);
+        b.used = b.used.insert_if(x.places + 1, gives_place(x, e));
+        x = marks_after(x, e, g.count, around);
+        if let Control::Dot = k {
+            let z = table::at(x.agents.saturating_sub(1));
+            let row = with_row(s, i, b.agents[z]);
+            b.agents[z] = row.agent;
+            at = row.at;
+            i = row.i;
+        }
     }
     answered(c, b, x.over, s.len())
 }

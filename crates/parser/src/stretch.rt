@@ -18,18 +18,13 @@ pub(super) struct Reached {
 fn stands(s: &[u8], i: usize, w: &[u8]) -> bool
     ensures { result ≡ true → Stands s.now i w.now }
 {
-    if s.len() < w.len() {
+    if s.len().saturating_sub(i) < w.len() {
         return false;
     }
-    if s.len() - w.len() < i {
-        return false;
-    }
-    let mut j: usize = 0;
-    while j < w.len() {
+    for j in 0..w.len() {
         if s[i + j] != w[j] {
             return false;
         }
-        j += 1;
     }
     true
 }
