@@ -60,7 +60,7 @@ fn write_digits(k: u8, n: u64, at: usize, buf: &mut [u8]) -> usize
     if k == 0 {
         return at;
     }
-    let x = 48 + ((n % 10) as u8);
+    let x = b'0' + (n % 10) as u8;
     if n < 10 {
         return write_byte(x, at, buf);
     }
