@@ -4,8 +4,8 @@ use Rattle.std.proofs.Math.Path.{sym, ap}
 use Rattle.std.proofs.Common.{◌∙◌, arith}
 use Rattle.std.proofs.Math.Bool.{cond}
 use mathlib.Core.List.{List, [], ◌∷◌}
-use borrow.Author.Tests.{eq-eqb, ne_eqb, lt-ltb, le-ltb, le-leb, lt-leb, leb-true}
-use Rattle.table.proofs.BaseLaws.{Told, yea, nay, told, and_left, clash}
+use borrow.Author.Tests.{eq-eqb, ne_eqb, lt-ltb, le-ltb, le-leb, lt-leb}
+use Rattle.table.proofs.BaseLaws.{Told, yea, nay, told, clash}
 use Rattle.language.specs.declared.Field.{Field}
 use Rattle.language.specs.declared.Field.TheVariants.{PlaceName, EnterKey, ExitKey, OpenKey, ActionNumber}
 use Rattle.language.specs.declared.Control.{Control}
@@ -22,24 +22,11 @@ use Rattle.table.specs.declared.Cell.{Cell}
 use Rattle.meaning.specs.Refusals.{too_many}
 use Rattle.meaning.specs.declared.Verdict.TheVariants.{Accepted, Rejected}
 use Rattle.meaning.specs.Listing.{kind_text}
-use Rattle.language.specs.Machine.{is_digit, begin_word, begin_part, closed, least_of, follow, continues, spelled, next}
-use Rattle.language.proofs.Coming.{least_one}
+use Rattle.language.specs.Machine.{is_digit, least_of, follow, continues, spelled, next}
 use Rattle.table.specs.declared.Agent.{Agent}
 use Rattle.table.specs.declared.Place.{Place}
 use Rattle.parser.specs.declared.Marks.{Marks}
 use Rattle.parser.specs.Site.{longer, answered_with, agent_written, agent_after, place_after, gives_agent, gives_place, last_number, last_of}
-
--- `]`, and a place is open
-pub closed_one : (d : ℕ) (e : Event) (b : ℕ) → (d ≡ 0 → ⊥) → b ≡ 93 → To After (d - 1) e ≡ closed d e b
-unfolding closed
-closed_one zero e b n q = absurd (n refl)
-closed_one (suc d) e b n q = rw (eq-eqb b 93 q) (ap (λ z. To After z e) (omega arith))
-
--- another byte
-pub closed_none : (d : ℕ) (e : Event) (b : ℕ) → (b ≡ 93 → ⊥) → Off ≡ closed d e b
-unfolding closed
-closed_none zero e b q = refl
-closed_none (suc d) e b q = rw (ne_eqb b 93 q)
 
 -- ---- an arm for what is none of the events, fields and states before it
 
@@ -114,12 +101,6 @@ no_last (Spell k i) d a b e = refl
 no_last (Before f) d a b e = refl
 no_last (Digits f v) d a b e = absurd (e f v refl)
 
--- nothing stands past the end of a word
-pub past_end : (l : List ℕ) (i : ℕ) → length l ≤ i → 0 ≡ get_or l i 0
-past_end [] i h = refl
-past_end (x ∷ l) zero h = absurd (omega arith)
-past_end (x ∷ l) (suc i) h = past_end l i (omega arith)
-
 -- ---- a word, of which t is the next byte
 
 module _ (k i d b t : ℕ) (e : t ≡ get_or (kind_text k) i 0) where
@@ -153,21 +134,6 @@ is_found None = false
 clash_option : {A : Type 0} {n : ℕ} → None ≡ Some n → A
 unfolding is_found
 clash_option e = clash (ap is_found e) refl
-
--- a digit is not below the least
-pub digit_low : (least b : ℕ) (t : Bool) → t ≡ is_digit least b → t ≡ true → 48 + least ≤ b
-digit_low least b t e q = leb-true (48 + least) b (and_left _ _ (sym e ∙ q))
-
-module _ (d b : ℕ) (t : Bool) (e : t ≡ is_digit 1 b) where
-  -- a name begins
-  pub part_digit : (w : ℕ) → w ≡ b - 48 → t ≡ true → To (Digits PlaceName w) d Nothing ≡ begin_part d b
-  unfolding begin_part
-  part_digit w q h = rw (sym e ∙ h, q)
-
-  -- a word begins
-  pub part_word : (m : Moved) → t ≡ false → m ≡ begin_word d NewAgent b → m ≡ begin_part d b
-  unfolding begin_part
-  part_word m h q = rw (sym e ∙ h) q
 
 module _ (v b : ℕ) (t : Bool) (e : t ≡ is_digit 0 b) (l : 1 ≤ v) where
   -- the longer number has 16 bits
@@ -214,15 +180,6 @@ module _ (f : Field) (d b : ℕ) (t : Bool) (l : ℕ) (k : l ≡ least_of f) (e 
   pub before_digit : (w : ℕ) → w ≡ b - 48 → t ≡ true → To (Digits f w) d Nothing ≡ next (Before f) d b
   unfolding next
   before_digit w q h = rw (← k, sym e ∙ h, q)
-
-  -- it does not
-  pub before_off : t ≡ false → Off ≡ next (Before f) d b
-  unfolding next
-  before_off h = rw (← k, sym e ∙ h)
-
--- the least value of a number is 0 or 1
-pub least_lt : {l : ℕ} (f : Field) → l ≡ least_of f → l < 2
-least_lt f e = omega (arith, least_one f)
 
 -- ---- the answer
 
