@@ -1,6 +1,6 @@
 -- The children of a place by a key, and the walk that takes out those that something is on its way to. Assumes nothing.
 -- Idea: a place that is not in use is on its way nowhere, so what holds below one place in use holds up to the next.
-use Rattle.std.specs.Prelude.{◌≡◌, ◌≢◌, ◌⊎◌, Bool, ◌&&◌, ◌||◌, cond, eqb, List, get_or, Option, Some}
+use Rattle.std.specs.Prelude.{◌≡◌, ◌≢◌, ◌⊎◌, Bool, ◌&&◌, ◌||◌, cond, eqb, List, get_or, Some}
 use Rattle.std.proofs.Math.Path.{refl, sym, ap}
 use Rattle.std.proofs.Common.{ap₂, subst, ◌∙◌, inl, inr, arith, add-one, eq-eqb, ne_eqb}
 use Rattle.std.proofs.Math.Bool.{true, false, not}

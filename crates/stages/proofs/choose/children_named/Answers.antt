@@ -1,5 +1,5 @@
 -- Each turn takes the lowest place that is left; what holds before it is `Gathered`.
-use Rattle.std.proofs.Common.{rules, ◌<◌, ◌^◌, sym, ◌∙◌, subst}
+use Rattle.std.proofs.Common.{rules, sym, ◌∙◌, subst}
 use Rattle.sets.proofs.WalkLaws.{turn_below}
 use Rattle.sets.specs.Set.{member}
 use Rattle.sets.specs.declared.Set.{Set}

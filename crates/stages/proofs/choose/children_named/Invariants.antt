@@ -1,5 +1,4 @@
 -- Of the places before those that are left the children of this key are found.
-use Rattle.std.proofs.Common.{ℕ, Bool, ◌&&◌, eqb, get_or}
 use Rattle.sets.specs.Set.{member}
 use Rattle.updates.proofs.GatherLaws.{Gathered}
 use Rattle.stages.proofs.ChildLaws.{named_child}
