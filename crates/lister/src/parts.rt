@@ -171,7 +171,8 @@ fn arrange_aside<const BYTES: usize>(row: &[u8; 64], ends: &[u16; 64], many: usi
     rewrite(row, ends, many, &spare, buf);
 }
 
-// Puts so many parts at the start of a buffer in byte order; ends: where each of them ends.
+// Puts so many parts at the start of a buffer in byte order; ends: where each of them ends. The definitions `Marked` and `Inside`
+// hold the array with its count beside.
 pub(super) fn arrange(ends: &[u16; 64], many: usize, buf: &mut [u8])
     requires { AnyMarked ends.now many buf.old }
     ensures { Arranged ends.now many buf.old buf.new }
