@@ -1,6 +1,6 @@
 -- The program's test of the places, after its walk over the agents, is soundness. Assumes nothing.
 -- Idea: place by place the two tests are equal.
-use Rattle.std.specs.Prelude.{◌≡◌, ◌≢◌, Bool, false, ◌||◌, cond, List, ℕ, ◌<◌, get_or}
+use Rattle.std.specs.Prelude.{◌≡◌, ◌≢◌, Bool, false, ◌||◌, cond, ℕ, ◌<◌, get_or}
 use Rattle.std.proofs.Math.Path.{refl, sym, ap, ap₂}
 use Rattle.std.proofs.Common.{◌∙◌, arith, eqb-true, ne_eqb}
 use Rattle.std.proofs.Math.Bool.{true, not, ◌&&◌}
@@ -50,12 +50,6 @@ all_first P Q n l z h = same_test (Q 0 && all_below P n) (all_below Q n)
     back e j k (nay t) = h j k (eqb-false j 0 t) ∙ all_at Q n j k e
 
 -- ---- places
-
--- where the floor is not as it should be the whole is not, and where it is the other places decide
-pub floor_decides : (ps : List Place) (ls : List ℕ) (used claimed going : Set) (b : Bool)
-    → floor_sound (get_or ps 0 no_place) (get_or ls 0 0) used claimed going ≡ b → (b && children_fit ps ls used claimed going) ≡ lands_fit ps ls used claimed going
-unfolding lands_fit
-floor_decides ps ls used claimed going b e = sym (ap (λ (y : Bool). y && children_fit ps ls used claimed going) e)
 
 module _ (c : Cell) where
   abbrev u : ℕ → Bool

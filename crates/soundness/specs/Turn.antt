@@ -1,7 +1,7 @@
 -- What the agents say together, one after the other: what those before hold, and what the next one adds.
 use Rattle.std.specs.Prelude.{ℕ, ◌≡◌, Bool, true, false, ◌&&◌, cond, eqb, Option, None, Some}
 use Rattle.sets.specs.Word.{has}
-use Rattle.sets.specs.Set.{member, inserted, empty_set}
+use Rattle.sets.specs.Set.{member, inserted}
 use Rattle.table.specs.Cell.{has_action, kind_of, cell_of}
 use Rattle.table.specs.Sound.{actions_fit, ready, holds_both, first_held, second_held, going_from, core_sound}
 use Rattle.table.specs.declared.Agent.{Agent}
@@ -9,10 +9,6 @@ use Rattle.table.specs.declared.Cell.{Cell}
 use Rattle.soundness.specs.Pass.{lock_is_at, linked_at, busy_fits, lands_fit}
 use Rattle.soundness.specs.declared.turns.Busy.{Busy}
 use Rattle.soundness.specs.declared.turns.Held.{Held}
-
--- before the first agent
-abbrev pub nothing_held : Held
-nothing_held = record { claimed = empty_set; going = empty_set }
 
 -- the kind of the next action, or 0 where none is left; none where an unused action is out of range
 abbrev pub row_kind : Agent → Option ℕ
