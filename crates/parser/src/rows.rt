@@ -19,6 +19,7 @@ pub(super) fn with_row(s: &[u8], from: usize, g: Agent) -> Row
 {
     let mut a = g;
     let mut i = from;
+    // No count of turns beside it: the agent's own count is how full its row is.
     while a.count < 16 {
         let r = action(s, i);
         let Control::Digits(Field::ActionNumber(kind), name) = r.at else {

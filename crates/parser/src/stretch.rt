@@ -35,6 +35,7 @@ fn digits(s: &[u8], from: usize, f: Field, value: u16) -> Reached
 {
     let mut i = from;
     let mut v = value;
+    // A while, for where it stops is part of the answer.
     while i < s.len() {
         let Some(n) = more_digits(v, s[i]) else {
             break;

@@ -30,6 +30,7 @@ pub(super) fn with_row(s: &[u8], from: usize, n: u8, g: Agent) -> Reached
 {
     let mut a = g;
     let mut at = from;
+    // No count of turns beside it: the agent's own count is how full its row is.
     while a.count < 16 {
         let Record::ActionRecord(_, kind, name) = own_record(s, at, n) else {
             break;
