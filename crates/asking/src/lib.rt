@@ -20,10 +20,9 @@ pub use number::{goes_on, handed, hands_back, move_goes_on};
 fn waking(c: Cell, a: Agent, d: Decision) -> u8
     ensures { result ≡ woken_by (cell_of c) a d }
 {
-    if d.moves {
-        moving::woken_lent(&c, a, d.motion)
-    } else {
-        0
+    match d.motion {
+        Some(motion) => moving::woken_lent(&c, a, motion),
+        None => 0,
     }
 }
 

@@ -7,7 +7,8 @@ ghost use Rattle.asking.specs.Asked.{say_of, goes_on};
 
 use super::{asked, made_if, waking};
 use meaning::{Answer, Asked, Stepped};
-use step::{Decision, motion_word};
+use moves::Motion;
+use step::motion_word;
 use table::Cell;
 
 // Whether the number is that of what is told; a refused ask is refused again by the step itself.
@@ -43,13 +44,11 @@ pub fn goes_on(any: bool, said: Answer, place: u8, answer: u64) -> bool
 }
 
 // Whether the move that was decided, which would wake so many, is the one of which an ask gives this number.
-pub fn move_goes_on(d: Decision, woken: u8, answer: u64) -> bool
-    ensures { result ≡ hands_back (Would (motion_word d.motion) woken d.chosen) answer }
+pub fn move_goes_on(motion: Motion, chosen: u8, woken: u8, answer: u64) -> bool
+    ensures { result ≡ hands_back (Would (motion_word motion) woken chosen) answer }
 {
-    let q = d.chosen;
-    let m = d.motion;
-    let w = motion_word(m);
-    hands_back(Asked::Would(w, woken, q), answer)
+    let w = motion_word(motion);
+    hands_back(Asked::Would(w, woken, chosen), answer)
 }
 
 // The step, if the number is still that of what an ask would tell: 18 otherwise.
