@@ -16,9 +16,7 @@ use Rattle.table.specs.Sound.{sound}
 use Rattle.table.specs.declared.Agent.{Agent}
 use Rattle.table.specs.declared.Cell.{Cell}
 use Rattle.soundness.specs.Seen.{seen_of}
-use Rattle.meaning.specs.declared.Answer.TheVariants.{Did}
-use Rattle.meaning.specs.declared.Asked.{Asked}
-use Rattle.meaning.specs.declared.Asked.TheVariants.{Would}
+use Rattle.meaning.specs.Answers.{Did, Asked, Would}
 use Rattle.meaning.specs.declared.Stepped.{Stepped}
 use Rattle.meaning.specs.Refusals.{answer_differs}
 use Rattle.meaning.specs.Step.{Outcome, choice, fires, stays, still, turn, take, release, leave, arrive, dissolve, put, step_at, step}

@@ -9,7 +9,8 @@ ghost use Rattle.table.specs.Cell.{cell_of};
 ghost use Rattle.meaning.specs.Ask.{ask_of, agrees as agrees_with, commit_of};
 ghost use Rattle.asking.specs.Asked.{woken_by, tell_of, made_if};
 
-use meaning::{Answer, Asked, Stepped};
+use meaning::refusals::ANSWER_DIFFERS;
+use meaning::{Asked, Outcome, Prospect, Stepped};
 use step::Decision;
 use table::{Agent, Cell};
 
@@ -33,8 +34,8 @@ pub fn asked(d: Decision, woken: u8) -> Asked
     let q = d.chosen;
     let answer = d.answer;
     match answer {
-        Answer::Did(word, _) => Asked::Would(word, woken, q),
-        Answer::Refused(number) => Asked::Unasked(number),
+        Ok(Outcome { word, woken: _ }) => Ok(Prospect { word, woken, place: q }),
+        Err(number) => Err(number),
     }
 }
 
@@ -43,14 +44,14 @@ pub fn agrees(a: Asked, word: u8, woken: u8, place: u8) -> bool
     ensures { result ≡ agrees_with a word woken place }
 {
     match a {
-        Asked::Would(w, n, q) => {
+        Ok(Prospect { word: w, woken: n, place: q }) => {
             if numbers::word_number(w) == word {
                 if n == woken { q == place } else { false }
             } else {
                 false
             }
         }
-        Asked::Unasked(_) => true,
+        Err(_) => true,
     }
 }
 
@@ -74,7 +75,7 @@ fn made_if(same: bool, c: Cell, agent: u8, d: Decision) -> Stepped
     }
     Stepped {
         cell: c,
-        answer: Answer::Refused(18),
+        answer: Err(ANSWER_DIFFERS),
     }
 }
 

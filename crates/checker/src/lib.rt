@@ -11,7 +11,7 @@ mod turns;
 
 ghost use Rattle.std.specs.Prelude.{◌≡◌, ◌≢◌, ◌*◌, ◌%◌, ◌≤◌, length};
 ghost use Rattle.table.specs.Cell.{bare_table, cell_of};
-ghost use Rattle.meaning.specs.declared.Verdict.TheVariants.{Accepted};
+ghost use Rattle.meaning.specs.Answers.{Accepted};
 ghost use Rattle.meaning.specs.File.{load_of};
 ghost use Rattle.meaning.specs.Listing.{listing};
 ghost use Rattle.text.specs.Same.{same_text};
@@ -70,7 +70,7 @@ fn run(c: Cell, trail: &[u8], moves: usize) -> Played
         match t {
             Turn::Deny(reason) => {
                 return Played {
-                    verdict: Verdict::Accepted,
+                    verdict: Ok(()),
                     made: n,
                     reason: reason,
                     cell: d,
@@ -88,7 +88,7 @@ fn run(c: Cell, trail: &[u8], moves: usize) -> Played
         n += 1;
     }
     Played {
-        verdict: Verdict::Accepted,
+        verdict: Ok(()),
         made: moves,
         reason: 0,
         cell: d,
@@ -124,9 +124,9 @@ fn play(file: &[u8], trail: &[u8], moves: usize) -> Played
     let v = l.verdict;
     let d = l.cell;
     match v {
-        Verdict::Accepted => run(d, trail, moves),
-        Verdict::Rejected(number, offset) => Played {
-            verdict: Verdict::Rejected(number, offset),
+        Ok(()) => run(d, trail, moves),
+        Err(rejection) => Played {
+            verdict: Err(rejection),
             made: 0,
             reason: 0,
             cell: d,
@@ -142,8 +142,8 @@ fn judge_odd(file: &[u8], trail: &[u8]) -> Finding
     let p = play(file, trail, 0);
     let v = p.verdict;
     match v {
-        Verdict::Accepted => Finding::Denied(trail.len() / 2, 3),
-        Verdict::Rejected(number, offset) => Finding::BadFile(number, offset),
+        Ok(()) => Finding::Denied(trail.len() / 2, 3),
+        Err(r) => Finding::BadFile(r.number, r.offset),
     }
 }
 
@@ -155,7 +155,7 @@ fn judge_even(file: &[u8], trail: &[u8], text: &[u8]) -> Finding
     let p = play(file, trail, trail.len() / 2);
     let v = p.verdict;
     match v {
-        Verdict::Accepted => {
+        Ok(()) => {
             if p.reason != 0 {
                 return Finding::Denied(p.made, p.reason);
             }
@@ -165,7 +165,7 @@ fn judge_even(file: &[u8], trail: &[u8], text: &[u8]) -> Finding
             }
             Finding::Denied(p.made, 4)
         }
-        Verdict::Rejected(number, offset) => Finding::BadFile(number, offset),
+        Err(r) => Finding::BadFile(r.number, r.offset),
     }
 }
 

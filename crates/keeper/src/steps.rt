@@ -2,13 +2,14 @@
 ghost use Rattle.std.specs.Prelude.{◌≡◌};
 ghost use Rattle.table.specs.Bounds.{Sized};
 ghost use Rattle.table.specs.Cell.{cell_of};
-ghost use Rattle.meaning.specs.declared.Answer.TheVariants.{Did};
+ghost use Rattle.meaning.specs.Answers.{Did};
 ghost use Rattle.soundness.specs.Seen.{seen_of};
 ghost use Rattle.meaning.specs.Codes.{step_number};
 ghost use Rattle.moves.specs.Motions.{woken_in};
 ghost use Rattle.step.specs.Decided.{agent_at, motion_word, staged_at, locked_at, change_in, decided as decided_of};
 ghost use Rattle.asking.specs.Asked.{asked_of, goes_on, moved_if, settled_if, carried_if};
 
+use meaning::refusals::ANSWER_DIFFERS;
 use crate::step_number;
 use asking::{asked, goes_on, move_goes_on};
 use meaning::Asked;
@@ -82,7 +83,7 @@ fn moved(cell: &mut Cell, agent: u8, d: Decision, motion: Motion, any: bool, ans
         let r = shift_lent(cell, agent, a, motion);
         return step_number(r);
     }
-    18
+    u64::from(ANSWER_DIFFERS)
 }
 
 // The agent's stage, remembered and chosen place that were decided, stored in place.
@@ -116,7 +117,7 @@ fn settled(cell: &mut Cell, agent: u8, d: Decision, any: bool, answer: u64) -> u
         lock_stored(cell, d.second, d.lock);
         return step_number(d.answer);
     }
-    18
+    u64::from(ANSWER_DIFFERS)
 }
 
 // The decision, carried out on a lent cell if the step goes on: 18 otherwise.

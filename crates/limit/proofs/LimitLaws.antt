@@ -12,7 +12,7 @@ use Rattle.table.specs.declared.Agent.{Agent}
 use Rattle.table.specs.declared.Cell.{Cell}
 use Rattle.meaning.specs.Codes.{limit_number}
 use Rattle.meaning.specs.Refusals.{unsound_table}
-use Rattle.meaning.specs.declared.Limit.TheVariants.{AtMost, Uncounted}
+use Rattle.meaning.specs.Answers.{AtMost, Uncounted}
 use Rattle.meaning.specs.Limit.{agents_of, is_away, moves_of, moves_left, changes_left, ceiling_of}
 use Rattle.limit.specs.Known.{moves_at, known_ceiling}
 

@@ -8,6 +8,7 @@ ghost use Rattle.meaning.specs.Limit.{is_away, moves_left, ceiling_of};
 ghost use Rattle.limit.specs.Known.{moves_at, known_ceiling};
 
 use meaning::Limit;
+use meaning::refusals::UNSOUND_TABLE;
 use sets::Set;
 use table::Cell;
 
@@ -45,9 +46,9 @@ pub fn ceiling_known(known: bool, given: Set, left: u16) -> Limit
     if known {
         let agents = given.count() as u64;
         let moves = left as u64;
-        return Limit::AtMost(5 * agents * (moves + 1) + moves);
+        return Ok(5 * agents * (moves + 1) + moves);
     }
-    Limit::Uncounted(10)
+    Err(UNSOUND_TABLE)
 }
 
 // How many step calls can still change the cell, at most.

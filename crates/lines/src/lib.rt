@@ -58,8 +58,8 @@ pub fn write_step(agent: u8, answer: Answer, at: usize, buf: &mut [u8]) -> usize
     ensures { Wrote (step_line agent answer) at buf.old buf.new result }
 {
     let (word, number) = match answer {
-        Answer::Did(word, woken) => (word_text(word), woken),
-        Answer::Refused(number) => (REFUSED, number),
+        Ok(o) => (word_text(o.word), o.woken),
+        Err(number) => (REFUSED, number),
     };
     let named = write_ended(agent as u64, b' ', 0, buf);
     let i = offset(0, named, buf.len());

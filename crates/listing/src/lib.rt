@@ -8,6 +8,7 @@ ghost use Rattle.meaning.specs.Listing.{listing, list_answer, list_buffer};
 ghost use Rattle.text.specs.Wrote.{Wrote};
 ghost use Rattle.listing.specs.Known.{known_answer, known_buffer};
 
+use meaning::refusals::{TOO_LONG, UNSOUND_TABLE};
 use meaning::Listed;
 use table::Cell;
 
@@ -24,13 +25,13 @@ pub fn list_known(known: bool, c: Cell, buf: &mut [u8]) -> Listed
     ensures { (result ≡ known_answer known (cell_of c) buf.old) × (buf.new ≡ known_buffer known (cell_of c) buf.old) }
 {
     if !known {
-        return Listed::Unlisted(10);
+        return Err(UNSOUND_TABLE);
     }
     let n = lister::write_if(c, true, 0, buf);
     if buf.len() < n {
-        return Listed::Unlisted(12);
+        return Err(TOO_LONG);
     }
-    Listed::Length(n)
+    Ok(n)
 }
 
 // The listing call.

@@ -7,6 +7,7 @@ ghost use Rattle.locating.specs.Known.{known_common};
 
 use super::{MOST_OUTWARDS, first_outwards, found_place};
 use meaning::Found;
+use meaning::refusals::{NOT_YET_GIVEN, PLACE_TOO_LARGE, UNSOUND_TABLE};
 use sets::Set;
 use table::{Cell, Place};
 
@@ -48,10 +49,10 @@ pub fn common_known(known: bool, c: Cell, place: u8, other: u8) -> Found
 {
     if known {
         if 64 <= place {
-            return Found::Unfound(3);
+            return Err(PLACE_TOO_LARGE);
         }
         if 64 <= other {
-            return Found::Unfound(3);
+            return Err(PLACE_TOO_LARGE);
         }
         let used = c.used;
         if used.has(place) {
@@ -61,9 +62,9 @@ pub fn common_known(known: bool, c: Cell, place: u8, other: u8) -> Found
                 return found_place(p);
             }
         }
-        return Found::Unfound(5);
+        return Err(NOT_YET_GIVEN);
     }
-    Found::Unfound(10)
+    Err(UNSOUND_TABLE)
 }
 
 // The innermost place that holds or is both of two.

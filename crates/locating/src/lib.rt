@@ -26,9 +26,9 @@ fn found_place(p: u8) -> Found
     ensures { result ≡ found_place p }
 {
     if p == NONE {
-        return Found::Nowhere;
+        return Ok(None);
     }
-    Found::At(p)
+    Ok(Some(p))
 }
 
 // From q outwards, q itself counted: the first place that passes, or 64.

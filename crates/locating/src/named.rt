@@ -6,6 +6,7 @@ ghost use Rattle.locating.specs.Known.{known_nearest};
 
 use super::{NONE, first_outwards, found_place};
 use meaning::Found;
+use meaning::refusals::{NOT_YET_GIVEN, PLACE_TOO_LARGE, UNSOUND_TABLE};
 use table::{Cell, Place};
 
 // From q outwards, q itself counted: the first place of this name, or 64.
@@ -33,7 +34,7 @@ pub fn nearest_known(known: bool, c: Cell, place: u8, name: u16) -> Found
 {
     if known {
         if 64 <= place {
-            return Found::Unfound(3);
+            return Err(PLACE_TOO_LARGE);
         }
         let used = c.used;
         if used.has(place) {
@@ -41,9 +42,9 @@ pub fn nearest_known(known: bool, c: Cell, place: u8, name: u16) -> Found
             let p = nearest_place(ps, place, name);
             return found_place(p);
         }
-        return Found::Unfound(5);
+        return Err(NOT_YET_GIVEN);
     }
-    Found::Unfound(10)
+    Err(UNSOUND_TABLE)
 }
 
 // The nearest enclosing place of a name.

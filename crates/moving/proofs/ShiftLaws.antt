@@ -18,7 +18,7 @@ use Rattle.table.proofs.CellLaws.{table_eq, places_are, used_are, given_are, tou
 use Rattle.table.specs.declared.Place.{Place}
 use Rattle.table.specs.declared.Agent.{Agent}
 use Rattle.table.specs.declared.Cell.{Cell}
-use Rattle.meaning.specs.declared.Answer.TheVariants.{Did}
+use Rattle.meaning.specs.Answers.{Did}
 use Rattle.meaning.specs.declared.Stepped.{Stepped}
 use Rattle.meaning.specs.Update.{with_parent, with_way, linked_place, at_stage}
 use Rattle.meaning.specs.Step.{rest_stage, asleep_on, woken_by, woken_on, wake, leave, arrive, put, dissolve, dissolve_lock, beyond}

@@ -3,7 +3,7 @@ ghost use Rattle.std.specs.Prelude.{◌≡◌, ◌<◌};
 ghost use Rattle.sets.specs.Word.{count_of};
 ghost use Rattle.sets.specs.Set.{member};
 ghost use Rattle.table.specs.Cell.{cell_of};
-ghost use Rattle.meaning.specs.declared.Answer.TheVariants.{Did};
+ghost use Rattle.meaning.specs.Answers.{Did};
 ghost use Rattle.meaning.specs.Run.{made};
 ghost use Rattle.moves.specs.Motions.{shifted};
 ghost use Rattle.moving.specs.Shift.{opened_of, settled_of};
@@ -11,7 +11,7 @@ ghost use Rattle.moving.specs.Shift.{opened_of, settled_of};
 use super::plan::{Site, kept, number, planned};
 use super::waking::{Waking, goal, who_wakes};
 use super::walks::{counted, walk};
-use meaning::{Answer, Word};
+use meaning::{Answer, Outcome, Word};
 use moves::{Motion, adopt, free_held, freed, pool};
 use sets::Set;
 use table::{Agent, Cell, at};
@@ -54,7 +54,10 @@ fn settled(cell: &mut Cell, waking: Waking, k: usize, site: Site, holders: Set)
 fn answered(word: Word, sleepers: Set) -> Answer
     ensures { result ≡ Did word (count_of 64 (member sleepers)) }
 {
-    Answer::Did(word, counted(sleepers))
+    Ok(Outcome {
+        word,
+        woken: counted(sleepers),
+    })
 }
 
 // A place moves in a lent cell.

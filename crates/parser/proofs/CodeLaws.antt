@@ -20,7 +20,7 @@ use Rattle.order.specs.Row.{later}
 use Rattle.table.specs.Cell.{put_order}
 use Rattle.table.specs.declared.Cell.{Cell}
 use Rattle.meaning.specs.Refusals.{too_many}
-use Rattle.meaning.specs.declared.Verdict.TheVariants.{Accepted, Rejected}
+use Rattle.meaning.specs.Answers.{Accepted, Rejected}
 use Rattle.meaning.specs.Listing.{kind_text}
 use Rattle.language.specs.Machine.{is_digit, least_of, follow, continues, spelled, next}
 use Rattle.table.specs.declared.Agent.{Agent}

@@ -10,7 +10,7 @@ use Rattle.table.specs.declared.Cell.{Cell}
 use Rattle.meaning.specs.declared.Loaded.{Loaded}
 use Rattle.meaning.specs.File.{with_action}
 use Rattle.meaning.specs.Refusals.{too_many}
-use Rattle.meaning.specs.declared.Verdict.TheVariants.{Accepted, Rejected}
+use Rattle.meaning.specs.Answers.{Accepted, Rejected}
 use Rattle.language.specs.Machine.{continues, next}
 use Rattle.language.specs.Grammar.{with_keys}
 use Rattle.language.specs.declared.Field.{Field}

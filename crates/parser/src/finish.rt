@@ -3,7 +3,8 @@ ghost use Rattle.std.specs.Prelude.{◌≡◌};
 ghost use Rattle.parser.specs.Site.{last_number, last_of, answered_with};
 
 use language::{Control, Event, Field, Moved};
-use meaning::{Loaded, Verdict};
+use meaning::refusals::TOO_MANY;
+use meaning::{Loaded, Rejection};
 use table::Cell;
 
 // The end of a text after a number: an action's last, with no place open.
@@ -51,7 +52,10 @@ pub(super) fn answered(c: Cell, b: Cell, over: bool, n: usize) -> Loaded
     if over {
         return Loaded {
             cell: c,
-            verdict: Verdict::Rejected(17, n),
+            verdict: Err(Rejection {
+                number: TOO_MANY,
+                offset: n,
+            }),
         };
     }
     Loaded {
@@ -59,6 +63,6 @@ pub(super) fn answered(c: Cell, b: Cell, over: bool, n: usize) -> Loaded
             order: order::later(b.order, b.used.remove(0)),
             ..b
         },
-        verdict: Verdict::Accepted,
+        verdict: Ok(()),
     }
 }

@@ -17,7 +17,8 @@ use build::{agent_after, agent_written, gives_agent, gives_place, marks_after, p
 use finish::{answered, last};
 use language::{Control, Event, Moved};
 use machine::next_by;
-use meaning::{Loaded, Verdict};
+use meaning::refusals::OUTSIDE_LANGUAGE;
+use meaning::{Loaded, Rejection};
 use rows::with_row;
 use stretch::stretch;
 use table::Cell;
@@ -67,7 +68,10 @@ pub fn read(c: Cell, s: &[u8]) -> Loaded
         let Moved::To(k, n, e) = moved(s, r.i, r.at, d) else {
             return Loaded {
                 cell: c,
-                verdict: Verdict::Rejected(16, r.i),
+                verdict: Err(Rejection {
+                    number: OUTSIDE_LANGUAGE,
+                    offset: r.i,
+                }),
             };
         };
         at = k;

@@ -6,6 +6,10 @@ ghost use Rattle.meaning.specs.File.{two_bytes, four_bytes, keyed_name, place_le
 ghost use Rattle.meaning.specs.File.{place_record, agent_record, action_record, touch_record, record_at};
 
 use meaning::Record;
+use meaning::refusals::{
+    AGENT_TOO_LARGE, CUT_SHORT, GIVEN_TWICE, NAME_ZERO, NOT_YET_GIVEN, PARENT_TOO_LARGE,
+    PLACE_TOO_LARGE, SEVENTEENTH, UNKNOWN_KIND, WRONG_KIND,
+};
 use sets::Set;
 use table::Name;
 
@@ -61,19 +65,19 @@ fn place_record(taken: bool, known: bool, number: u8, parent: u8, name: Name) ->
     ensures { result ≡ place_record taken known number parent name }
 {
     if number == 0 || number >= 64 {
-        return Record::Faulty(3);
+        return Record::Faulty(PLACE_TOO_LARGE);
     }
     if parent >= 64 {
-        return Record::Faulty(13);
+        return Record::Faulty(PARENT_TOO_LARGE);
     }
     if taken {
-        return Record::Faulty(4);
+        return Record::Faulty(GIVEN_TWICE);
     }
     if !known {
-        return Record::Faulty(5);
+        return Record::Faulty(NOT_YET_GIVEN);
     }
     if name.name == 0 {
-        return Record::Faulty(6);
+        return Record::Faulty(NAME_ZERO);
     }
     Record::PlaceRecord(number, parent, name)
 }
@@ -94,16 +98,16 @@ fn agent_record(taken: bool, known: bool, number: u8, home: u8) -> Record
     ensures { result ≡ agent_record taken known number home }
 {
     if number >= 64 {
-        return Record::Faulty(14);
+        return Record::Faulty(AGENT_TOO_LARGE);
     }
     if home >= 64 {
-        return Record::Faulty(13);
+        return Record::Faulty(PARENT_TOO_LARGE);
     }
     if taken {
-        return Record::Faulty(4);
+        return Record::Faulty(GIVEN_TWICE);
     }
     if !known {
-        return Record::Faulty(5);
+        return Record::Faulty(NOT_YET_GIVEN);
     }
     Record::AgentRecord(number, home)
 }
@@ -114,19 +118,19 @@ pub(super) fn action_record(known: bool, full: bool, agent: u8, kind: u8, name: 
     ensures { result ≡ action_record known full agent kind name }
 {
     if agent >= 64 {
-        return Record::Faulty(14);
+        return Record::Faulty(AGENT_TOO_LARGE);
     }
     if !known {
-        return Record::Faulty(5);
+        return Record::Faulty(NOT_YET_GIVEN);
     }
     if kind == 0 || kind > 4 {
-        return Record::Faulty(7);
+        return Record::Faulty(WRONG_KIND);
     }
     if name == 0 {
-        return Record::Faulty(6);
+        return Record::Faulty(NAME_ZERO);
     }
     if full {
-        return Record::Faulty(8);
+        return Record::Faulty(SEVENTEENTH);
     }
     Record::ActionRecord(agent, kind, name)
 }
@@ -137,13 +141,13 @@ fn touch_record(taken: bool, known: bool, place: u8, touches: u32) -> Record
     ensures { result ≡ touch_record taken known place touches }
 {
     if place >= 64 {
-        return Record::Faulty(3);
+        return Record::Faulty(PLACE_TOO_LARGE);
     }
     if taken {
-        return Record::Faulty(4);
+        return Record::Faulty(GIVEN_TWICE);
     }
     if !known {
-        return Record::Faulty(5);
+        return Record::Faulty(NOT_YET_GIVEN);
     }
     Record::TouchRecord(place, touches)
 }
@@ -182,7 +186,7 @@ pub(super) fn record_at(
             let touches = four_bytes(s[at + 2], s[at + 3], s[at + 4], s[at + 5]);
             touch_record(counted.has(place), used.has(place), place, touches)
         }
-        1 | 2 | 3 | 5 | 6 => Record::Faulty(1),
-        _ => Record::Faulty(2),
+        1 | 2 | 3 | 5 | 6 => Record::Faulty(CUT_SHORT),
+        _ => Record::Faulty(UNKNOWN_KIND),
     }
 }

@@ -12,7 +12,6 @@ ghost use Rattle.meaning.specs.Report.{report as report_of};
 ghost use Rattle.report.specs.Run.{report_from};
 
 use lines::{write_refused, write_step};
-use meaning::Verdict;
 use table::Cell;
 use text::offset;
 pub use typed::write_typed_report;
@@ -59,7 +58,7 @@ pub fn write_report(cell: &[u8], order: &[u8], buf: &mut [u8]) -> usize
 {
     let r = reader::load(table::bare(), cell);
     match r.verdict {
-        Verdict::Accepted => write_run(r.cell, order, buf),
-        Verdict::Rejected(number, place) => write_refused(number, place, 0, buf),
+        Ok(()) => write_run(r.cell, order, buf),
+        Err(r) => write_refused(r.number, r.offset, 0, buf),
     }
 }

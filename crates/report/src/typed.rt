@@ -6,7 +6,6 @@ ghost use Rattle.language.specs.TypedReport.{line_of, shown, shown_from, window,
 
 use crate::write_run;
 use lines::write_refused;
-use meaning::Verdict;
 use text::{least, offset};
 
 // The longest part of a text that is shown, and how many bytes of it stand before the caret.
@@ -120,7 +119,7 @@ pub fn write_typed_report(file: &[u8], order: &[u8], buf: &mut [u8]) -> usize
     let line = line_of(file);
     let r = parser::read(table::bare(), line);
     match r.verdict {
-        Verdict::Accepted => write_run(r.cell, order, buf),
-        Verdict::Rejected(number, place) => write_refused_text(line, number, place, buf),
+        Ok(()) => write_run(r.cell, order, buf),
+        Err(r) => write_refused_text(line, r.number, r.offset, buf),
     }
 }

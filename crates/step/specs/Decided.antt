@@ -8,8 +8,7 @@ use Rattle.soundness.specs.declared.sound.Seen.{Seen}
 use Rattle.meaning.specs.declared.Word.{Word}
 use Rattle.meaning.specs.declared.Word.TheVariants.{Took, Held, Left, Came, Opened}
 use Rattle.meaning.specs.declared.Word.TheVariants as words
-use Rattle.meaning.specs.declared.Answer.{Answer}
-use Rattle.meaning.specs.declared.Answer.TheVariants.{Did, Refused}
+use Rattle.meaning.specs.Answers.{Answer, Did, Refused}
 use Rattle.meaning.specs.declared.Stepped.{Stepped}
 use Rattle.meaning.specs.Refusals.{unsound_table, no_such_agent}
 use Rattle.meaning.specs.Update.{at_stage}

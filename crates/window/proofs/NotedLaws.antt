@@ -1,7 +1,7 @@
 -- The window after a step is told by the number of the step's answer; and what a command comes to.
 -- Idea: a step wakes at most 64 and is refused with 10 or 11, so that word, number woken and refusal are read off the number.
 -- Assumes nothing.
-use Rattle.std.specs.Prelude.{◌≡◌, ◌≢◌, Bool, true, false, cond, List, ℕ, ◌+◌, ◌*◌, ◌/◌, ◌%◌, ◌≤◌, ◌<◌, eqb, ltb, leb, get_or}
+use Rattle.std.specs.Prelude.{◌≡◌, ◌≢◌, Bool, true, false, cond, List, ℕ, ◌+◌, ◌*◌, ◌/◌, ◌%◌, ◌≤◌, ◌<◌, eqb, ltb, leb, get_or, Ok, Err}
 use Rattle.std.proofs.Common.{sym, ap, ap₂, ◌∙◌, arith, lit<, ne_eqb, eq-eqb}
 use Rattle.sets.proofs.WordLaws.{count_most}
 use Rattle.table.proofs.BaseLaws.{Told, yea, nay, told}
@@ -13,8 +13,7 @@ use Rattle.table.specs.declared.Agent.{Agent}
 use Rattle.table.specs.declared.Cell.{Cell}
 use Rattle.meaning.specs.declared.Word.{Word}
 use Rattle.meaning.specs.declared.Word.TheVariants.{Looked, Took, Held, Back, Slept, Left, Came, Opened, Put, Asleep, Done}
-use Rattle.meaning.specs.declared.Answer.{Answer}
-use Rattle.meaning.specs.declared.Answer.TheVariants.{Did, Refused}
+use Rattle.meaning.specs.Answers.{Answer, Did}
 use Rattle.meaning.specs.Codes.{word_number, above, step_number}
 use Rattle.meaning.specs.Step.{Outcome, stays, fires, choice, still, turn, take, release, look, lock_first, put, put_or_sleep, lock_second, hold, leave, dissolve, act, arrive, travel, step_at, step}
 use Rattle.meaning.specs.Run.{made, turned_away, step_of}
@@ -73,8 +72,8 @@ few_step c x wish =
 
 -- number woken and refusal have their bits
 abbrev Fits : Answer → Type 0
-Fits (Did word woken) = woken < 256
-Fits (Refused number) = (0 < number) × (number < 128)
+Fits (Ok o) = o.woken < 256
+Fits (Err number) = (0 < number) × (number < 128)
 
 -- a step call refuses with 10 and 11 alone
 step_fits : (t : Cell) (x wish : ℕ) → Fits (step_of t x wish).answer
@@ -116,11 +115,11 @@ module _ (w n : ℕ) (a : w < 256) (b : n < 256) where
 -- the window after a step, told by the number of its answer
 noted_answer : (w : Window) (rest : Bool) (answer : Answer) → Fits answer → noted_of w (step_number answer) rest ≡ step_window w rest answer
 unfolding noted_of
-noted_answer w rest (Did word woken) l =
-    let s : word_number word < 256 = omega (arith, word_small word) in
-    rw (eq-eqb (step_number (Did word woken) % 256) 0 (refusal_of (word_number word) woken s l))
-    (ap₂ (λ (m n : ℕ). did_of w m n rest) (word_of (word_number word) woken s l) (woken_of (word_number word) woken s l))
-noted_answer w rest (Refused number) l =
+noted_answer w rest (Ok o) l =
+    let s : word_number o.word < 256 = omega (arith, word_small o.word) in
+    rw (eq-eqb (step_number (Did o.word o.woken) % 256) 0 (refusal_of (word_number o.word) o.woken s l))
+    (ap₂ (λ (m n : ℕ). did_of w m n rest) (word_of (word_number o.word) o.woken s l) (woken_of (word_number o.word) o.woken s l))
+noted_answer w rest (Err number) l =
     let low : number % 256 ≡ number = omega (arith, l.1) in
     let some : number % 256 ≢ 0 = λ e. omega (arith, e, low, l.0) in
     let same : number % 256 % 128 ≡ number = omega (arith, l.1) in

@@ -6,6 +6,7 @@ ghost use Rattle.std.specs.Prelude.{◌≡◌};
 ghost use Rattle.trail.specs.Written.{word_moves, tells_move, told_answer, told_buffer};
 
 use meaning::Listed;
+use meaning::refusals::TOO_LONG;
 
 // Whether a word, by its number, says a move: left, opened or put.
 fn says_move(word: u64) -> bool
@@ -27,13 +28,13 @@ pub fn write_move(agent: u8, asked: u64, trail: &mut [u8]) -> Listed
     ensures { (trail.new ≡ told_buffer agent asked trail.old) × (result ≡ told_answer agent asked trail.old) }
 {
     if !tells_move(asked) {
-        return Listed::Length(0);
+        return Ok(0);
     }
     // By numbers: with a pattern of the two bytes the proof did not close.
     if trail.len() < 2 {
-        return Listed::Unlisted(12);
+        return Err(TOO_LONG);
     }
     trail[0] = agent;
     trail[1] = (asked / 16777216 % 256) as u8;
-    Listed::Length(2)
+    Ok(2)
 }
