@@ -29,7 +29,7 @@ use Rattle.stages.specs.Changes.{looks, locks_second, puts_or_sleeps, holds, act
 use Rattle.stages.proofs.ChangeLaws.{step_carried}
 use Rattle.stages.specs.declared.Change.{Change}
 use Rattle.stages.specs.declared.Change.TheVariants.{Still, Turn, Take, Release, Move}
-use Rattle.step.specs.Decided.{told_by, locked_choice, motion_choice, motion_word, settling, change_in, settling_in, decided, agent_at, settled, carried_out, carried_by}
+use Rattle.step.specs.Decided.{told_by, locked_choice, motion_choice, motion_word, settling, change_in, settling_in, decided, agent_at, carried_out, carried_by}
 use Rattle.step.proofs.CarryLaws.{index, lock_read, decided_step}
 use Rattle.step.specs.declared.Decision.{Decision}
 use Rattle.asking.specs.Asked.{woken_by, tell_of, asked_of, made_if, say_of, goes_on, only_if, moved_if, settled_if, carried_if}

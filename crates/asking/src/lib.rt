@@ -34,7 +34,11 @@ pub fn asked(d: Decision, woken: u8) -> Asked
     let q = d.chosen;
     let answer = d.answer;
     match answer {
-        Ok(Outcome { word, woken: _ }) => Ok(Prospect { word, woken, place: q }),
+        Ok(Outcome { word, woken: _ }) => Ok(Prospect {
+            word,
+            woken,
+            place: q,
+        }),
         Err(number) => Err(number),
     }
 }
@@ -44,7 +48,13 @@ pub fn agrees(a: Asked, word: u8, woken: u8, place: u8) -> bool
     ensures { result ≡ agrees_with a word woken place }
 {
     match a {
-        Ok(Prospect { word: w, woken: n, place: q }) => {
+        Ok(
+            Prospect {
+                word: w,
+                woken: n,
+                place: q,
+            },
+        ) => {
             if numbers::word_number(w) == word {
                 if n == woken { q == place } else { false }
             } else {

@@ -48,7 +48,14 @@ pub fn move_goes_on(motion: Motion, chosen: u8, woken: u8, answer: u64) -> bool
     ensures { result ≡ hands_back (Would (motion_word motion) woken chosen) answer }
 {
     let w = motion_word(motion);
-    hands_back(Ok(Prospect { word: w, woken, place: chosen }), answer)
+    hands_back(
+        Ok(Prospect {
+            word: w,
+            woken,
+            place: chosen,
+        }),
+        answer,
+    )
 }
 
 // The step, if the number is still that of what an ask would tell: 18 otherwise.

@@ -78,5 +78,8 @@ pub(super) fn allowed(used: Set, h: u8, x: Action, around: u8, p: Place, b: u8, 
 pub(super) fn why_not(kind: u8) -> u8
     ensures { result ≡ why_kind kind }
 {
-    if kind == 0 { NO_ACTION_LEFT } else { NOT_PERMITTED }
+    match kind {
+        0 => NO_ACTION_LEFT,
+        _ => NOT_PERMITTED,
+    }
 }

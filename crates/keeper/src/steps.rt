@@ -9,10 +9,10 @@ ghost use Rattle.moves.specs.Motions.{woken_in};
 ghost use Rattle.step.specs.Decided.{agent_at, motion_word, staged_at, locked_at, change_in, decided as decided_of};
 ghost use Rattle.asking.specs.Asked.{asked_of, goes_on, moved_if, settled_if, carried_if};
 
-use meaning::refusals::ANSWER_DIFFERS;
 use crate::step_number;
 use asking::{asked, goes_on, move_goes_on};
 use meaning::Asked;
+use meaning::refusals::ANSWER_DIFFERS;
 use moves::Motion;
 use moving::{shift_lent, woken_lent};
 use soundness::sound_lent;

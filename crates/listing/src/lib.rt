@@ -8,8 +8,8 @@ ghost use Rattle.meaning.specs.Listing.{listing, list_answer, list_buffer};
 ghost use Rattle.text.specs.Wrote.{Wrote};
 ghost use Rattle.listing.specs.Known.{known_answer, known_buffer};
 
-use meaning::refusals::{TOO_LONG, UNSOUND_TABLE};
 use meaning::Listed;
+use meaning::refusals::{TOO_LONG, UNSOUND_TABLE};
 use table::Cell;
 
 // The listing of any cell, sound or not, at a position, as far as there is room; answers the position after it.
