@@ -1,6 +1,6 @@
 -- What is told of the decision is what the step would give; and the decision carried out if that is still so is a commit.
 -- Idea: the place is read off the change that the stage decides; word and number woken are those of the change, carried out.
-use Rattle.std.specs.Prelude.{◌≡◌, Bool, true, false, ◌&&◌, ℕ, ◌<◌, ltb, leb}
+use Rattle.std.specs.Prelude.{◌≡◌, Bool, true, false, ◌&&◌, ℕ, ◌<◌, ltb, leb, Option, Some, None}
 use Rattle.std.proofs.Math.Path.{refl, sym, ap, ap₂}
 use Rattle.std.proofs.Common.{◌∙◌, eqb-true}
 use Rattle.std.proofs.Math.Bool.{cond}
@@ -16,9 +16,7 @@ use Rattle.table.specs.Sound.{sound}
 use Rattle.table.specs.declared.Agent.{Agent}
 use Rattle.table.specs.declared.Cell.{Cell}
 use Rattle.soundness.specs.Seen.{seen_of}
-use Rattle.meaning.specs.declared.Answer.TheVariants.{Did}
-use Rattle.meaning.specs.declared.Asked.{Asked}
-use Rattle.meaning.specs.declared.Asked.TheVariants.{Would}
+use Rattle.meaning.specs.Answers.{Did, Asked, Would}
 use Rattle.meaning.specs.declared.Stepped.{Stepped}
 use Rattle.meaning.specs.Refusals.{answer_differs}
 use Rattle.meaning.specs.Step.{Outcome, choice, fires, stays, still, turn, take, release, leave, arrive, dissolve, put, step_at, step}
@@ -31,7 +29,7 @@ use Rattle.stages.specs.Changes.{looks, locks_second, puts_or_sleeps, holds, act
 use Rattle.stages.proofs.ChangeLaws.{step_carried}
 use Rattle.stages.specs.declared.Change.{Change}
 use Rattle.stages.specs.declared.Change.TheVariants.{Still, Turn, Take, Release, Move}
-use Rattle.step.specs.Decided.{told_by, locked_choice, motion_choice, motion_word, settling, change_in, settling_in, decided, agent_at, settled, carried_out}
+use Rattle.step.specs.Decided.{told_by, locked_choice, motion_choice, motion_word, settling, change_in, settling_in, decided, agent_at, carried_out, carried_by}
 use Rattle.step.proofs.CarryLaws.{index, lock_read, decided_step}
 use Rattle.step.specs.declared.Decision.{Decision}
 use Rattle.asking.specs.Asked.{woken_by, tell_of, asked_of, made_if, say_of, goes_on, only_if, moved_if, settled_if, carried_if}
@@ -261,17 +259,17 @@ module _ (t : Cell) (z : Sized t) (x wish : ℕ) where
 
 -- where a place moves, the motion is what is carried out; where none does, the agent and the locks
 module _ (t : Cell) (x : ℕ) (d : Decision) (any : Bool) (n : ℕ) where
-  -- by whether a place moves
-  abbrev by_moves : Bool → Stepped
-  by_moves y = only_if t d any n (cond y (made (shifted (cell_of t) x (agent_at t x) d.motion)) (record { cell = settled t x d; answer = d.answer }))
+  -- by how a place moves, if one does
+  abbrev by_motion : Option Motion → Stepped
+  by_motion o = only_if t d any n (carried_by t x d o)
 
-  pub carried_moved : d.moves ≡ true → moved_if t x d any n ≡ carried_if t x d any n
+  pub carried_moved : (m : Motion) → d.motion ≡ Some m → moved_if t x d m any n ≡ carried_if t x d any n
   unfolding moved_if carried_if carried_out
-  carried_moved e = sym (ap by_moves e)
+  carried_moved m e = sym (ap by_motion e)
 
-  pub carried_settled : d.moves ≡ false → settled_if t x d any n ≡ carried_if t x d any n
+  pub carried_settled : d.motion ≡ None → settled_if t x d any n ≡ carried_if t x d any n
   unfolding settled_if carried_if carried_out
-  carried_settled e = sym (ap by_moves e)
+  carried_settled e = sym (ap by_motion e)
 
 -- a step r, which is s, that goes on by the test y, and one that does not
 module _ (t : Cell) (d : Decision) (any : Bool) (n : ℕ) (s r : Stepped) (e : r ≡ s) (y : Bool) (e' : y ≡ goes_on any r.answer d.chosen n) where

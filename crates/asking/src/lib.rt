@@ -9,7 +9,8 @@ ghost use Rattle.table.specs.Cell.{cell_of};
 ghost use Rattle.meaning.specs.Ask.{ask_of, agrees as agrees_with, commit_of};
 ghost use Rattle.asking.specs.Asked.{woken_by, tell_of, made_if};
 
-use meaning::{Answer, Asked, Stepped};
+use meaning::refusals::ANSWER_DIFFERS;
+use meaning::{Asked, Outcome, Prospect, Stepped};
 use step::Decision;
 use table::{Agent, Cell};
 
@@ -20,11 +21,10 @@ pub use number::{goes_on, handed, hands_back, move_goes_on};
 fn waking(c: Cell, a: Agent, d: Decision) -> u8
     ensures { result ≡ woken_by (cell_of c) a d }
 {
-    if d.moves {
-        let m = d.motion;
-        return moves::woken(c, a, m);
+    match d.motion {
+        Some(motion) => moving::woken_lent(&c, a, motion),
+        None => 0,
     }
-    0
 }
 
 // What an ask tells of the step that was decided and would wake so many.
@@ -34,8 +34,12 @@ pub fn asked(d: Decision, woken: u8) -> Asked
     let q = d.chosen;
     let answer = d.answer;
     match answer {
-        Answer::Did(word, _) => Asked::Would(word, woken, q),
-        Answer::Refused(number) => Asked::Unasked(number),
+        Ok(Outcome { word, woken: _ }) => Ok(Prospect {
+            word,
+            woken,
+            place: q,
+        }),
+        Err(number) => Err(number),
     }
 }
 
@@ -44,14 +48,20 @@ pub fn agrees(a: Asked, word: u8, woken: u8, place: u8) -> bool
     ensures { result ≡ agrees_with a word woken place }
 {
     match a {
-        Asked::Would(w, n, q) => {
+        Ok(
+            Prospect {
+                word: w,
+                woken: n,
+                place: q,
+            },
+        ) => {
             if numbers::word_number(w) == word {
                 if n == woken { q == place } else { false }
             } else {
                 false
             }
         }
-        Asked::Unasked(_) => true,
+        Err(_) => true,
     }
 }
 
@@ -75,7 +85,7 @@ fn made_if(same: bool, c: Cell, agent: u8, d: Decision) -> Stepped
     }
     Stepped {
         cell: c,
-        answer: Answer::Refused(18),
+        answer: Err(ANSWER_DIFFERS),
     }
 }
 

@@ -1,13 +1,14 @@
 // A commit of the very number that an ask gave, for hosts that hand it back unread.
 ghost use Rattle.std.specs.Prelude.{◌≡◌};
-ghost use Rattle.meaning.specs.declared.Asked.TheVariants.{Would};
+ghost use Rattle.meaning.specs.Answers.{Would};
 ghost use Rattle.meaning.specs.Ask.{hands_back, handed_of};
 ghost use Rattle.step.specs.Decided.{motion_word};
 ghost use Rattle.asking.specs.Asked.{say_of, goes_on};
 
 use super::{asked, made_if, waking};
-use meaning::{Answer, Asked, Stepped};
-use step::{Decision, motion_word};
+use meaning::{Answer, Asked, Outcome, Prospect, Stepped};
+use moves::Motion;
+use step::motion_word;
 use table::Cell;
 
 // Whether the number is that of what is told; a refused ask is refused again by the step itself.
@@ -16,8 +17,8 @@ pub fn hands_back(a: Asked, answer: u64) -> bool
 {
     let number = numbers::ask_number(a);
     match a {
-        Asked::Would(_, _, _) => number == answer,
-        Asked::Unasked(_) => true,
+        Ok(_) => number == answer,
+        Err(_) => true,
     }
 }
 
@@ -26,8 +27,8 @@ fn say(said: Answer, place: u8) -> Asked
     ensures { result ≡ say_of said place }
 {
     match said {
-        Answer::Did(word, woken) => Asked::Would(word, woken, place),
-        Answer::Refused(number) => Asked::Unasked(number),
+        Ok(Outcome { word, woken }) => Ok(Prospect { word, woken, place }),
+        Err(number) => Err(number),
     }
 }
 
@@ -43,13 +44,18 @@ pub fn goes_on(any: bool, said: Answer, place: u8, answer: u64) -> bool
 }
 
 // Whether the move that was decided, which would wake so many, is the one of which an ask gives this number.
-pub fn move_goes_on(d: Decision, woken: u8, answer: u64) -> bool
-    ensures { result ≡ hands_back (Would (motion_word d.motion) woken d.chosen) answer }
+pub fn move_goes_on(motion: Motion, chosen: u8, woken: u8, answer: u64) -> bool
+    ensures { result ≡ hands_back (Would (motion_word motion) woken chosen) answer }
 {
-    let q = d.chosen;
-    let m = d.motion;
-    let w = motion_word(m);
-    hands_back(Asked::Would(w, woken, q), answer)
+    let w = motion_word(motion);
+    hands_back(
+        Ok(Prospect {
+            word: w,
+            woken,
+            place: chosen,
+        }),
+        answer,
+    )
 }
 
 // The step, if the number is still that of what an ask would tell: 18 otherwise.

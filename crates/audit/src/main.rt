@@ -7,22 +7,23 @@
 
 #![tactic(auto)]
 
-ghost use Rattle.std.specs.Prelude.{◌≡◌, length};
-ghost use Rattle.files.specs.Inputs.{Within};
+ghost use Rattle.std.specs.Prelude.{◌≡◌};
 ghost use Rattle.audit.specs.Names.{naming_by};
 
 use auditing::{FINAL_BYTES, LINE_BYTES, TRAIL_BYTES};
 use buffers::CELL_BYTES;
-use files::Input;
-use std::io::Write;
+use files::{Absent, Extent, Program, Source, Unread, Wanted};
 
 // Where the three files' names come from: their own, or three arguments.
-#[derive(Clone, Copy)]
+#[derive(Clone, Copy, PartialEq, Eq, Debug)]
 enum Naming {
     Usual,
     Given,
     Unclear,
 }
+
+const USAGE: &[u8] =
+    b"usage: audit [CELL TRAIL FINAL]   (without paths: the files cell, trail and final of the working folder)\n";
 
 // Without arguments the names are `cell`, `trail` and `final`; three arguments are the names; anything else is not understood. The
 // program's own name is counted among its arguments.
@@ -30,74 +31,62 @@ enum Naming {
 fn naming_by(count: usize) -> Naming
     ensures { result ≡ naming_by count }
 {
-    if count < 2 {
-        Naming::Usual
-    } else if count == 4 {
-        Naming::Given
-    } else {
-        Naming::Unclear
+    match count {
+        0 | 1 => Naming::Usual,
+        4 => Naming::Given,
+        _ => Naming::Unclear,
     }
 }
 
-fn usage(rt: &HostRuntime) {
-    let line =
-        b"usage: audit [CELL TRAIL FINAL]   (without paths: the files cell, trail and final of the working folder)\n";
-    let _told = rt.stderr().write_all(line);
-}
-
-// The bytes of the file that argument i names, where names are given, or else of the file with this name; an absent one fails.
-fn read(rt: &HostRuntime, given: bool, i: usize, name: &[u8], whole: bool, buf: &mut [u8]) -> Input
-    ensures { Within result (length buf.new) }
-{
-    let input = files::read_input(rt, b"audit", given, i, name, false, whole, buf);
-    if let Input::Unnamed = input {
-        usage(rt);
-    }
-    input
-}
-
-// Writes the line in one piece.
-fn show(rt: &HostRuntime, line: &[u8]) {
-    if let Err(error) = rt.stdout().write_all(line) {
-        let _failed = files::complain(rt, b"audit", b"standard output", error);
+// A file that is read so far; an absent one fails.
+const fn present(name: &[u8], extent: Extent) -> Wanted {
+    Wanted {
+        name,
+        absent: Absent::Failure,
+        extent,
     }
 }
 
-// The finding on three files, which are read into these buffers: `cell`, `trail` and `final`, or those that three arguments name.
+// The finding on three files, which are read into these buffers, and how many bytes its line has.
 fn run_in(
-    rt: &HostRuntime,
-    given: bool,
+    audit: Program,
+    [cells, trails, finals]: [Source; 3],
     cell: &mut [u8; CELL_BYTES],
     trail: &mut [u8; TRAIL_BYTES],
     last: &mut [u8; FINAL_BYTES],
-) {
+) -> Result<usize, Unread> {
     let mut text = [0u8; LINE_BYTES];
-    let Input::Bytes(n) = read(rt, given, 1, b"cell", false, cell) else {
-        return;
-    };
-    let Input::Bytes(m) = read(rt, given, 2, b"trail", true, trail) else {
-        return;
-    };
-    let Input::Bytes(k) = read(rt, given, 3, b"final", true, last) else {
-        return;
-    };
+    let n = audit.read_input(cells, present(b"cell", Extent::Start), cell)?;
+    let m = audit.read_input(trails, present(b"trail", Extent::Whole), trail)?;
+    let k = audit.read_input(finals, present(b"final", Extent::Whole), last)?;
     let r = auditing::write_audit(cell, n, trail, m, last, k, &mut text);
-    show(rt, &text[..r]);
+    audit.show(&text[..r])
 }
 
-// The finding on three files.
-fn run(rt: &HostRuntime, given: bool) {
+// The finding on three files, and how many bytes its line has.
+fn run(audit: Program, sources: [Source; 3]) -> Result<usize, Unread> {
     let mut cell = [0u8; CELL_BYTES];
     let mut trail = [0u8; TRAIL_BYTES];
     let mut last = [0u8; FINAL_BYTES];
-    run_in(rt, given, &mut cell, &mut trail, &mut last);
+    run_in(audit, sources, &mut cell, &mut trail, &mut last)
 }
 
 fn main(rt: HostRuntime) {
-    let names = naming_by(files::argument_count(&rt));
-    match names {
-        Naming::Usual => run(&rt, false),
-        Naming::Given => run(&rt, true),
-        Naming::Unclear => usage(&rt),
-    }
+    let audit = Program {
+        rt: &rt,
+        name: b"audit",
+        usage: USAGE,
+    };
+    let _told = match naming_by(files::argument_count(&rt)) {
+        Naming::Usual => run(audit, [Source::Usual; 3]),
+        Naming::Given => run(
+            audit,
+            [
+                Source::Argument(1),
+                Source::Argument(2),
+                Source::Argument(3),
+            ],
+        ),
+        Naming::Unclear => audit.misuse(),
+    };
 }

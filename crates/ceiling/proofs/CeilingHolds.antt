@@ -14,7 +14,7 @@ use Rattle.table.proofs.CellLaws.{sized_table}
 use Rattle.table.specs.Sound.{sound}
 use Rattle.table.specs.declared.Agent.{Agent}
 use Rattle.table.specs.declared.Cell.{Cell}
-use Rattle.meaning.specs.declared.Limit.TheVariants.{AtMost}
+use Rattle.meaning.specs.Answers.{AtMost}
 use Rattle.meaning.specs.File.{load, accepted}
 use Rattle.meaning.specs.Run.{Call, run, answers}
 use Rattle.meaning.specs.Limit.{agents_of, is_away, moves_of, moves_left, changes_left, ceiling_of}

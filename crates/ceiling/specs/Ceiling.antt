@@ -1,12 +1,11 @@
 -- No order can churn forever (document 02, W12): how many of the step calls after a load can change the cell. Definitions only.
-use Rattle.std.specs.Prelude.{◌≡◌, ◌≢◌, ◌↔◌, List, [], ◌∷◌, Bool, true, false, ◌&&◌, cond, ℕ, ◌+◌, ◌*◌, ◌≤◌, length}
+use Rattle.std.specs.Prelude.{◌≡◌, ◌≢◌, ◌↔◌, List, [], ◌∷◌, Bool, true, false, ◌&&◌, cond, ℕ, ◌+◌, ◌*◌, ◌≤◌, length, Ok, Err}
 use Rattle.sets.specs.Word.{bit}
 use Rattle.table.specs.Base.{count_below, sum_below}
 use Rattle.table.specs.Cell.{State, cell_of, table_of, unused}
 use Rattle.table.specs.declared.Cell.{Cell}
 use Rattle.meaning.specs.declared.Word.{Word}
 use Rattle.meaning.specs.declared.Word.TheVariants.{Looked, Took, Held, Back, Slept, Left, Came, Opened, Put, Asleep, Done}
-use Rattle.meaning.specs.declared.Answer.TheVariants.{Did, Refused}
 use Rattle.meaning.specs.Run.{Call, step_call, touch_call, commit_call, Reply, step_reply, touch_reply, call_of, run, answers}
 use Rattle.meaning.specs.Limit.{agents_of, is_away, changes_left}
 use Rattle.demands.specs.AfterCalls.{reached, answered}
@@ -60,8 +59,8 @@ is_change Done = false
 
 -- an answer to a step call that is no refusal, with such a word
 abbrev pub says_change : Reply → Bool
-says_change (step_reply (Did word woken)) = is_change word
-says_change (step_reply (Refused number)) = false
+says_change (step_reply (Ok o)) = is_change o.word
+says_change (step_reply (Err number)) = false
 says_change (touch_reply answer) = false
 
 -- how many of the answers are such answers

@@ -1,7 +1,7 @@
 -- The checker's loop, its start and its end; and what the load answered before it.
 use Rattle.std.proofs.Math.Path.{◌≡◌, refl, sym, ap, ap₂, subst}
 use Rattle.std.proofs.Common.{◌∙◌, not-suc-le-zero, le_of_suc-le-suc, arith, eq-eqb, ne_eqb}
-use Rattle.std.specs.Prelude.{◌≢◌, Bool, true, false, ℕ, zero, suc, ◌+◌, ◌*◌, ◌/◌, ◌%◌, ◌≤◌, ◌<◌, eqb, length, get_or, drop}
+use Rattle.std.specs.Prelude.{◌≢◌, Bool, true, false, ℕ, zero, suc, ◌+◌, ◌*◌, ◌/◌, ◌%◌, ◌≤◌, ◌<◌, eqb, length, get_or, drop, Ok, Err}
 use Rattle.std.proofs.Math.Bool.{cond}
 use mathlib.Core.List.{List, [], ◌∷◌}
 use Rattle.table.proofs.BaseLaws.{Told, yea, nay, told}
@@ -13,7 +13,7 @@ use Rattle.meaning.specs.File.{Load, accepted, refused, load, loaded, load_of}
 use Rattle.meaning.specs.Listing.{listing}
 use Rattle.meaning.specs.Plain.{tree_of}
 use Rattle.meaning.specs.declared.Loaded.{Loaded}
-use Rattle.meaning.specs.declared.Verdict.TheVariants.{Accepted, Rejected}
+use Rattle.meaning.specs.Answers.{Verdict, Accepted, Rejected}
 use Rattle.calculus.specs.Formed.{Formed}
 use Rattle.demands.proofs.AgreesLaws.{tree_formed}
 use Rattle.demands.specs.Invariant.{Fit}
@@ -123,6 +123,15 @@ loaded_ready s c e =
       fit = subst (λ (d : State). (x : ℕ) → d.given x ≡ true → Fit (d.agent x)) (sym (fresh_forth c f)) (λ x g. subst Fit (agent_given c x g) (i.fit x));
     }
 
+-- the number and the offset with which a load is refused
+number_of : Verdict → ℕ
+number_of (Ok u) = 0
+number_of (Err r) = r.number
+
+offset_of : Verdict → ℕ
+offset_of (Ok u) = 0
+offset_of (Err r) = r.offset
+
 module _ (t : Cell) (s : List ℕ) (z : Loaded) (e : z ≡ load_of t s) where
   -- an accepted one: its table is ready, and the finding is that on it
   pub accepted_ready : z.verdict ≡ Accepted → Ready z.cell
@@ -147,7 +156,7 @@ module _ (t : Cell) (s : List ℕ) (z : Loaded) (e : z ≡ load_of t s) where
 
   -- a refused one: "A bad file keeps its load refusal"
   pub refused_found : (trail text : List ℕ) (n o : ℕ) → z.verdict ≡ Rejected n o → BadFile n o ≡ finding s trail text
-  unfolding load_of loaded finding finding_of
+  unfolding load_of loaded finding finding_of number_of offset_of
   refused_found trail text n o v = go (load s) refl
     where
       go : (l : Load) → load s ≡ l → BadFile n o ≡ finding s trail text
@@ -155,7 +164,7 @@ module _ (t : Cell) (s : List ℕ) (z : Loaded) (e : z ≡ load_of t s) where
           let k : ◌≡◌ {A = ℕ} 0 1 = cc in absurd (omega arith)
       go (refused m p) f =
           let q : z.verdict ≡ Rejected m p = ap (λ (y : Loaded). y.verdict) (e ∙ ap (loaded t) f) in
-          let a : m ≡ n = cc in let b : p ≡ o = cc in
+          let a : m ≡ n = ap number_of (sym q ∙ v) in let b : p ≡ o = ap offset_of (sym q ∙ v) in
           ap₂ BadFile (sym a) (sym b) ∙ sym (ap (λ (l : Load). finding_of l trail text) f)
 
   -- what the moves come to then

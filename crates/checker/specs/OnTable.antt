@@ -14,7 +14,7 @@ use Rattle.meaning.specs.Listing.{listing}
 use Rattle.meaning.specs.Plain.{tree_from, tree_of}
 use Rattle.meaning.specs.Run.{made}
 use Rattle.meaning.specs.Update.{with_parent, at_stage, use_up}
-use Rattle.meaning.specs.declared.Verdict.TheVariants.{Accepted, Rejected}
+use Rattle.meaning.specs.Answers.{Accepted, Rejected}
 use Rattle.calculus.specs.Formed.{Formed}
 use Rattle.demands.specs.Invariant.{Fit}
 use Rattle.moves.specs.Motions.{shifted}

@@ -11,7 +11,7 @@ mod turns;
 
 ghost use Rattle.std.specs.Prelude.{◌≡◌, ◌≢◌, ◌*◌, ◌%◌, ◌≤◌, length};
 ghost use Rattle.table.specs.Cell.{bare_table, cell_of};
-ghost use Rattle.meaning.specs.declared.Verdict.TheVariants.{Accepted};
+ghost use Rattle.meaning.specs.Answers.{Accepted};
 ghost use Rattle.meaning.specs.File.{load_of};
 ghost use Rattle.meaning.specs.Listing.{listing};
 ghost use Rattle.text.specs.Same.{same_text};
@@ -21,7 +21,7 @@ ghost use Rattle.checker.specs.OnTable.{Ready, Stops, Plays, FoundAnyway};
 use making::make;
 use meaning::{Loaded, Verdict};
 use table::Cell;
-use trail::Finding;
+use trail::{Finding, ODD_BYTE, OTHER_LAYOUT};
 use turns::{count_used, turn_of};
 
 // What one move of a trail comes to.
@@ -52,8 +52,7 @@ fn run(c: Cell, trail: &[u8], moves: usize) -> Played
     ensures { (result.verdict ≡ Accepted) × Stops c trail.now moves result }
 {
     let mut d = c;
-    let mut n: usize = 0;
-    while n < moves {
+    for n in 0..moves {
         let x = trail[2 * n];
         let b = trail[2 * n + 1];
         let k = table::at(x);
@@ -61,34 +60,26 @@ fn run(c: Cell, trail: &[u8], moves: usize) -> Played
         let i = table::at(a.home);
         let around = d.places[i].parent;
         let o = table::at(around);
-        let p = d.places[o];
         let j = table::at(b);
-        let q = d.places[j];
-        let given = d.given;
-        let used = d.used;
-        let t = turn_of(given, used, x, a, around, p, b, q);
+        let t = turn_of(d.given, d.used, x, a, around, d.places[o], b, d.places[j]);
         match t {
             Turn::Deny(reason) => {
                 return Played {
-                    verdict: Verdict::Accepted,
+                    verdict: Ok(()),
                     made: n,
-                    reason: reason,
+                    reason,
                     cell: d,
                 };
             }
             Turn::Into(to) => {
-                let next = count_used(a.next, a.count);
                 d.places[i].parent = to;
-                d.agents[k].next = next;
+                d.agents[k].next = count_used(a.next, a.count);
             }
-            Turn::Shift => {
-                d = make(d, x, a, b);
-            }
+            Turn::Shift => d = make(d, x, a, b),
         }
-        n += 1;
     }
     Played {
-        verdict: Verdict::Accepted,
+        verdict: Ok(()),
         made: moves,
         reason: 0,
         cell: d,
@@ -124,9 +115,9 @@ fn play(file: &[u8], trail: &[u8], moves: usize) -> Played
     let v = l.verdict;
     let d = l.cell;
     match v {
-        Verdict::Accepted => run(d, trail, moves),
-        Verdict::Rejected(number, offset) => Played {
-            verdict: Verdict::Rejected(number, offset),
+        Ok(()) => run(d, trail, moves),
+        Err(rejection) => Played {
+            verdict: Err(rejection),
             made: 0,
             reason: 0,
             cell: d,
@@ -142,8 +133,8 @@ fn judge_odd(file: &[u8], trail: &[u8]) -> Finding
     let p = play(file, trail, 0);
     let v = p.verdict;
     match v {
-        Verdict::Accepted => Finding::Denied(trail.len() / 2, 3),
-        Verdict::Rejected(number, offset) => Finding::BadFile(number, offset),
+        Ok(()) => Finding::Denied(trail.len() / 2, ODD_BYTE),
+        Err(r) => Finding::BadFile(r.number, r.offset),
     }
 }
 
@@ -155,7 +146,7 @@ fn judge_even(file: &[u8], trail: &[u8], text: &[u8]) -> Finding
     let p = play(file, trail, trail.len() / 2);
     let v = p.verdict;
     match v {
-        Verdict::Accepted => {
+        Ok(()) => {
             if p.reason != 0 {
                 return Finding::Denied(p.made, p.reason);
             }
@@ -163,9 +154,9 @@ fn judge_even(file: &[u8], trail: &[u8], text: &[u8]) -> Finding
             if is_listing(d, text) {
                 return Finding::Upheld;
             }
-            Finding::Denied(p.made, 4)
+            Finding::Denied(p.made, OTHER_LAYOUT)
         }
-        Verdict::Rejected(number, offset) => Finding::BadFile(number, offset),
+        Err(r) => Finding::BadFile(r.number, r.offset),
     }
 }
 

@@ -8,18 +8,17 @@ use super::Turn;
 use super::rules::{allowed, why_not};
 use sets::Set;
 use table::{Agent, Cell, Place};
+use trail::NO_ACTION_LEFT;
 
 // What a move that is allowed comes to, by the kind of the action: an enter goes into b, an exit to where the place around stands.
 fn turn_by(kind: u8, beyond: u8, b: u8) -> Turn
     ensures { result ≡ turn_by kind beyond b }
 {
-    if kind == 1 {
-        return Turn::Into(b);
+    match kind {
+        1 => Turn::Into(b),
+        2 => Turn::Into(beyond),
+        _ => Turn::Shift,
     }
-    if kind == 2 {
-        return Turn::Into(beyond);
-    }
-    Turn::Shift
 }
 
 // What the move of agent x that the byte b tells comes to: of the agent, where its own place stands, the place there, and place b.
@@ -35,15 +34,15 @@ pub(super) fn turn_of(
 ) -> Turn
     ensures { (t : Cell) → Ready t → Reads t x given used a around p b q → result ≡ turn_of (tree_of (cell_of t)) x b }
 {
-    if given.has(x) {
-        let n = table::next_action(a);
-        if allowed(used, a.home, n, around, p, b, q) {
-            return turn_by(n.kind, p.parent, b);
-        }
-        let why = why_not(n.kind);
-        return Turn::Deny(why);
+    if !given.has(x) {
+        return Turn::Deny(NO_ACTION_LEFT);
     }
-    Turn::Deny(2)
+    let n = table::next_action(a);
+    if allowed(used, a.home, n, around, p, b, q) {
+        turn_by(n.kind, p.parent, b)
+    } else {
+        Turn::Deny(why_not(n.kind))
+    }
 }
 
 // How many of an agent's actions are used once its next, if one is left, is used up.

@@ -3,7 +3,7 @@
 -- and place in their own bits.
 use Rattle.std.proofs.Math.Path.{◌≡◌, refl, sym, ap}
 use Rattle.std.proofs.Common.{ap₂, ◌∙◌, subst, eq-eqb, ne_eqb}
-use Rattle.std.specs.Prelude.{◌≢◌, ◌⊎◌, Bool, false, cond, ℕ, ◌%◌, eqb}
+use Rattle.std.specs.Prelude.{◌≢◌, ◌⊎◌, Bool, false, cond, ℕ, ◌%◌, eqb, Ok, Err}
 use Rattle.std.proofs.Math.Logic.{inl, inr}
 use Rattle.std.proofs.Math.Bool.{true}
 use mathlib.Core.List.{List, [], ◌∷◌, ◌++◌}
@@ -15,8 +15,7 @@ use Rattle.table.proofs.CellLaws.{sized_table}
 use Rattle.table.specs.Sound.{sound}
 use Rattle.table.specs.declared.Agent.{Agent}
 use Rattle.table.specs.declared.Cell.{Cell}
-use Rattle.meaning.specs.declared.Asked.{Asked}
-use Rattle.meaning.specs.declared.Asked.TheVariants.{Would, Unasked}
+use Rattle.meaning.specs.Answers.{Asked, Would, Unasked}
 use Rattle.meaning.specs.declared.Stepped.{Stepped}
 use Rattle.meaning.specs.declared.Word.{Word}
 use Rattle.meaning.specs.declared.Word.TheVariants.{Looked, Took, Held, Back, Slept, Left, Came, Opened, Put, Asleep, Done}
@@ -56,8 +55,8 @@ use Rattle.claims.specs.Claims.{asked_by, trail_asked, AskedAsRun}
 
 -- the same by value: at left, opened and put the agent and the place, 255 for none; else nothing
 abbrev pub asked_bytes : ℕ → Asked → List ℕ
-asked_bytes x (Would word woken place) = cond (is_move word) (x ∷ place ∷ []) []
-asked_bytes x (Unasked number) = []
+asked_bytes x (Ok o) = cond (is_move o.word) (x ∷ o.place ∷ []) []
+asked_bytes x (Err number) = []
 
 -- the words of a move, by their numbers
 word_moves_lem : (w : Word) → word_moves (word_number w) ≡ is_move w

@@ -1,14 +1,13 @@
 -- The trail of every run is upheld with the listing of the cell reached: `run_upheld`, of every accepted file and every list of calls.
 -- Idea: each call makes one move of the plain tree, by the plain tree's own step, or none; the tree that a move makes tells its place; and the plain
 -- tree is that of the cell reached, whose listing is that of its tree.
-use Rattle.std.specs.Prelude.{◌≡◌, refl, ◌≢◌, ◌⊎◌, true, false, List, ◌++◌, ℕ}
+use Rattle.std.specs.Prelude.{◌≡◌, refl, ◌≢◌, ◌⊎◌, true, false, List, ◌++◌, ℕ, Ok, Err}
 use Rattle.std.proofs.Math.Path.{sym, ap}
 use Rattle.std.proofs.Common.{◌∙◌, subst, inl, inr}
 use Rattle.table.proofs.BaseLaws.{Told, yea, nay, told, clash, eq?, upd_same, upd_other}
 use Rattle.table.specs.Cell.{State, cell_of, enter_kind, open_kind, chooses, fresh_number}
 use Rattle.table.proofs.FreshLaws.{fresh_unused}
 use Rattle.table.proofs.KindLaws.{Kind, is_enter, is_exit, is_open, is_release}
-use Rattle.meaning.specs.declared.Answer.TheVariants.{Did, Refused}
 use Rattle.meaning.specs.declared.Word.{Word}
 use Rattle.meaning.specs.declared.Word.TheVariants.{Looked, Took, Held, Back, Slept, Left, Came, Opened, Put, Asleep, Done}
 use Rattle.meaning.specs.Calculus.{Tree, next_of, permits, put_into, open_up, move, Move}
@@ -105,8 +104,8 @@ word_makes p a wish Done e = clash e refl
 
 reply_makes : (p : Plain) (k : Call) (a : Reply) → says_move a ≡ true → Makes p.tree (agent_of k) (p.pick (agent_of k)) (plain_step p k a).tree
 unfolding plain_step
-reply_makes p k (step_reply (Did w n)) e = word_makes p (agent_of k) (wish_of k) w e
-reply_makes p k (step_reply (Refused n)) e = clash e refl
+reply_makes p k (step_reply (Ok o)) e = word_makes p (agent_of k) (wish_of k) o.word e
+reply_makes p k (step_reply (Err n)) e = clash e refl
 reply_makes p k (touch_reply n) e = clash e refl
 
 -- the byte of the pick tells it, at put too, for there it is 255

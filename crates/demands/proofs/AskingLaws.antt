@@ -1,6 +1,6 @@
 -- Ask, then commit, of every sound table and every agent that is given; and that a commit that goes through is a step call.
 -- Idea: an ask tells the step's own word and number woken; a commit is the step call or is refused, by one test.
-use Rattle.std.specs.Prelude.{◌≡◌, refl, ◌≢◌, true, List, [], ◌∷◌, ℕ, ◌≤◌, ◌<◌}
+use Rattle.std.specs.Prelude.{◌≡◌, refl, ◌≢◌, true, List, [], ◌∷◌, ℕ, ◌≤◌, ◌<◌, Ok, Err}
 use Rattle.std.proofs.Common.{sym, ◌∙◌, arith}
 use Rattle.std.proofs.Math.Path.{ap, subst}
 use Rattle.table.proofs.BaseLaws.{Told, yea, nay, told, clash}
@@ -9,10 +9,7 @@ use Rattle.table.specs.Cell.{State, cell_of, table_of}
 use Rattle.table.proofs.CellLaws.{back, bounded}
 use Rattle.table.specs.Sound.{sound}
 use Rattle.table.specs.declared.Cell.{Cell}
-use Rattle.meaning.specs.declared.Answer.{Answer}
-use Rattle.meaning.specs.declared.Answer.TheVariants.{Did, Refused}
-use Rattle.meaning.specs.declared.Asked.{Asked}
-use Rattle.meaning.specs.declared.Asked.TheVariants.{Would}
+use Rattle.meaning.specs.Answers.{Answer, Asked, Would}
 use Rattle.meaning.specs.declared.Stepped.{Stepped}
 use Rattle.meaning.specs.declared.Word.{Word}
 use Rattle.meaning.specs.declared.Word.TheVariants.{Looked, Took, Held, Back, Slept, Left, Came, Opened, Put, Asleep, Done}
@@ -137,8 +134,8 @@ run_steps t (commit_call x wish word woken place ∷ calls) =
 plain_commit : (p : Plain) (x wish word woken place : ℕ) (answer : Answer)
     → plain_step p (commit_call x wish word woken place) (step_reply answer) ≡ plain_step p (step_call x wish) (step_reply answer)
 unfolding plain_step
-plain_commit p x wish word woken place (Did w n) = refl
-plain_commit p x wish word woken place (Refused number) = refl
+plain_commit p x wish word woken place (Ok o) = refl
+plain_commit p x wish word woken place (Err number) = refl
 
 -- the same plain tree
 abbrev Alike : Cell → List Call → Plain → Type 0

@@ -15,7 +15,7 @@ use Rattle.table.specs.declared.Place.{Place}
 use Rattle.table.specs.declared.Agent.{Agent}
 use Rattle.meaning.specs.declared.Word.{Word}
 use Rattle.meaning.specs.declared.Word.TheVariants.{Looked, Took, Back, Slept, Left, Came, Opened, Put}
-use Rattle.meaning.specs.declared.Answer.TheVariants.{Did}
+use Rattle.meaning.specs.Answers.{Did}
 use Rattle.meaning.specs.Update.{at_stage, use_up, with_locks, with_agent, released}
 use Rattle.meaning.specs.Step.{Outcome, still, put, leave, dissolve, arrive, wake, asleep_on, destination_of, beyond}
 use Rattle.demands.specs.ByWord.{used_up, stage_by, remembered_by, chosen_by, Stepped}

@@ -3,7 +3,7 @@
 -- Idea: a call on a table is a row of tests with a refusal in one arm each; a load is
 -- refused by the fault in its file (FileFaultLaws), the reading of a text as RefusedReading says, an ask and a commit as RefusedAsking says, a
 -- question where a place is as RefusedWhere says.
-use Rattle.std.specs.Prelude.{◌≡◌, refl, true, [], ℕ, ◌+◌, ◌≤◌, leb, length}
+use Rattle.std.specs.Prelude.{◌≡◌, refl, true, [], ℕ, ◌+◌, ◌≤◌, leb, length, Ok, Err}
 use Rattle.std.proofs.Common.{ap, zero-le, le_refl, arith, leb-true, leb-false, le-leb}
 use Rattle.std.proofs.lemmas.Bool.{lt-leb}
 use Rattle.table.proofs.BaseLaws.{Told, yea, nay, told}
@@ -11,15 +11,8 @@ use Rattle.table.specs.Cell.{cell_of}
 use Rattle.table.specs.Sound.{touch_sum, most_touches, sound}
 use Rattle.table.specs.Idle.{idle}
 use Rattle.table.specs.declared.Cell.{Cell}
-use Rattle.meaning.specs.declared.Verdict.TheVariants.{Rejected}
-use Rattle.meaning.specs.declared.Answer.{Answer}
-use Rattle.meaning.specs.declared.Answer.TheVariants.{Refused}
-use Rattle.meaning.specs.declared.Listed.TheVariants.{Unlisted}
+use Rattle.meaning.specs.Answers.{Verdict, Rejected, Answer, Refused, Unlisted, Untouched, Unsound, Unknown, Uncounted}
 use Rattle.meaning.specs.declared.Stepped.{Stepped}
-use Rattle.meaning.specs.declared.Touching.TheVariants.{Untouched}
-use Rattle.meaning.specs.declared.Checked.TheVariants.{Unsound}
-use Rattle.meaning.specs.declared.Idled.TheVariants.{Unknown}
-use Rattle.meaning.specs.declared.Limit.TheVariants.{Uncounted}
 use Rattle.meaning.specs.Refusals.{place_too_large, not_yet_given, unsound_table, no_such_agent, too_long, too_many_touches}
 use Rattle.meaning.specs.File.{Load, accepted, refused, load, loaded, load_of}
 use Rattle.meaning.proofs.FileLaws.{refused_keeps}
@@ -47,11 +40,16 @@ use Rattle.demands.proofs.RefusedWhere.{nearest_grounds, common_grounds}
 
 -- ---- each number exactly under its condition
 
+-- the load of which this is told, where it is one that was refused
+as_refused : Verdict → Load → Load
+as_refused (Ok u) l = l
+as_refused (Err r) l = refused r.number r.offset
+
 -- what a load or a reading rejects, it refused
 load_grounds : (t : Cell) (l : Load) (number offset : ℕ) → (loaded t l).verdict ≡ Rejected number offset → l ≡ refused number offset
-unfolding loaded
+unfolding loaded as_refused
 load_grounds t (accepted c) number offset e = never (cc)
-load_grounds t (refused n o) number offset e = cc
+load_grounds t (refused n o) number offset e = ap (λ (v : Verdict). as_refused v (refused n o)) e
 
 -- from the answer to the condition
 refused_grounds : {k : KeeperCall} {number offset : ℕ} → Refuses k number offset → Grounds k number offset

@@ -1,7 +1,7 @@
 -- "Where no fitting wish is given, enter and open choose the qualifying place that has been under this parent longest": over every accepted file
 -- and every list of calls, by the log of arrivals.
 -- Idea: the chosen place stands before every other in the row, and the row is that of the log.
-use Rattle.std.specs.Prelude.{◌≡◌, refl, ◌≢◌, ◌⊎◌, Bool, false, List, ℕ, ◌≤◌, ◌<◌}
+use Rattle.std.specs.Prelude.{◌≡◌, refl, ◌≢◌, ◌⊎◌, Bool, false, List, ℕ, ◌≤◌, ◌<◌, Ok, Err}
 use Rattle.std.proofs.Math.Path.{sym, ap}
 use Rattle.std.proofs.Common.{◌∙◌, subst, inl, inr, arith, ne_eqb}
 use Rattle.std.proofs.Math.Bool.{true}
@@ -14,8 +14,7 @@ use Rattle.table.specs.declared.Agent.{Agent}
 use Rattle.table.specs.declared.Cell.{Cell}
 use Rattle.meaning.specs.declared.Word.{Word}
 use Rattle.meaning.specs.declared.Word.TheVariants.{Looked, Took, Held, Back, Slept, Left, Came, Opened, Put, Asleep, Done}
-use Rattle.meaning.specs.declared.Answer.{Answer}
-use Rattle.meaning.specs.declared.Answer.TheVariants.{Did, Refused}
+use Rattle.meaning.specs.Answers.{Answer}
 use Rattle.meaning.specs.File.{load, accepted}
 use Rattle.meaning.specs.Step.{Outcome, still, step, put, leave, dissolve, arrive, choice}
 use Rattle.meaning.specs.Run.{Call, made, turned_away, step_of}
@@ -86,8 +85,8 @@ second_took (comes s) e k w = clash w refl
 
 -- the answer is took
 says_took : Answer → Bool
-says_took (Did word woken) = is_took word
-says_took (Refused number) = false
+says_took (Ok o) = is_took o.word
+says_took (Err number) = false
 
 module _ (t : Cell) (z : Sized t) (i : Inv (cell_of t)) (x wish : ℕ) (u : TakesUnwished t x wish) where
   abbrev c : State

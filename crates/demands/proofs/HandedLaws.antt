@@ -2,7 +2,7 @@
 -- of any number it is some commit, so that every statement over lists of calls covers it.
 -- Idea: three numbers below 256 are read off their number; what is told is below 256. A number that is of no such three is refused like a word that
 -- does not exist.
-use Rattle.std.specs.Prelude.{◌≡◌, refl, ◌≢◌, Bool, true, false, cond, ℕ, ◌+◌, ◌*◌, ◌<◌, eqb}
+use Rattle.std.specs.Prelude.{◌≡◌, refl, ◌≢◌, Bool, true, false, cond, ℕ, ◌+◌, ◌*◌, ◌<◌, eqb, Ok, Err}
 use Rattle.std.proofs.Common.{sym, ap, ◌∙◌, subst, arith, eqb-true, eq-eqb, ne_eqb}
 use Rattle.std.proofs.lemmas.Bool.{eqb-false}
 use Rattle.sets.proofs.WordLaws.{count_most}
@@ -12,8 +12,7 @@ use Rattle.table.specs.Cell.{cell_of}
 use Rattle.table.proofs.CellLaws.{bounded}
 use Rattle.table.specs.Sound.{sound}
 use Rattle.table.specs.declared.Cell.{Cell}
-use Rattle.meaning.specs.declared.Asked.{Asked}
-use Rattle.meaning.specs.declared.Asked.TheVariants.{Would, Unasked}
+use Rattle.meaning.specs.Answers.{Asked, Would}
 use Rattle.meaning.specs.declared.Word.{Word}
 use Rattle.meaning.specs.Refusals.{answer_differs}
 use Rattle.meaning.specs.Step.{step}
@@ -55,8 +54,8 @@ module _ (w n q : ℕ) (a : w < 256) (b : n < 256) (c : q < 256) where
 -- ---- what is told is below 256
 
 abbrev pub Small : Asked → Type 0
-Small (Would w n q) = (n < 256) × (q < 256)
-Small (Unasked number) = Unit {0}
+Small (Ok o) = (o.woken < 256) × (o.place < 256)
+Small (Err number) = Unit {0}
 
 pub asked_small : (t : Cell) → Sized t → (x wish : ℕ) → Small (ask_of t x wish)
 asked_small t z x wish = go (told (sound (cell_of t))) (told ((cell_of t).given x))
@@ -83,8 +82,8 @@ unfolding handed_of
 handed_ask t x wish = ap (λ (b : Bool). cond b (step_of t x wish) (turned_away t answer_differs)) (itself (ask_of t x wish))
   where
     itself : (a : Asked) → hands_back a (ask_number a) ≡ true
-    itself (Would w n q) = eq-eqb (ask_number (Would w n q)) (ask_number (Would w n q)) refl
-    itself (Unasked number) = refl
+    itself (Ok o) = eq-eqb (ask_number (Would o.word o.woken o.place)) (ask_number (Would o.word o.woken o.place)) refl
+    itself (Err number) = refl
 
 -- of any other number: 18, on every sound table for every agent that is given
 pub handed_differs : (t : Cell) (x wish n : ℕ) → sound (cell_of t) ≡ true → (cell_of t).given x ≡ true → ask_number (ask_of t x wish) ≢ n
@@ -107,16 +106,16 @@ module _ (t : Cell) (z : Sized t) (x wish : ℕ) where
   handed_three word woken place a b c = same_commit t x wish _ word woken place (go (ask_of t x wish) (asked_small t z x wish))
     where
       go : (r : Asked) → Small r → hands_back r (told_number word woken place) ≡ agrees r word woken place
-      go (Would w n q) m = same_test _ _
-          (λ e. let f = eqb-true (told_number (word_number w) n q) (told_number word woken place) e in
-          let l : word_number w < 256 = omega (arith, word_small w) in
-          same_agrees w n q word woken place
-          (sym (word_of (word_number w) n q l m.0 m.1) ∙ ap word_in f ∙ word_of word woken place a b c)
-          (sym (woken_of (word_number w) n q l m.0 m.1) ∙ ap woken_in f ∙ woken_of word woken place a b c)
-          (sym (place_of (word_number w) n q l m.0 m.1) ∙ ap place_in f ∙ place_of word woken place a b c))
-          (λ e. let f = agrees_same w n q word woken place e in
-          eq-eqb (told_number (word_number w) n q) (told_number word woken place) (same_number f.0 f.1.0 f.1.1))
-      go (Unasked number) m = refl
+      go (Ok o) m = same_test _ _
+          (λ e. let f = eqb-true (told_number (word_number o.word) o.woken o.place) (told_number word woken place) e in
+          let l : word_number o.word < 256 = omega (arith, word_small o.word) in
+          same_agrees o.word o.woken o.place word woken place
+          (sym (word_of (word_number o.word) o.woken o.place l m.0 m.1) ∙ ap word_in f ∙ word_of word woken place a b c)
+          (sym (woken_of (word_number o.word) o.woken o.place l m.0 m.1) ∙ ap woken_in f ∙ woken_of word woken place a b c)
+          (sym (place_of (word_number o.word) o.woken o.place l m.0 m.1) ∙ ap place_in f ∙ place_of word woken place a b c))
+          (λ e. let f = agrees_same o.word o.woken o.place word woken place e in
+          eq-eqb (told_number (word_number o.word) o.woken o.place) (told_number word woken place) (same_number f.0 f.1.0 f.1.1))
+      go (Err number) m = refl
 
   -- of the number of what an ask tells, whenever that was: the commit of the three
   pub handed_back : (w : Word) (n q : ℕ) → n < 256 → q < 256 → handed_of t x wish (ask_number (Would w n q)) ≡ commit_of t x wish (word_number w) n q
@@ -128,12 +127,12 @@ module _ (t : Cell) (z : Sized t) (x wish : ℕ) where
     where
       -- where it is not put together again, nothing that is told has this number
       other : eqb (told_number (word_in n) (woken_in n) (place_in n)) n ≡ false → (r : Asked) → Small r → hands_back r n ≡ agrees r 11 0 0
-      other e (Would w m q) k = ne_eqb (told_number (word_number w) m q) n
+      other e (Ok o) k = ne_eqb (told_number (word_number o.word) o.woken o.place) n
           (λ f. eqb-false (told_number (word_in n) (woken_in n) (place_in n)) n e
           (subst (λ (j : ℕ). told_number (word_in j) (woken_in j) (place_in j) ≡ j) f
-          (again (word_number w) m q (omega (arith, word_small w)) k.0 k.1)))
-          ∙ sym (rw (ne_eqb (word_number w) 11 (λ z. omega (arith, word_small w))))
-      other e (Unasked number) k = refl
+          (again (word_number o.word) o.woken o.place (omega (arith, word_small o.word)) k.0 k.1)))
+          ∙ sym (rw (ne_eqb (word_number o.word) 11 (λ z. omega (arith, word_small o.word))))
+      other e (Err number) k = refl
 
       go : Told (eqb (told_number (word_in n) (woken_in n) (place_in n)) n) → IsCommit t x wish (handed_of t x wish n)
       go (yea e) = record {

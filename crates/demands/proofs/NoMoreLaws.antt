@@ -13,8 +13,7 @@ use Rattle.table.specs.Cell.{State, cell_of, table_of, fresh_number}
 use Rattle.table.proofs.CellLaws.{bounded}
 use Rattle.table.specs.Sound.{sound}
 use Rattle.table.specs.declared.Cell.{Cell}
-use Rattle.meaning.specs.declared.Answer.TheVariants.{Did, Refused}
-use Rattle.meaning.specs.declared.Touching.TheVariants.{Count}
+use Rattle.meaning.specs.Answers.{Did, Refused, Count}
 use Rattle.meaning.specs.Step.{Outcome, still, put, leave, dissolve, arrive, step}
 use Rattle.meaning.specs.Run.{Call, step_call, touch_call, commit_call, step_of, made, turned_away, call_of, run}
 use Rattle.meaning.specs.Ask.{commit_of}

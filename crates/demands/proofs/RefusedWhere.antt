@@ -6,8 +6,7 @@ use Rattle.table.proofs.BaseLaws.{Told, yea, nay, told}
 use Rattle.table.specs.Cell.{none, cell_of}
 use Rattle.table.specs.Sound.{sound}
 use Rattle.table.specs.declared.Cell.{Cell}
-use Rattle.meaning.specs.declared.Found.{Found}
-use Rattle.meaning.specs.declared.Found.TheVariants.{At, Nowhere, Unfound}
+use Rattle.meaning.specs.Answers.{Found, At, Nowhere, Unfound}
 use Rattle.meaning.specs.Refusals.{place_too_large, not_yet_given, unsound_table}
 use Rattle.meaning.specs.Where.{parent_of, place_name, nearest, common, found_place, nearest_of, common_of}
 use Rattle.meaning.proofs.WhereLaws.{nearest_unsound, nearest_large, nearest_unused, nearest_used, common_unsound, common_large, common_unused, common_used}

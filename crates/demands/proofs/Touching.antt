@@ -11,7 +11,7 @@ use Rattle.table.specs.Sound.{sound, touch_sum, most_touches}
 use Rattle.table.proofs.SoundParts.{sound_touches}
 use Rattle.table.specs.declared.Cell.{Cell}
 use Rattle.meaning.specs.declared.Touched.{Touched}
-use Rattle.meaning.specs.declared.Touching.TheVariants.{Count}
+use Rattle.meaning.specs.Answers.{Count}
 use Rattle.meaning.specs.Refusals.{place_too_large, not_yet_given, unsound_table, too_many_touches}
 use Rattle.meaning.specs.Touch.{add_touches, counted, untouched, touch_of}
 use Rattle.demands.specs.Reading.{agent_in}

@@ -15,7 +15,7 @@ use Rattle.table.proofs.CellLaws.{bounded}
 use Rattle.table.specs.Sound.{sound}
 use Rattle.table.specs.declared.Cell.{Cell}
 use Rattle.table.specs.declared.Name.{Name}
-use Rattle.meaning.specs.declared.Found.TheVariants.{At, Nowhere}
+use Rattle.meaning.specs.Answers.{At, Nowhere}
 use Rattle.meaning.specs.File.{load, accepted}
 use Rattle.meaning.specs.Run.{Call}
 use Rattle.meaning.specs.Calculus.{Tree}

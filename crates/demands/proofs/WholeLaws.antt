@@ -1,6 +1,6 @@
 -- The claim of what a step changes leaves nothing open: two cells that satisfy it for one cell, call and answer are the same cell.
 -- Number by number: each place, lock and agent is one of those that the word's sentence lists, or as it was.
-use Rattle.std.specs.Prelude.{◌≡◌, refl, ◌≢◌, ◌⊎◌, true, false, not, cond, ℕ, eqb, ltb}
+use Rattle.std.specs.Prelude.{◌≡◌, refl, ◌≢◌, ◌⊎◌, true, false, not, cond, ℕ, eqb, ltb, Ok, Err}
 use Rattle.std.proofs.Common.{sym, ap, ap₂, ◌∙◌, subst, inl, inr, eqb-true, eq-eqb, ne_eqb}
 use Rattle.std.proofs.Math.Path.{fun_ext}
 use Rattle.std.proofs.Math.Bool.{and-false}
@@ -9,8 +9,7 @@ use Rattle.table.specs.Cell.{Land, State, none, fresh_number}
 use Rattle.table.specs.declared.Agent.{Agent}
 use Rattle.meaning.specs.declared.Word.{Word}
 use Rattle.meaning.specs.declared.Word.TheVariants.{Looked, Took, Held, Back, Slept, Left, Came, Opened, Put, Asleep, Done}
-use Rattle.meaning.specs.declared.Answer.{Answer}
-use Rattle.meaning.specs.declared.Answer.TheVariants.{Did, Refused}
+use Rattle.meaning.specs.Answers.{Answer, Did}
 use Rattle.meaning.specs.Update.{at_stage}
 use Rattle.meaning.specs.Step.{lets_go, asleep_on, dissolve_agent}
 use Rattle.demands.proofs.FieldLaws.{place_same, agent_same, state_same}
@@ -247,8 +246,8 @@ pub no_more_whole : {c d e : State} {x wish : ℕ} (answer : Answer) → NoMore 
 no_more_whole {c} {d} {e} {x} {wish} answer m n = go (both answer m.used n.used m.changes n.changes)
   where
     both : (w : Answer) → UsedAfter w c x d → UsedAfter w c x e → Changes w c x wish d → Changes w c x wish e → Alike d e
-    both (Did word woken) i j p q = by_word m.untouched n.untouched x word woken i j p.1 q.1 (stepped_one p.0 q.0)
-    both (Refused number) i j p q = alike p q
+    both (Ok o) i j p q = by_word m.untouched n.untouched x o.word o.woken i j p.1 q.1 (stepped_one p.0 q.0)
+    both (Err number) i j p q = alike p q
 
     go : Alike d e → d ≡ e
     go s = state_same (fun_ext s.place) (fun_ext (λ q. m.used q ∙ sym (n.used q))) (m.order ∙ sym n.order) (fun_ext s.lock)

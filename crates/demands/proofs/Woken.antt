@@ -1,6 +1,6 @@
 -- The number woken that a step answers is how many agents were at stage 7 before it and are at stage 0 after it.
 -- By the ways of a step: most wake nobody; in the others an agent is woken exactly if it is counted, one agent at a time.
-use Rattle.std.specs.Prelude.{◌≡◌, ◌≢◌, Bool, ◌&&◌, cond, ℕ, zero, suc, ◌<◌}
+use Rattle.std.specs.Prelude.{◌≡◌, ◌≢◌, Bool, ◌&&◌, cond, ℕ, zero, suc, ◌<◌, Ok, Err}
 use Rattle.std.proofs.Math.Path.{refl}
 use Rattle.std.proofs.Common.{sym, ap, ◌∙◌, arith, eqb-true, ne_eqb}
 use Rattle.std.proofs.Math.Bool.{true, false}
@@ -15,8 +15,7 @@ use Rattle.table.proofs.CellLaws.{bounded}
 use Rattle.table.specs.Sound.{sound}
 use Rattle.table.specs.declared.Agent.{Agent}
 use Rattle.table.specs.declared.Cell.{Cell}
-use Rattle.meaning.specs.declared.Answer.{Answer}
-use Rattle.meaning.specs.declared.Answer.TheVariants.{Did, Refused}
+use Rattle.meaning.specs.Answers.{Answer}
 use Rattle.meaning.specs.Update.{at_stage}
 use Rattle.meaning.specs.Step.{Outcome, still, asleep_on, wake, put, leave, dissolve_agent, woken_by, dissolve, arrive, step}
 use Rattle.meaning.specs.Run.{step_of, made, turned_away}
@@ -41,8 +40,8 @@ CountsWoken c o = o.woken ≡ count_of 64 (woke_up c o.cell)
 
 -- the number woken in an answer; a refusal wakes nobody
 abbrev pub number_woken : Answer → ℕ
-number_woken (Did word woken) = woken
-number_woken (Refused number) = 0
+number_woken (Ok o) = o.woken
+number_woken (Err number) = 0
 
 -- ---- one agent
 

@@ -5,8 +5,7 @@ use Rattle.table.specs.declared.Agent.{Agent}
 use Rattle.table.specs.declared.Cell.{Cell}
 use Rattle.meaning.specs.declared.Word.{Word}
 use Rattle.meaning.specs.declared.Word.TheVariants.{Looked, Took, Held, Back, Slept, Left, Came, Opened, Put, Asleep, Done}
-use Rattle.meaning.specs.declared.Answer.TheVariants.{Did}
-use Rattle.meaning.specs.declared.Asked.TheVariants.{Would}
+use Rattle.meaning.specs.Answers.{Did, Would}
 use Rattle.meaning.specs.declared.Stepped.{Stepped}
 use Rattle.meaning.specs.Refusals.{answer_differs}
 use Rattle.meaning.specs.Step.{qualifies, choice, fires}

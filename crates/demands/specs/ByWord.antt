@@ -1,12 +1,11 @@
 -- What the word of an answer says of the numbers in use, the touches, the row and the agent that steps (demand 2). Definitions only.
-use Rattle.std.specs.Prelude.{◌≡◌, Bool, true, false, not, ◌&&◌, ◌||◌, cond, List, ℕ, ◌+◌, eqb, leb}
+use Rattle.std.specs.Prelude.{◌≡◌, Bool, true, false, not, ◌&&◌, ◌||◌, cond, List, ℕ, ◌+◌, eqb, leb, Ok, Err}
 use Rattle.order.specs.Row.{later, latest}
 use Rattle.table.specs.Cell.{Land, State, none, fresh_number, kind_of, exit_kind, release_kind, looks_home, looking, found, holding, on_way, asleep}
 use Rattle.table.specs.declared.Agent.{Agent}
 use Rattle.meaning.specs.declared.Word.{Word}
 use Rattle.meaning.specs.declared.Word.TheVariants.{Looked, Took, Held, Back, Slept, Left, Came, Opened, Put, Asleep, Done}
-use Rattle.meaning.specs.declared.Answer.{Answer}
-use Rattle.meaning.specs.declared.Answer.TheVariants.{Did, Refused}
+use Rattle.meaning.specs.Answers.{Answer}
 use Rattle.meaning.specs.Step.{choice, rest_stage, child_of}
 
 -- ---- numbers in use, touches and the row
@@ -27,8 +26,8 @@ is_opened Done = false
 
 -- the answer is
 abbrev pub says_opened : Answer → Bool
-says_opened (Did word woken) = is_opened word
-says_opened (Refused number) = false
+says_opened (Ok o) = is_opened o.word
+says_opened (Err number) = false
 
 -- the word is put
 abbrev pub is_put : Word → Bool
@@ -46,8 +45,8 @@ is_put Done = false
 
 -- "under the smallest unused number" (document 02, W11): by this answer q comes into use, where these were in use before
 abbrev pub put_at : Answer → (ℕ → Bool) → ℕ → Bool
-put_at (Did word woken) used q = is_put word && eqb q (fresh_number used)
-put_at (Refused number) used q = false
+put_at (Ok o) used q = is_put o.word && eqb q (fresh_number used)
+put_at (Err number) used q = false
 
 -- "its number becomes unused": which numbers are in use after a call of an agent, which is a, with this answer; that of a put place is in use
 abbrev pub used_after : Answer → Agent → (ℕ → Bool) → ℕ → Bool
@@ -78,8 +77,8 @@ order_by Done c x = c.land.order
 
 -- after a call with this answer
 abbrev pub order_after : Answer → State → ℕ → List ℕ
-order_after (Did word woken) c x = order_by word c x
-order_after (Refused number) c x = c.land.order
+order_after (Ok o) c x = order_by o.word c x
+order_after (Err number) c x = c.land.order
 
 -- ---- the agent that steps
 

@@ -1,12 +1,12 @@
 -- Who came first (document 02, W5), by a log of arrivals: what is claimed of a choice without a fitting wish. Definitions only; the row of
 -- places plays no part in them.
-use Rattle.std.specs.Prelude.{◌≡◌, ◌≢◌, ◌⊎◌, Bool, true, false, cond, List, [], ◌∷◌, ◌++◌, ℕ, zero, suc, ◌+◌, ◌≤◌, ◌<◌, eqb, length}
+use Rattle.std.specs.Prelude.{◌≡◌, ◌≢◌, ◌⊎◌, Bool, true, false, cond, List, [], ◌∷◌, ◌++◌, ℕ, zero, suc, ◌+◌, ◌≤◌, ◌<◌, eqb, length, Ok, Err}
 use Rattle.order.specs.Row.{keep, occurs}
 use Rattle.table.specs.Cell.{State, cell_of, table_of, fresh_number, kind_of, name_of, holding, enter_kind, open_kind}
 use Rattle.table.specs.declared.Cell.{Cell}
 use Rattle.meaning.specs.declared.Word.{Word}
 use Rattle.meaning.specs.declared.Word.TheVariants.{Looked, Took, Held, Back, Slept, Left, Came, Opened, Put, Asleep, Done}
-use Rattle.meaning.specs.declared.Answer.TheVariants.{Did, Refused}
+use Rattle.meaning.specs.Answers.{Did}
 use Rattle.meaning.specs.File.{byte_at}
 use Rattle.meaning.specs.Step.{qualifies, child_of}
 use Rattle.meaning.specs.Run.{Call, agent_of, Reply, step_reply, touch_reply, step_of, call_of}
@@ -59,8 +59,8 @@ arrived_by c x Done log = []
 
 -- by any reply
 abbrev pub arrived_at : State → Call → Reply → List ℕ → List ℕ
-arrived_at c k (step_reply (Did word woken)) log = arrived_by c (agent_of k) word log
-arrived_at c k (step_reply (Refused number)) log = []
+arrived_at c k (step_reply (Ok o)) log = arrived_by c (agent_of k) o.word log
+arrived_at c k (step_reply (Err number)) log = []
 arrived_at c k (touch_reply answer) log = []
 
 -- the log after calls on a table

@@ -1,14 +1,12 @@
 -- What a call changes, and no more (demand 2): the claim, word by word of the answer. Definitions only.
-use Rattle.std.specs.Prelude.{◌≡◌, ◌≢◌, ◌⊎◌, true, false, cond, List, ◌++◌, ℕ, ◌+◌, eqb}
+use Rattle.std.specs.Prelude.{◌≡◌, ◌≢◌, ◌⊎◌, true, false, cond, List, ◌++◌, ℕ, ◌+◌, eqb, Ok, Err}
 use Rattle.table.specs.Cell.{Land, State, cell_of, none, plain_name, no_place, fresh_number, kind_of, name_of, looking, found, holding, on_way, asleep, done}
 use Rattle.table.specs.Sound.{second_place}
 use Rattle.table.specs.declared.Agent.{Agent}
 use Rattle.table.specs.declared.Cell.{Cell}
 use Rattle.meaning.specs.declared.Word.{Word}
 use Rattle.meaning.specs.declared.Word.TheVariants.{Looked, Took, Held, Back, Slept, Left, Came, Opened, Put, Asleep, Done}
-use Rattle.meaning.specs.declared.Answer.{Answer}
-use Rattle.meaning.specs.declared.Answer.TheVariants.{Did, Refused}
-use Rattle.meaning.specs.declared.Touching.{Touching}
+use Rattle.meaning.specs.Answers.{Answer, Touching}
 use Rattle.meaning.specs.Update.{linked_place, at_stage, with_home, with_parent}
 use Rattle.meaning.specs.Step.{lets_go, destination_of, beyond}
 use Rattle.meaning.specs.Run.{Call, touch_call, touch_reply, run}
@@ -158,8 +156,8 @@ ChangesBy Done c x d = d ≡ c
 
 -- what a call of agent x with this wish and answer changes, of x itself and of the rest; a refused one nothing
 abbrev pub Changes : Answer → State → ℕ → ℕ → State → Type 0
-Changes (Did word woken) c x wish d = Stepped word c.land wish (c.agent x) (d.agent x) × ChangesBy word c x d
-Changes (Refused number) c x wish d = d ≡ c
+Changes (Ok o) c x wish d = Stepped o.word c.land wish (c.agent x) (d.agent x) × ChangesBy o.word c x d
+Changes (Err number) c x wish d = d ≡ c
 
 -- ---- the claims
 

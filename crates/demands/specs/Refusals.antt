@@ -4,16 +4,8 @@ use Rattle.std.specs.Prelude.{◌≡◌, ◌≢◌, ◌⊎◌, ◌↔◌, Bool, 
 use Rattle.table.specs.Cell.{cell_of}
 use Rattle.table.specs.Sound.{touch_sum, most_touches, sound}
 use Rattle.table.specs.declared.Cell.{Cell}
-use Rattle.meaning.specs.declared.Verdict.TheVariants.{Rejected}
-use Rattle.meaning.specs.declared.Answer.TheVariants.{Refused}
-use Rattle.meaning.specs.declared.Asked.TheVariants.{Would, Unasked}
+use Rattle.meaning.specs.Answers.{Rejected, Refused, Would, Unasked, Unlisted, Untouched, Unfound, Unsound, Unknown, Uncounted}
 use Rattle.meaning.specs.declared.Word.{Word}
-use Rattle.meaning.specs.declared.Listed.TheVariants.{Unlisted}
-use Rattle.meaning.specs.declared.Touching.TheVariants.{Untouched}
-use Rattle.meaning.specs.declared.Found.TheVariants.{Unfound}
-use Rattle.meaning.specs.declared.Checked.TheVariants.{Unsound}
-use Rattle.meaning.specs.declared.Idled.TheVariants.{Unknown}
-use Rattle.meaning.specs.declared.Limit.TheVariants.{Uncounted}
 use Rattle.meaning.specs.Refusals.{cut_short, after_end, place_too_large, not_yet_given, parent_too_large, agent_too_large, unsound_table, no_such_agent, too_long, too_many_touches}
 use Rattle.meaning.specs.Refusals.{outside_language, too_many, answer_differs}
 use Rattle.meaning.specs.File.{load_of}

@@ -1,9 +1,8 @@
 -- What is claimed of touches (document 02, W3): "The sum over places in use equals all touches loaded and added, after any mixture of calls".
 -- Definitions only.
-use Rattle.std.specs.Prelude.{◌≡◌, cond, List, [], ◌∷◌, ℕ, zero, suc, ◌+◌, eqb, length}
+use Rattle.std.specs.Prelude.{◌≡◌, cond, List, [], ◌∷◌, ℕ, zero, suc, ◌+◌, eqb, length, Ok, Err}
 use Rattle.table.specs.Cell.{State, cell_of}
 use Rattle.table.specs.Sound.{touch_sum}
-use Rattle.meaning.specs.declared.Touching.TheVariants.{Count, Untouched}
 use Rattle.meaning.specs.File.{byte_at, count_at}
 use Rattle.meaning.specs.Run.{Call, step_call, touch_call, commit_call, Reply, step_reply, touch_reply}
 use Rattle.demands.specs.AfterCalls.{reached, answered}
@@ -32,8 +31,8 @@ touches_in s = touches_from (suc (length s)) s 0
 abbrev pub added_by : Call → Reply → ℕ
 added_by (step_call agent wish) reply = 0
 added_by (touch_call place number) (step_reply answer) = 0
-added_by (touch_call place number) (touch_reply (Count n)) = number
-added_by (touch_call place number) (touch_reply (Untouched refusal)) = 0
+added_by (touch_call place number) (touch_reply (Ok n)) = number
+added_by (touch_call place number) (touch_reply (Err refusal)) = 0
 added_by (commit_call agent wish word woken place) reply = 0
 
 -- what a list of calls adds

@@ -3,7 +3,7 @@ use Rattle.std.specs.Prelude.{◌≡◌, List, [], ◌∷◌, true, ℕ, ◌≤�
 use Rattle.table.specs.Cell.{cell_of}
 use Rattle.table.specs.declared.Cell.{Cell}
 use Rattle.meaning.specs.declared.Word.{Word}
-use Rattle.meaning.specs.declared.Answer.TheVariants.{Did}
+use Rattle.meaning.specs.Answers.{Did}
 use Rattle.meaning.specs.Run.{Call, step_call, Reply, step_reply, run, answers, settled}
 use Rattle.meaning.specs.Calculus.{Tree, Move}
 use Rattle.meaning.specs.Plain.{tree_of}

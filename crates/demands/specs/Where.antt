@@ -1,8 +1,7 @@
 -- What is claimed of the two questions where a place is (document 02, W10), in words of a tree. Definitions only; no walk plays a part in them.
 use Rattle.std.specs.Prelude.{◌≡◌, ◌≢◌, ◌⊎◌, ◌↔◌, true, ℕ}
 use Rattle.table.specs.declared.Cell.{Cell}
-use Rattle.meaning.specs.declared.Found.{Found}
-use Rattle.meaning.specs.declared.Found.TheVariants.{At, Nowhere}
+use Rattle.meaning.specs.Answers.{Found, At, Nowhere}
 use Rattle.meaning.specs.Calculus.{Tree}
 use Rattle.meaning.specs.Where.{nearest_of, common_of}
 

@@ -1,9 +1,10 @@
 // The files that the programs read: the bytes of one, by its name or by the argument that names it. Where it cannot be read, a line on
-// standard error says why; `program` is the name at the line's start.
+// standard error says why.
 
 #![tactic(auto)]
 
-ghost use Rattle.std.specs.Prelude.{◌≡◌, ◌≤◌, length, IfOk};
+ghost use Rattle.std.specs.Prelude.{◌≡◌, ◌≤◌, length, Err, IfOk, MatchResult};
+ghost use Rattle.files.specs.declared.Unread.TheVariants.{Failed, Unnamed};
 ghost use Rattle.files.specs.Inputs.{Within};
 
 use std::env::{Env, FillError};
@@ -11,12 +12,48 @@ use std::fs::File;
 use std::io::{Error, ErrorKind, Read, Write};
 use std::{fs, io};
 
-// What was read of a file: so many bytes; nothing, and a line has said why; or nothing, since the argument that would name it is empty.
-#[derive(Clone, Copy)]
-pub enum Input {
-    Bytes(usize),
+// Why there is nothing of a file: a line has said why; or the argument that would name it is missing or empty.
+#[derive(Clone, Copy, PartialEq, Eq, Debug)]
+pub enum Unread {
     Failed,
     Unnamed,
+}
+
+// Where a file's name comes from: its own, in the working folder, or an argument.
+#[derive(Clone, Copy, PartialEq, Eq, Debug)]
+pub enum Source {
+    Usual,
+    Argument(usize),
+}
+
+// What an absent file is: one without bytes, or one that cannot be read.
+#[derive(Clone, Copy, PartialEq, Eq, Debug)]
+pub enum Absent {
+    Empty,
+    Failure,
+}
+
+// How much of a file is read: as many bytes as there is room for, or the whole file, and nothing where it may be longer than that.
+#[derive(Clone, Copy, PartialEq, Eq, Debug)]
+pub enum Extent {
+    Start,
+    Whole,
+}
+
+// A file that a program reads: its own name, what it is where it is absent, and how much of it is read.
+#[derive(Clone, Copy)]
+pub struct Wanted<'a> {
+    pub name: &'a [u8],
+    pub absent: Absent,
+    pub extent: Extent,
+}
+
+// A program that runs: its name, which begins each line on standard error, and the line that says how it is called.
+#[derive(Clone, Copy)]
+pub struct Program<'a> {
+    pub rt: &'a HostRuntime,
+    pub name: &'a [u8],
+    pub usage: &'a [u8],
 }
 
 // The longest path that the system takes, with the zero byte after it.
@@ -39,53 +76,11 @@ pub fn argument_count(rt: &HostRuntime) -> usize
 }
 
 // The system's reason without its number, which stands in brackets after it.
-fn reason_length(text: &[u8]) -> usize
-    ensures { result ≤ length text.now }
-{
-    let mark = b" (os error ";
-    for i in 0..text.len() {
-        if text[i..].starts_with(mark) {
-            return i;
-        }
+fn reason(text: &str) -> &str {
+    match text.find(" (os error ") {
+        Some(i) => &text[..i],
+        None => text,
     }
-    text.len()
-}
-
-// Writes a part of a line to standard error; where that fails too there is nobody left to tell.
-fn tell(rt: &HostRuntime, part: &[u8]) {
-    let _told = rt.stderr().write_all(part);
-}
-
-// A line on standard error: what failed, and the system's reason. The answer for what was to be read.
-pub fn complain(rt: &HostRuntime, program: &[u8], what: &[u8], error: Error) -> Input
-    ensures { result ≡ Input.Failed }
-{
-    tell(rt, program);
-    tell(rt, b": ");
-    tell(rt, what);
-    tell(rt, b": ");
-    if let Ok(text) = format!(in rt.alloc(); "{error}") {
-        let bytes = text.as_str().as_bytes();
-        let n = reason_length(bytes);
-        tell(rt, &bytes[..n]);
-    }
-    tell(rt, b"\n");
-    Input::Failed
-}
-
-// A line on standard error: the file fills this much room, and is too long.
-fn complain_of_length(rt: &HostRuntime, program: &[u8], path: &[u8], room: usize) {
-    tell(rt, program);
-    tell(rt, b": ");
-    tell(rt, path);
-    tell(rt, b": longer than ");
-    if room > 0 {
-        let most = room - 1;
-        if let Ok(text) = format!(in rt.alloc(); "{most}") {
-            tell(rt, text.as_str().as_bytes());
-        }
-    }
-    tell(rt, b" bytes\n");
 }
 
 // Reads until the file ends or buf is full, and says how much was read.
@@ -96,35 +91,11 @@ fn read_full(file: &mut File, buf: &mut [u8]) -> io::Result<usize>
     while n < buf.len() {
         let got = file.read(&mut buf[n..])?;
         if got == 0 {
-            return Ok(n);
+            break;
         }
         n += got;
     }
     Ok(n)
-}
-
-// The bytes of an open file at the start of buf, as many as it holds. A file that is to be read whole and fills buf may go on, and is
-// not read.
-fn read_open(
-    rt: &HostRuntime,
-    program: &[u8],
-    path: &[u8],
-    file: &mut File,
-    whole: bool,
-    buf: &mut [u8],
-) -> Input
-    ensures { Within result (length buf.new) }
-{
-    match read_full(file, buf) {
-        Err(error) => complain(rt, program, path, error),
-        Ok(n) => {
-            if whole && n == buf.len() {
-                complain_of_length(rt, program, path, n);
-                return Input::Failed;
-            }
-            Input::Bytes(n)
-        }
-    }
 }
 
 // Opens a file by the bytes of its path, which are text.
@@ -135,68 +106,122 @@ fn open(rt: &HostRuntime, path: &[u8]) -> io::Result<File> {
     }
 }
 
-// The bytes of a file at the start of buf. An absent one reads as empty, or fails.
-fn read_file(
-    rt: &HostRuntime,
-    program: &[u8],
-    path: &[u8],
-    absent_is_empty: bool,
-    whole: bool,
-    buf: &mut [u8],
-) -> Input
-    ensures { Within result (length buf.new) }
-{
-    match open(rt, path) {
-        Err(error) => {
-            if absent_is_empty && error.kind() == ErrorKind::NotFound {
-                return Input::Bytes(0);
-            }
-            complain(rt, program, path, error)
-        }
-        Ok(mut file) => read_open(rt, program, path, &mut file, whole, buf),
+impl Program<'_> {
+    // Writes a part of a line to standard error; where that fails too there is nobody left to tell.
+    fn tell(&self, part: &[u8]) {
+        let _told = self.rt.stderr().write_all(part);
     }
-}
 
-// The bytes of the file that argument i names. A path that is too long is not cut, since the cut one would name another file, and
-// an empty path names none.
-fn read_argument(
-    rt: &HostRuntime,
-    program: &[u8],
-    i: usize,
-    name: &[u8],
-    absent_is_empty: bool,
-    whole: bool,
-    buf: &mut [u8],
-) -> Input
-    ensures { Within result (length buf.new) }
-{
-    let mut path = [0u8; PATH_BYTES];
-    match rt.arg(i, &mut path) {
-        Ok(0) => Input::Unnamed,
-        Ok(n) => read_file(rt, program, &path[..n], absent_is_empty, whole, buf),
-        Err(FillError::TooLong) => {
-            complain(rt, program, name, Error::from_raw_os_error(NAME_TOO_LONG))
-        }
-        Err(FillError::NotPresent) => Input::Unnamed,
+    // A line on standard error: how the program is called. The answer for what was to be read.
+    pub fn misuse(&self) -> Result<usize, Unread>
+        ensures { result ≡ Err Unnamed }
+    {
+        self.tell(self.usage);
+        Err(Unread::Unnamed)
     }
-}
 
-// The bytes of the file that argument i names, where names are given, or else of the file with this name, at the start of buf.
-pub fn read_input(
-    rt: &HostRuntime,
-    program: &[u8],
-    given: bool,
-    i: usize,
-    name: &[u8],
-    absent_is_empty: bool,
-    whole: bool,
-    buf: &mut [u8],
-) -> Input
-    ensures { Within result (length buf.new) }
-{
-    if given {
-        read_argument(rt, program, i, name, absent_is_empty, whole, buf)
-    } else {
-        read_file(rt, program, name, absent_is_empty, whole, buf)
+    // A line on standard error: what failed, and why. The answer for what was to be read.
+    fn refuse(&self, what: &[u8], why: &str) -> Result<usize, Unread>
+        ensures { result ≡ Err Failed }
+    {
+        self.tell(self.name);
+        self.tell(b": ");
+        self.tell(what);
+        self.tell(b": ");
+        self.tell(why.as_bytes());
+        self.tell(b"\n");
+        Err(Unread::Failed)
+    }
+
+    // What failed is refused for the system's reason.
+    pub fn complain(&self, what: &[u8], error: Error) -> Result<usize, Unread>
+        ensures { result ≡ Err Failed }
+    {
+        match format!(in self.rt.alloc(); "{error}") {
+            Ok(text) => self.refuse(what, reason(text.as_str())),
+            Err(_) => self.refuse(what, ""),
+        }
+    }
+
+    // A file that fills this much room is refused as too long.
+    fn complain_of_length(&self, path: &[u8], room: usize) -> Result<usize, Unread>
+        ensures { result ≡ Err Failed }
+    {
+        let most = room.saturating_sub(1);
+        match format!(in self.rt.alloc(); "longer than {most} bytes") {
+            Ok(text) => self.refuse(path, text.as_str()),
+            Err(_) => self.refuse(path, "longer than  bytes"),
+        }
+    }
+
+    // The bytes of an open file at the start of buf, as many as it holds. A file that is to be read whole and fills buf may go on, and is
+    // not read.
+    fn read_open(
+        &self,
+        path: &[u8],
+        file: &mut File,
+        extent: Extent,
+        buf: &mut [u8],
+    ) -> Result<usize, Unread>
+        ensures { Within result (length buf.new) }
+    {
+        match read_full(file, buf) {
+            Ok(n) if extent == Extent::Whole && n == buf.len() => self.complain_of_length(path, n),
+            Ok(n) => Ok(n),
+            Err(error) => self.complain(path, error),
+        }
+    }
+
+    // The bytes of the file with this path at the start of buf.
+    fn read_file(&self, path: &[u8], wanted: Wanted, buf: &mut [u8]) -> Result<usize, Unread>
+        ensures { Within result (length buf.new) }
+    {
+        match open(self.rt, path) {
+            Ok(mut file) => self.read_open(path, &mut file, wanted.extent, buf),
+            Err(error) if wanted.absent == Absent::Empty && error.kind() == ErrorKind::NotFound =>
+                Ok(0),
+            Err(error) => self.complain(path, error),
+        }
+    }
+
+    // The bytes of the file that argument i names. A path that is too long is not cut, since the cut one would name another file, and
+    // an empty path names none.
+    fn read_argument(&self, i: usize, wanted: Wanted, buf: &mut [u8]) -> Result<usize, Unread>
+        ensures { Within result (length buf.new) }
+    {
+        let mut path = [0u8; PATH_BYTES];
+        match self.rt.arg(i, &mut path) {
+            Ok(0) | Err(FillError::NotPresent) => self.misuse(),
+            Ok(n) => self.read_file(&path[..n], wanted, buf),
+            Err(FillError::TooLong) => self.complain(
+                wanted.name,
+                Error::from_raw_os_error(NAME_TOO_LONG),
+            ),
+        }
+    }
+
+    // The bytes of a file at the start of buf, and how many they are: of the one that an argument names, or of the one with its own name.
+    pub fn read_input(
+        &self,
+        source: Source,
+        wanted: Wanted,
+        buf: &mut [u8],
+    ) -> Result<usize, Unread>
+        ensures { Within result (length buf.new) }
+    {
+        match source {
+            Source::Argument(i) => self.read_argument(i, wanted, buf),
+            Source::Usual => self.read_file(wanted.name, wanted, buf),
+        }
+    }
+
+    // Writes a text to standard output in one piece, and says how many bytes it has.
+    pub fn show(&self, text: &[u8]) -> Result<usize, Unread>
+        ensures { MatchResult result (λ n. n ≡ length text.now) (λ e. e ≡ Failed) }
+    {
+        match self.rt.stdout().write_all(text) {
+            Ok(()) => Ok(text.len()),
+            Err(error) => self.complain(b"standard output", error),
+        }
     }
 }

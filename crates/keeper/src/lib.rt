@@ -9,12 +9,8 @@ mod version;
 mod written;
 
 ghost use Rattle.std.specs.Prelude.{◌≡◌, cond};
-ghost use Rattle.table.specs.Cell.{cell_of};
-ghost use Rattle.meaning.specs.Codes.{check_of, idle_of, load_number, touch_number, found_number, limit_number, list_number};
-ghost use Rattle.touch.specs.Known.{known_touches};
-ghost use Rattle.locating.specs.Known.{known_nearest, known_common};
-ghost use Rattle.limit.specs.Known.{known_ceiling};
-ghost use Rattle.listing.specs.Known.{known_answer, known_buffer};
+ghost use Rattle.meaning.specs.Answers.{Sound, Unsound};
+ghost use Rattle.meaning.specs.Codes.{check_of, idle_of};
 ghost use Rattle.keeper.specs.Known.{known_idle};
 
 // The calls of hosts in C and Rust and of a card, which crate `keeper_c` exports: the cell is lent, and each answer is a number.
@@ -24,8 +20,8 @@ pub use exports::{
     keeper_idle, keeper_list, keeper_load, keeper_nearest, keeper_read, keeper_step, keeper_touch,
     keeper_touches,
 };
-use meaning::{Checked, Idled, Verdict};
-use sets::Set;
+use meaning::refusals::UNSOUND_TABLE;
+use meaning::{Checked, Idled};
 use table::Cell;
 pub use version::{keeper_cell_bytes, keeper_version};
 pub use written::keeper_trail;
@@ -67,69 +63,18 @@ pub use numbers::{
     step_number, touch_number, word_number,
 };
 
-// The number that a load answers, or the reading of a text.
-fn numbered_load(verdict: Verdict) -> u64
-    ensures { result ≡ load_number verdict }
-{
-    load_number(verdict)
-}
-
-// The number that a listing answers, told whether the cell is sound.
-fn numbered_list(known: bool, c: Cell, text: &mut [u8]) -> u64
-    ensures { (text.new ≡ known_buffer known (cell_of c) text.old)
-        × (result ≡ list_number (known_answer known (cell_of c) text.old)) }
-{
-    list_number(listing::list_known(known, c, text))
-}
-
-// The number that a call for the touches of a place answers, told whether the cell is sound.
-fn numbered_touches(known: bool, used: Set, touches: &[u64; 64], place: u8) -> u64
-    ensures { result ≡ touch_number (known_touches known used touches.now place) }
-{
-    touch_number(touch::touches_known(known, used, touches, place))
-}
-
-// The number that a question for the nearest enclosing place of a name answers, told whether the cell is sound.
-fn numbered_nearest(known: bool, c: Cell, place: u8, name: u16) -> u64
-    ensures { result ≡ found_number (known_nearest known c place name) }
-{
-    found_number(locating::nearest_known(known, c, place, name))
-}
-
-// The number that a question for the innermost place of two answers, told whether the cell is sound.
-fn numbered_common(known: bool, c: Cell, place: u8, other: u8) -> u64
-    ensures { result ≡ found_number (known_common known c place other) }
-{
-    found_number(locating::common_known(known, c, place, other))
-}
-
-// The number that a call for the ceiling answers, told whether the cell is sound.
-fn numbered_ceiling(known: bool, given: Set, moves: u16) -> u64
-    ensures { result ≡ limit_number (known_ceiling known given moves) }
-{
-    limit_number(limit::ceiling_known(known, given, moves))
-}
-
 // What a check answers: 10 is its one refusal.
 fn checked(sound: bool) -> Checked
-    ensures { result ≡ cond sound Checked.Sound (Checked.Unsound 10) }
+    ensures { result ≡ cond sound Sound (Unsound 10) }
 {
-    if sound {
-        Checked::Sound
-    } else {
-        Checked::Unsound(10)
-    }
+    if sound { Ok(()) } else { Err(UNSOUND_TABLE) }
 }
 
-// What a call whether all agents are asleep or done answers, told whether the cell is sound and whether they are: 10 is its one refusal.
+// What a call whether all agents are asleep or done answers, told whether the cell is sound and whether they are.
 fn idled(known: bool, rest: bool) -> Idled
     ensures { result ≡ known_idle known rest }
 {
-    if known {
-        if rest { Idled::Idle } else { Idled::Busy }
-    } else {
-        Idled::Unknown(10)
-    }
+    if known { Ok(rest) } else { Err(UNSOUND_TABLE) }
 }
 
 // A soundness check.

@@ -2,7 +2,7 @@
 ghost use Rattle.std.specs.Prelude.{◌≡◌};
 ghost use Rattle.table.specs.Bounds.{Sized};
 ghost use Rattle.table.specs.Cell.{cell_of};
-ghost use Rattle.meaning.specs.declared.Answer.TheVariants.{Did};
+ghost use Rattle.meaning.specs.Answers.{Did};
 ghost use Rattle.soundness.specs.Seen.{seen_of};
 ghost use Rattle.meaning.specs.Codes.{step_number};
 ghost use Rattle.moves.specs.Motions.{woken_in};
@@ -12,6 +12,8 @@ ghost use Rattle.asking.specs.Asked.{asked_of, goes_on, moved_if, settled_if, ca
 use crate::step_number;
 use asking::{asked, goes_on, move_goes_on};
 use meaning::Asked;
+use meaning::refusals::ANSWER_DIFFERS;
+use moves::Motion;
 use moving::{shift_lent, woken_lent};
 use soundness::sound_lent;
 use stages::{Change, looks_around, own_step, stage_step};
@@ -50,38 +52,38 @@ pub(super) fn decided(cell: &Cell, agent: u8, wish: u8) -> Decision
 pub(super) fn told(cell: &Cell, agent: u8, d: Decision) -> Asked
     ensures { result ≡ asked_of cell.now (agent_at cell.now agent) d }
 {
-    if d.moves {
+    if let Some(motion) = d.motion {
         let k = at(agent);
         let a = cell.agents[k];
-        let n = woken_lent(cell, a, d.motion);
+        let n = woken_lent(cell, a, motion);
         return asked(d, n);
     }
     asked(d, 0)
 }
 
 // Whether the move that was decided of agent a goes on: any does, or the one of which an ask gives this number.
-fn move_goes(cell: &Cell, a: Agent, d: Decision, any: bool, answer: u64) -> bool
-    ensures { result ≡ goes_on any (Did (motion_word d.motion) (woken_in (cell_of cell.now) a d.motion)) d.chosen answer }
+fn move_goes(cell: &Cell, a: Agent, motion: Motion, chosen: u8, any: bool, answer: u64) -> bool
+    ensures { result ≡ goes_on any (Did (motion_word motion) (woken_in (cell_of cell.now) a motion)) chosen answer }
 {
     if any {
         return true;
     }
-    let n = woken_lent(cell, a, d.motion);
-    move_goes_on(d, n, answer)
+    let n = woken_lent(cell, a, motion);
+    move_goes_on(motion, chosen, n, answer)
 }
 
 // The move that was decided, made on a lent cell if the step goes on: 18 otherwise.
-fn moved(cell: &mut Cell, agent: u8, d: Decision, any: bool, answer: u64) -> u64
-    ensures { (cell.new ≡ (moved_if cell.old agent d any answer).cell)
-        × (result ≡ step_number (moved_if cell.old agent d any answer).answer) }
+fn moved(cell: &mut Cell, agent: u8, d: Decision, motion: Motion, any: bool, answer: u64) -> u64
+    ensures { (cell.new ≡ (moved_if cell.old agent d motion any answer).cell)
+        × (result ≡ step_number (moved_if cell.old agent d motion any answer).answer) }
 {
     let k = at(agent);
     let a = cell.agents[k];
-    if move_goes(cell, a, d, any, answer) {
-        let r = shift_lent(cell, agent, a, d.motion);
+    if move_goes(cell, a, motion, d.chosen, any, answer) {
+        let r = shift_lent(cell, agent, a, motion);
         return step_number(r);
     }
-    18
+    u64::from(ANSWER_DIFFERS)
 }
 
 // The agent's stage, remembered and chosen place that were decided, stored in place.
@@ -115,7 +117,7 @@ fn settled(cell: &mut Cell, agent: u8, d: Decision, any: bool, answer: u64) -> u
         lock_stored(cell, d.second, d.lock);
         return step_number(d.answer);
     }
-    18
+    u64::from(ANSWER_DIFFERS)
 }
 
 // The decision, carried out on a lent cell if the step goes on: 18 otherwise.
@@ -123,8 +125,8 @@ pub(super) fn carried(cell: &mut Cell, agent: u8, d: Decision, any: bool, answer
     ensures { (cell.new ≡ (carried_if cell.old agent d any answer).cell)
         × (result ≡ step_number (carried_if cell.old agent d any answer).answer) }
 {
-    if d.moves {
-        return moved(cell, agent, d, any, answer);
+    match d.motion {
+        Some(motion) => moved(cell, agent, d, motion, any, answer),
+        None => settled(cell, agent, d, any, answer),
     }
-    settled(cell, agent, d, any, answer)
 }

@@ -1,8 +1,9 @@
 -- A walk over a set that adds up what its members have: what it has added and what is still to come make the whole. Assumes nothing.
-use Rattle.std.specs.Prelude.{◌≡◌, Bool, cond, ℕ, ◌+◌, ◌-◌, ◌≤◌, ◌<◌, ltb}
-use Rattle.std.proofs.Common.{arith, ltb-true, ltb-false}
+use Rattle.std.specs.Prelude.{◌≡◌, Bool, cond, ℕ, ◌+◌, ◌-◌, ◌≤◌, ◌<◌, ltb, Option, None, Some}
+use Rattle.std.proofs.Common.{arith, subst, sym, ltb-true, ltb-false}
 use Rattle.sets.specs.Set.{removed}
-use Rattle.sets.specs.Walk.{Rest, lowest_in}
+use Rattle.sets.specs.Walk.{Rest, lowest_in, TakesLowest}
+use Rattle.sets.proofs.WalkLaws.{Turn, turn_of}
 use Rattle.sets.specs.declared.Set.{Set}
 use Rattle.table.specs.Base.{sum_below}
 use Rattle.table.proofs.BaseLaws.{Told, yea, nay, told}
@@ -41,3 +42,14 @@ module _ (g : ℕ → Bool) (f : ℕ → ℕ) where
       pub added_more : Added (sum + f (lowest_in rest)) (removed rest (lowest_in rest))
       added_more = let l = within (told (ltb a.left (f (lowest_in rest)))) in
           record { left = a.left - f (lowest_in rest); is = omega (arith, a.is, l); walk = taken_more g f whole a.walk k l }
+
+    -- a turn of a `for` over the set, which takes j: what j has is added; at the end nobody is left
+    module _ {j : ℕ} {others : Set} (step : TakesLowest rest (Some j) others) where
+      turn : Turn rest j others
+      turn = turn_of a.walk.walk.small step
+
+      pub added_turn : Added (sum + f j) others
+      added_turn = subst (Added (sum + f j)) (sym turn.left) (subst (λ (i : ℕ). Added (sum + f i) (removed rest (lowest_in rest))) (sym turn.lowest) (added_more turn.some))
+
+    pub added_none : {others : Set} → TakesLowest rest None others → sum ≡ sum_below (λ x. cond (g x) (f x) 0) 64
+    added_none step = added_end step.0

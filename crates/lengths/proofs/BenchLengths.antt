@@ -4,7 +4,7 @@ use Rattle.table.specs.Base.{tab, fold_up}
 use Rattle.table.specs.Cell.{State, none, release_kind}
 use Rattle.table.specs.declared.Name.{Name}
 use Rattle.table.specs.declared.Agent.{Agent}
-use Rattle.meaning.specs.declared.Answer.TheVariants.{Refused}
+use Rattle.meaning.specs.Answers.{Refused}
 use Rattle.meaning.specs.Refusals.{no_such_agent}
 use Rattle.meaning.specs.Text.{ascii, digits, gap, joined_all}
 use Rattle.meaning.specs.Sorted.{leq, insert, sorted}

@@ -1,5 +1,5 @@
 -- How long a line of a report can be: 15 bytes at most for a call. Assumes nothing.
-use Rattle.std.specs.Prelude.{Bool, true, false, cond, ◌++◌, eqb, ltb, leb, length}
+use Rattle.std.specs.Prelude.{Bool, true, false, cond, ◌++◌, eqb, ltb, leb, length, Ok, Err}
 use Rattle.std.proofs.Common.{arith, length-append}
 use Prim.Native.Nat.{ℕ, ◌≤◌, ◌<◌, zero-le}
 use Rattle.sets.proofs.WordLaws.{count_most}
@@ -11,8 +11,7 @@ use Rattle.table.specs.declared.Cell.{Cell}
 use Rattle.meaning.specs.Refusals.{unsound_table, no_such_agent}
 use Rattle.meaning.specs.declared.Word.{Word}
 use Rattle.meaning.specs.declared.Word.TheVariants.{Looked, Took, Held, Back, Slept, Left, Came, Opened, Put, Asleep, Done}
-use Rattle.meaning.specs.declared.Answer.{Answer}
-use Rattle.meaning.specs.declared.Answer.TheVariants.{Did, Refused}
+use Rattle.meaning.specs.Answers.{Answer}
 use Rattle.meaning.specs.Text.{ascii, decimal}
 use Rattle.meaning.specs.Step.{Outcome, stays, choice, fires, destination_of, still, turn, take as takes, release, look, lock_first, put, put_or_sleep, lock_second, hold, leave, dissolve, act, arrive, travel, step_at, step}
 use Rattle.meaning.specs.Run.{made, turned_away, step_of}
@@ -82,8 +81,8 @@ module _ (c : State) (x : ℕ) where
 
 -- the number in an answer
 abbrev pub number_in : Answer → ℕ
-number_in (Did word woken) = woken
-number_in (Refused number) = number
+number_in (Ok o) = o.woken
+number_in (Err number) = number
 
 pub step_number_lem : (t : Cell) (x w : ℕ) → number_in (step_of t x w).answer < 100
 unfolding step_of made turned_away step
@@ -110,18 +109,18 @@ word_length Done = omega arith
 
 pub line_length : (agent : ℕ) (answer : Answer) → agent < 256 → number_in answer < 100 → length (step_line agent answer) ≤ 15
 unfolding step_line tab
-line_length agent (Did word woken) l m = omega (
+line_length agent (Ok o) l m = omega (
   arith,
-  word_length word,
+  word_length o.word,
   digits_short 20 2 agent (omega arith),
-  digits_short 20 1 woken (omega arith),
+  digits_short 20 1 o.woken (omega arith),
   length-append (decimal agent) (ascii " "),
-  length-append (decimal agent ++ ascii " ") (word_text word),
-  length-append ((decimal agent ++ ascii " ") ++ word_text word) (ascii " "),
-  length-append (((decimal agent ++ ascii " ") ++ word_text word) ++ ascii " ") (decimal woken),
-  length-append ((((decimal agent ++ ascii " ") ++ word_text word) ++ ascii " ") ++ decimal woken) (ascii "\n"),
+  length-append (decimal agent ++ ascii " ") (word_text o.word),
+  length-append ((decimal agent ++ ascii " ") ++ word_text o.word) (ascii " "),
+  length-append (((decimal agent ++ ascii " ") ++ word_text o.word) ++ ascii " ") (decimal o.woken),
+  length-append ((((decimal agent ++ ascii " ") ++ word_text o.word) ++ ascii " ") ++ decimal o.woken) (ascii "\n"),
 )
-line_length agent (Refused number) l m = omega (
+line_length agent (Err number) l m = omega (
   arith,
   digits_short 20 2 agent (omega arith),
   digits_short 20 1 number (omega arith),

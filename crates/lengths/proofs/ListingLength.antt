@@ -19,7 +19,7 @@ use Rattle.meaning.specs.Text.{ascii, decimal}
 use Rattle.meaning.specs.Sorted.{sorted}
 use Rattle.meaning.specs.Listing.{kind_text, action_text, is_unused, action_turn, agent_text, lists_in, texts_of, agent_texts, stands_under, is_plain, slashed, name_text, bracketed, place_texts}
 use Rattle.meaning.specs.Listing.{in_order, contents_text, listing, list_answer}
-use Rattle.meaning.specs.declared.Listed.TheVariants.{Length, Unlisted}
+use Rattle.meaning.specs.Answers.{Length, Unlisted}
 use Rattle.lengths.specs.Longest.{longest_word, longest_listing, longest_any}
 use Rattle.lengths.proofs.Sums.{pick, pick_le}
 use Rattle.lengths.proofs.Parts.{digits_short, digits_most, room, room_none, length_room, room_length, room_turn, room_fold, weight, sorted_weight, append_weight, texts_weight, room_all}

@@ -1,19 +1,18 @@
 -- How large the ceiling of a cell can be; what the code counts is what is defined; told the truth of the cell, the call is answered as it is
 -- defined. Assumes nothing.
-use Rattle.std.specs.Prelude.{◌≡◌, refl, Bool, true, false, cond, ℕ, zero, suc, ◌+◌, ◌*◌, ◌-◌, ◌≤◌, ◌<◌, ltb}
-use Rattle.std.proofs.Common.{sym, ap, ap₂, ◌∙◌, mul-le-mul, arith, ltb-true, le-leb}
-use Rattle.std.proofs.lemmas.Bool.{lt-leb}
+use Rattle.std.specs.Prelude.{◌≡◌, refl, Bool, true, false, cond, ℕ, zero, suc, ◌+◌, ◌*◌, ◌-◌, ◌≤◌, ltb}
+use Rattle.std.proofs.Common.{sym, ap, ap₂, ◌∙◌, mul-le-mul, arith, ltb-true}
 use Rattle.sets.specs.Word.{bit, has, count_of}
 use Rattle.table.specs.Base.{count_below}
 use Rattle.table.proofs.BaseLaws.{Told, yea, nay, told, length_tab}
 use Rattle.table.proofs.SumLaws.{sum_most}
-use Rattle.table.specs.Cell.{State, cell_of, row_end, unused, on_way, on_way_both}
+use Rattle.table.specs.Cell.{State, cell_of, row_end, unused}
 use Rattle.table.specs.Sound.{sound}
 use Rattle.table.specs.declared.Agent.{Agent}
 use Rattle.table.specs.declared.Cell.{Cell}
 use Rattle.meaning.specs.Codes.{limit_number}
 use Rattle.meaning.specs.Refusals.{unsound_table}
-use Rattle.meaning.specs.declared.Limit.TheVariants.{AtMost, Uncounted}
+use Rattle.meaning.specs.Answers.{AtMost, Uncounted}
 use Rattle.meaning.specs.Limit.{agents_of, is_away, moves_of, moves_left, changes_left, ceiling_of}
 use Rattle.limit.specs.Known.{moves_at, known_ceiling}
 
@@ -75,16 +74,6 @@ unfolding ceiling_of
 number_whole t s = rw s (omega (arith, changes_most (cell_of t)))
 
 -- ---- what is counted
-
--- an agent is on its way at stages 4 to 6 only
-pub away_before : (stage : ℕ) → stage < on_way → 0 ≡ bit (is_away stage)
-away_before stage l = rw (lt-leb on_way stage l)
-
-pub away_between : (stage : ℕ) → on_way ≤ stage → stage ≤ on_way_both → 1 ≡ bit (is_away stage)
-away_between stage l m = rw (le-leb on_way stage l, le-leb stage on_way_both m)
-
-pub away_after : (stage : ℕ) → on_way ≤ stage → on_way_both < stage → 0 ≡ bit (is_away stage)
-away_after stage l m = rw (le-leb on_way stage l, lt-leb stage on_way_both m)
 
 -- counted from the first on or up to the last, it is one number
 first_apart : (f : ℕ → Bool) (n : ℕ) → count_below f (suc n) ≡ bit (f 0) + count_below (λ i. f (suc i)) n

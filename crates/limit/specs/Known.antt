@@ -4,8 +4,7 @@ use Rattle.sets.specs.Word.{bit, count_of}
 use Rattle.sets.specs.Set.{member}
 use Rattle.sets.specs.declared.Set.{Set}
 use Rattle.table.specs.Cell.{row_end}
-use Rattle.meaning.specs.declared.Limit.{Limit}
-use Rattle.meaning.specs.declared.Limit.TheVariants.{AtMost, Uncounted}
+use Rattle.meaning.specs.Answers.{Limit, AtMost, Uncounted}
 use Rattle.meaning.specs.Refusals.{unsound_table}
 use Rattle.meaning.specs.Limit.{is_away}
 

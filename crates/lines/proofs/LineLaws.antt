@@ -3,7 +3,7 @@ use Rattle.std.specs.Prelude.{◌≡◌, List, ◌++◌, ℕ}
 use Rattle.std.proofs.Common.{append_assoc}
 
 -- a number and a blank, a word and a blank, a number and the line's end
-pub did_grouped : (a b c d e f : List ℕ) → ((a ++ b) ++ (c ++ d)) ++ (e ++ f) ≡ ((((a ++ b) ++ c) ++ d) ++ e) ++ f
+pub did_grouped : (a b c d e f : List ℕ) → (a ++ b) ++ ((c ++ d) ++ (e ++ f)) ≡ ((((a ++ b) ++ c) ++ d) ++ e) ++ f
 did_grouped a b c d e f = simp append_assoc
 
 -- a number and a blank, a word, a number and the line's end

@@ -1,6 +1,6 @@
 -- Two texts in a buffer, compared byte by byte. Assumes nothing.
 -- Idea: bytes that are the same are passed, one or eight at a time, and the rest is compared.
-use Rattle.std.specs.Prelude.{◌≡◌, Bool, true, false, List, [], ◌∷◌, ℕ, zero, suc, ◌+◌, ◌-◌, ◌≤◌, ◌<◌, ltb, leb, length, take, drop}
+use Rattle.std.specs.Prelude.{◌≡◌, Bool, true, false, List, [], ◌∷◌, ℕ, zero, suc, ◌+◌, ◌*◌, ◌-◌, ◌≤◌, ◌<◌, ltb, leb, length, take, drop}
 use Rattle.std.proofs.Math.Path.{refl, ap}
 use Rattle.std.proofs.Common.{sym, ap₂, ◌∙◌, add-one, drop-cons}
 use native.Mathlib.Omega.{arith}
@@ -41,9 +41,9 @@ module _ (b : List ℕ) (s t : ℕ) where
   alike_none = refl
 
   -- eight more
-  pub alike_more : (i : ℕ) → alike b s t i ≡ true → alike b (s + i) (t + i) 8 ≡ true → alike b s t (i + 8) ≡ true
+  eight_more : (i : ℕ) → alike b s t i ≡ true → alike b (s + i) (t + i) 8 ≡ true → alike b s t (i + 8) ≡ true
   unfolding alike
-  alike_more i a c = all_yes (λ k. eqb (get_or b (s + k) 0) (get_or b (t + k) 0)) (i + 8) (λ k l. eq-eqb _ _ (go k l (told (ltb k i))))
+  eight_more i a c = all_yes (λ k. eqb (get_or b (s + k) 0) (get_or b (t + k) 0)) (i + 8) (λ k l. eq-eqb _ _ (go k l (told (ltb k i))))
     where
       go : (k : ℕ) → k < i + 8 → Told (ltb k i) → get_or b (s + k) 0 ≡ get_or b (t + k) 0
       go k l (yea u) = alike_at i a k (ltb-true k i u)
@@ -55,7 +55,14 @@ module _ (b : List ℕ) (s t : ℕ) where
           ∙ eqb-true _ _ (all_at (λ k. eqb (get_or b (s + i + k) 0) (get_or b (t + i + k) 0)) 8 (k - i) (omega arith) c)
           ∙ ap (λ (j : ℕ). get_or b j 0) y
 
+  -- so many times eight
+  pub alike_more : (k : ℕ) → alike b s t (8 * k) ≡ true → alike b (s + 8 * k) (t + 8 * k) 8 ≡ true → alike b s t (8 * (k + 1)) ≡ true
+  alike_more k a c = let e : 8 * (k + 1) ≡ 8 * k + 8 = omega arith in ap (alike b s t) e ∙ eight_more (8 * k) a c
+
 -- ---- one text before the other
+
+other : {x y : ℕ} → y ≤ x → (x ≡ y → ⊥) → y < x
+other l d = omega arith
 
 module _ (b : List ℕ) (s e t f : ℕ) (h : e ≤ length b) (k : f ≤ length b) where
   -- what is left of the two once i bytes are passed
@@ -73,6 +80,14 @@ module _ (b : List ℕ) (s e t f : ℕ) (h : e ≤ length b) (k : f ≤ length b
   -- and so does one that is more
   pub from_more : (i : ℕ) → s + i < e → t + i < f → get_or b (t + i) 0 < get_or b (s + i) 0 → leq_from i ≡ false
   from_more i l m d = ap₂ leq (cut_more b (s + i) e l h) (cut_more b (t + i) f m k) ∙ leq_more _ _ d
+
+  -- so another byte decides
+  pub from_differ : (i : ℕ) → s + i < e → t + i < f → (get_or b (s + i) 0 ≡ get_or b (t + i) 0 → ⊥) → leq_from i ≡ ltb (get_or b (s + i) 0) (get_or b (t + i) 0)
+  from_differ i l m d = go (told (ltb (get_or b (s + i) 0) (get_or b (t + i) 0)))
+    where
+      go : Told (ltb (get_or b (s + i) 0) (get_or b (t + i) 0)) → leq_from i ≡ ltb (get_or b (s + i) 0) (get_or b (t + i) 0)
+      go (yea u) = from_less i l m (ltb-true _ _ u) ∙ sym u
+      go (nay u) = let n = ltb-false (get_or b (s + i) 0) (get_or b (t + i) 0) u in from_more i l m (other n d) ∙ sym u
 
   -- the same byte is passed
   pub from_same : (i : ℕ) → s + i < e → t + i < f → get_or b (s + i) 0 ≡ get_or b (t + i) 0 → leq_from i ≡ leq_from (i + 1)

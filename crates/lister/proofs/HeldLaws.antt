@@ -12,8 +12,7 @@ use Rattle.meaning.specs.Sorted.{sorted}
 use Rattle.meaning.proofs.SortedLaws.{Text}
 use Rattle.meaning.proofs.TextsLaws.{joined_last}
 use Rattle.meaning.specs.Every.{every_none, every_more, Every}
-use Rattle.text.specs.Wrote.{Wrote}
-use Rattle.text.proofs.TextLaws.{over_start, over_length}
+use Rattle.text.proofs.TextLaws.{over_start}
 use Rattle.lister.specs.Sheet.{bar}
 use Rattle.lister.specs.Marked.{barred, grouped, Filled, none, more, Ends, Marked}
 use Rattle.lister.specs.Cuts.{start_of, part_at, laid, counted, in_row, Inside, Row, Rewritable}
@@ -126,14 +125,11 @@ kept_arranged {texts} {marks} {buf} {n} m e =
 
 -- ---- a copy
 
--- the first bytes of a buffer, written over another
-pub copied : {texts : List Text} {buf room xs : List ℕ} {r at end : ℕ} → Held texts buf → r ≡ length (barred texts) → length (barred texts) ≤ length room
-    → Wrote (take r buf) at room xs end → Held texts xs
-copied {texts} {buf} {room} h e l w =
-    let t = ap (λ (k : ℕ). take k buf) e ∙ h.start in
-    let q = w.text ∙ ap (λ (s : Text). overlay s room) t in
-    let n = ap length q ∙ over_length (barred texts) room in
-    record { room = omega arith; start = ap (take (length (barred texts))) q ∙ over_start (barred texts) room l }
+-- the first bytes of a buffer, copied over those of another
+pub copied : {texts : List Text} {buf xs : List ℕ} {r : ℕ} (rest : List ℕ) → Held texts buf → r ≡ length (barred texts) → xs ≡ take r buf → Held texts (xs ++ rest)
+copied {texts} {buf} rest h e q =
+    let t = q ∙ ap (λ (k : ℕ). take k buf) e ∙ h.start in
+    rw t (record { room = omega (arith, length-append (barred texts) rest); start = take_at (barred texts) rest (length (barred texts)) refl })
 
 -- two functions that tell the same texts
 laid_same : (text other : ℕ → Text) (n : ℕ) → laid text n ≡ laid other n → (k : ℕ) → k < n → text k ≡ other k

@@ -95,6 +95,6 @@ plain_text x e t = sym (append-nil (decimal x.name))
     ∙ ap (λ (k : Bool). decimal x.name ++ cond k [] (slashed x.entering ++ (slashed x.exiting ++ slashed x.opening))) (sym t ∙ e)
 
 -- and else the keys after it
-pub keyed_text_lem : (x : Name) {y : Name} {z : Bool} → y ≡ x → z ≡ is_plain x → z ≡ false → keyed_text y ≡ name_text x
+pub keyed_text_lem : (x : Name) {z : Bool} → z ≡ is_plain x → z ≡ false → keyed_text x ≡ name_text x
 unfolding name_text keyed_text keys_text
-keyed_text_lem x h e t = ap keyed_text h ∙ ap (λ (k : Bool). decimal x.name ++ cond k [] (slashed x.entering ++ (slashed x.exiting ++ slashed x.opening))) (sym t ∙ e)
+keyed_text_lem x e t = ap (λ (k : Bool). decimal x.name ++ cond k [] (slashed x.entering ++ (slashed x.exiting ++ slashed x.opening))) (sym t ∙ e)

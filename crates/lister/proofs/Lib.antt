@@ -6,7 +6,6 @@ pub mod RewriteLaws
 pub mod MarkedLaws
 pub mod HeldLaws
 pub mod MemberLaws
-pub mod PackLaws
 pub mod KeyLaws
 pub mod PartLaws
 pub mod TurnLaws

@@ -1,15 +1,11 @@
--- A walk over the members of a set that joins one part for each, skipped turns, and the room that a turn has. Assumes nothing.
+-- A walk that joins one part for each of the numbers that pass a test, skipped turns, and the room that a turn has. Assumes nothing.
 -- Idea: a turn that is skipped joins nothing, so the fold may jump to the next member; no turn makes the text shorter.
-use Rattle.std.specs.Prelude.{◌≡◌, refl, ◌≢◌, ◌⊎◌, Bool, true, false, cond, List, [], ◌++◌, eqb}
-use Rattle.std.proofs.Common.{sym, ◌∙◌, subst, inl, inr, length-append}
+use Rattle.std.specs.Prelude.{◌≡◌, ◌≢◌, ◌⊎◌, Bool, true, false, cond, List, [], ◌++◌, eqb}
+use Rattle.std.proofs.Common.{sym, ◌∙◌, inl, inr, length-append}
 use Rattle.std.proofs.Math.Path.{ap}
 use Prim.Native.Nat.{ℕ, zero, suc, ◌+◌, ◌-◌, ◌<◌, ◌≤◌}
 use native.Mathlib.Omega.{arith}
 use Rattle.std.proofs.Math.ListN.{length}
-use Rattle.sets.specs.Set.{removed}
-use Rattle.sets.proofs.WalkLaws.{rest_lt, rest_more, removed_less}
-use Rattle.sets.specs.Walk.{lowest_in, Rest}
-use Rattle.sets.specs.declared.Set.{Set}
 use Rattle.table.specs.Base.{fold_up}
 use Rattle.table.proofs.BaseLaws.{eq?}
 use Rattle.meaning.specs.Text.{gap, joined}
@@ -26,12 +22,6 @@ fold_skip {S} f s n (suc m) l h = go (eq? n (suc m)) (fold_skip f s n m)
     go : (n ≡ suc m) ⊎ (n ≢ suc m) → (n ≤ m → ((j : ℕ) → n ≤ j → j < m → (t : S) → f j t ≡ t) → fold_up f n s ≡ fold_up f m s) → fold_up f n s ≡ f m (fold_up f m s)
     go (inl e) r = ap (λ (k : ℕ). fold_up f k s) e
     go (inr q) r = r (omega arith) (λ j a b t. h j a (omega arith) t) ∙ sym (h m (omega arith) (omega arith) (fold_up f m s))
-
--- equal turns below n
-pub fold_ext : {S : Type 0} (f g : ℕ → S → S) (n : ℕ) (s : S) → ((j : ℕ) → j < n → (t : S) → f j t ≡ g j t) → fold_up f n s ≡ fold_up g n s
-unfolding fold_up
-fold_ext f g zero s h = refl
-fold_ext f g (suc n) s h = h n (omega arith) (fold_up f n s) ∙ ap (g n) (fold_ext f g n s (λ j l t. h j (omega arith) t))
 
 -- ---- one part more, where there is room for it
 
@@ -76,18 +66,6 @@ module _ (by : List ℕ) {s b xs : List ℕ} {from at i : ℕ} (t : List ℕ) (w
     turned u = wrote_as (ap (λ (z : List ℕ). (s ++ z) ++ t) so) (then_next t parted all g u)
 
 -- ---- the walk
-
--- the member that a turn takes is below 64
-pub taken_lt : {g : ℕ → Bool} {i x : ℕ} {s : Set} → Rest g i s → 0 < s.bits → x ≡ lowest_in s → x < 64
-taken_lt r k e = omega (arith, rest_lt r k)
-
--- what a turn leaves
-pub left_over : {g : ℕ → Bool} {i x : ℕ} {s t : Set} → Rest g i s → 0 < s.bits → x ≡ lowest_in s → t ≡ removed s (lowest_in s) → Rest g (x + 1) t
-left_over {g} {i} {x} {s} {t} r k e q = subst (λ (z : ℕ). Rest g (z + 1) t) (sym e) (subst (λ (z : Set). Rest g (lowest_in s + 1) z) (sym q) (rest_more r k))
-
--- and it is less
-pub left_less : {g : ℕ → Bool} {i : ℕ} {s t : Set} → Rest g i s → 0 < s.bits → t ≡ removed s (lowest_in s) → t.bits < s.bits
-left_less {g} {i} {s} r k e = subst (λ (z : Set). z.bits < s.bits) (sym e) (removed_less s r.small k)
 
 module _ (by : List ℕ) (g : ℕ → Bool) (F : ℕ → List ℕ) (s₀ : List ℕ) where
   -- turns that join nothing

@@ -21,7 +21,7 @@ use Rattle.text.specs.Wrote.{Wrote, Fits}
 use Rattle.text.proofs.TextLaws.{part, back, wrote_as}
 use Rattle.text.proofs.RoomLaws.{fits_less, fits_as, fits_first, fits_exactly, first_in, fits_next, then_next, store_in, stored}
 use Rattle.lengths.specs.Longest.{longest_listing}
-use Rattle.lister.specs.Sheet.{bar, Sheet, Drawn, HaveTexts, OnPage, head_text, contents_on, place_on, floor_on}
+use Rattle.lister.specs.Sheet.{bar, Shown, Drawn, OnPage, head_text, contents_on, place_on, floor_on}
 use Rattle.lister.specs.Marked.{grouped, Filled}
 use Rattle.lister.proofs.RowLaws.{agent_some}
 use Rattle.lister.proofs.MemberLaws.{texts_ext, texts_filled, texts_none, texts_some, one_group, both_groups, first_group}
@@ -29,33 +29,33 @@ use Rattle.lister.proofs.MemberLaws.{texts_ext, texts_filled, texts_none, texts_
 -- ---- level by level
 
 -- the agents' texts in a place
-abbrev pub agents_on : Sheet → ℕ → List (List ℕ)
+abbrev pub agents_on : Shown → ℕ → List (List ℕ)
 agents_on h p = texts_of (h.lives p) h.text 64
 
 -- and the places', each with its contents so many levels deep
-abbrev pub places_on : ℕ → Sheet → ℕ → List (List ℕ)
+abbrev pub places_on : ℕ → Shown → ℕ → List (List ℕ)
 places_on depth h p = texts_of (h.stands p) (place_on depth h) 64
 
-pub contents_none : (depth : ℕ) (h : Sheet) (p : ℕ) → depth ≡ 0 → contents_on depth h p ≡ []
+pub contents_none : (depth : ℕ) (h : Shown) (p : ℕ) → depth ≡ 0 → contents_on depth h p ≡ []
 unfolding contents_on
 contents_none depth h p e = rw e
 
-pub contents_some : (depth : ℕ) (h : Sheet) (p : ℕ) → (depth ≡ 0 → ⊥) → contents_on depth h p ≡ in_order (agents_on h p) (places_on (depth - 1) h p)
+pub contents_some : (depth : ℕ) (h : Shown) (p : ℕ) → (depth ≡ 0 → ⊥) → contents_on depth h p ≡ in_order (agents_on h p) (places_on (depth - 1) h p)
 unfolding contents_on place_on
 contents_some zero h p n = absurd (n refl)
 contents_some (suc depth) h p n = let e : depth ≡ suc depth - 1 = omega arith in ap (λ (k : ℕ). in_order (agents_on h p) (places_on k h p)) e
 
 -- a name with its bracket, the contents, and the closing bracket
-pub place_is : (depth : ℕ) (h : Sheet) (q : ℕ) → (head_text (h.name q) ++ contents_on depth h q) ++ (93 ∷ []) ≡ place_on depth h q
+pub place_is : (depth : ℕ) (h : Shown) (q : ℕ) → (head_text (h.name q) ++ contents_on depth h q) ++ (93 ∷ []) ≡ place_on depth h q
 unfolding place_on bracketed head_text tab
 place_is depth h q = refl
 
 -- the agents of a place have texts, where every listed agent has one
-pub agents_filled : (h : Sheet) → HaveTexts h → (p : ℕ) → p < 64 → Filled (agents_on h p)
+pub agents_filled : (h : Shown) → ((p x : ℕ) → p < 64 → x < 64 → h.lives p x ≡ true → 0 < length (h.text x)) → (p : ℕ) → p < 64 → Filled (agents_on h p)
 agents_filled h t p l = texts_filled (h.lives p) h.text 64 (λ x m e. t p x l m e)
 
 -- and so have places, which have brackets
-pub places_filled : (depth : ℕ) (h : Sheet) (g : ℕ → Bool) → Filled (texts_of g (place_on depth h) 64)
+pub places_filled : (depth : ℕ) (h : Shown) (g : ℕ → Bool) → Filled (texts_of g (place_on depth h) 64)
 places_filled depth h g = texts_filled g (place_on depth h) 64 (λ q m e. place_filled q)
   where
     place_filled : (q : ℕ) → 0 < length (place_on depth h q)
@@ -64,7 +64,7 @@ places_filled depth h g = texts_filled g (place_on depth h) 64 (λ q m e. place_
         omega (arith, length-append (head_text (h.name q) ++ contents_on depth h q) (93 ∷ []))
 
 -- a name with its bracket, the contents lent the rest from there on, and the closing bracket
-module _ (depth : ℕ) (h : Sheet) (q : ℕ) {b : List ℕ} {at : ℕ} (f : Fits (place_on depth h q) at b) where
+module _ (depth : ℕ) (h : Shown) (q : ℕ) {b : List ℕ} {at : ℕ} (f : Fits (place_on depth h q) at b) where
   all : Fits ((head_text (h.name q) ++ contents_on depth h q) ++ (93 ∷ [])) at b
   all = fits_as (sym (place_is depth h q)) f
 
@@ -119,7 +119,7 @@ module _ {g : ℕ → Bool} {s : Set} (r : Rest g 0 s) (F : ℕ → List ℕ) wh
   pub some_texts : (s.bits ≡ 0 → ⊥) → 0 < length (texts_of g F 64)
   some_texts n = let k : 0 < s.bits = omega arith in texts_some g F 64 (lowest_in s) (rest_lt r k) (rest_member r k)
 
-module _ (depth : ℕ) (h : Sheet) (p : ℕ) (n : depth ≡ 0 → ⊥) {b : List ℕ} {from : ℕ} (f : OnPage (contents_on depth h p) from b) where
+module _ (depth : ℕ) (h : Shown) (p : ℕ) (n : depth ≡ 0 → ⊥) {b : List ℕ} {from : ℕ} (f : OnPage (contents_on depth h p) from b) where
   -- the agents have room where all contents have
   pub agents_page : OnPage (grouped (agents_on h p)) from b
   agents_page =
@@ -149,7 +149,7 @@ module _ (depth : ℕ) (h : Sheet) (p : ℕ) (n : depth ≡ 0 → ⊥) {b : List
 
 -- ---- the sheet of a cell
 
-module _ {c : State} {h : Sheet} (d : Drawn c h) where
+module _ {c : State} {h : Shown} (d : Drawn c h) where
   agents_are : (p : ℕ) → p < 64 → agents_on h p ≡ agent_texts c p
   unfolding agent_texts
   agents_are p l = texts_ext _ _ _ _ 64 (λ x m. d.lives p x l m) (λ x m q. d.text p x m q)
@@ -170,7 +170,7 @@ module _ {c : State} {h : Sheet} (d : Drawn c h) where
   floor_is = ap (λ (t : List ℕ). cond (eqb (length t) 0) (48 ∷ []) t) (contents_are 65 0 (omega arith))
 
   -- an agent that is listed has an unused action, and so a text
-  pub drawn_texts : HaveTexts h
+  pub drawn_texts : (p x : ℕ) → p < 64 → x < 64 → h.lives p x ≡ true → 0 < length (h.text x)
   unfolding lists_in
   drawn_texts p x l m e =
       let q : lists_in (c.given x) (c.agent x) p ≡ true = sym (d.lives p x l m) ∙ e in

@@ -1,12 +1,11 @@
 -- A walk over the members of a set that writes one text for each and notes where it ends, and the texts put in order. Assumes nothing.
 -- Idea: before each turn the texts of the members that were taken are written, joined by bars, and it is noted where each ends.
-use Rattle.std.specs.Prelude.{◌≡◌, refl, Bool, true, List, [], ◌∷◌, ◌++◌, ℕ, ◌+◌, ◌-◌, ◌<◌, ◌≤◌, length, get_or, set, replicate}
+use Rattle.std.specs.Prelude.{Some, ◌≡◌, refl, Bool, true, List, [], ◌∷◌, ◌++◌, ℕ, ◌+◌, ◌-◌, ◌<◌, ◌≤◌, length, get_or, set, replicate}
 use Rattle.std.proofs.Common.{sym, ◌∙◌, subst, not-suc-le-zero, le_of_suc-le-suc, arith, length-append, length-set, get_or-set_same, get_or-set_other}
 use Rattle.std.proofs.Math.Path.{ap}
 use Rattle.std.proofs.Math.ListN.{length-replicate}
-use Rattle.sets.specs.Set.{removed}
-use Rattle.sets.proofs.WalkLaws.{rest_member, rest_from, rest_skip, rest_end}
-use Rattle.sets.specs.Walk.{lowest_in, Rest}
+use Rattle.sets.proofs.WalkLaws.{rest_member, rest_from, rest_skip, rest_end, turn_below, turn_more}
+use Rattle.sets.specs.Walk.{lowest_in, Rest, TakesLowest}
 use Rattle.sets.specs.declared.Set.{Set}
 use Rattle.meaning.specs.Text.{gap, joined, overlay}
 use Rattle.meaning.specs.Listing.{texts_of}
@@ -17,7 +16,6 @@ use Rattle.text.proofs.RoomLaws.{fits_less, fits_exactly}
 use Rattle.lister.specs.Sheet.{bar, OnPage}
 use Rattle.lister.specs.Marked.{barred, grouped, Filled, Ends, Marked, Arranged}
 use Rattle.lister.proofs.MarkedLaws.{grouped_length}
-use Rattle.lister.proofs.PartLaws.{taken_lt, left_over}
 use Rattle.lister.proofs.MemberLaws.{texts_more, barred_grows}
 
 -- a text over one that is no longer
@@ -54,10 +52,16 @@ module _ (g : ℕ → Bool) (F : ℕ → List ℕ) {from : ℕ} {b : List ℕ} (
   walked_none r = record { upto = 0; rest = r; wrote = begun f.fits.placed; ends = Ends.none; count = refl; long = length-replicate {A = ℕ} 64 0 }
 
   module _ {left : Set} {marks buf : List ℕ} {many at : ℕ} (w : Walked g F from b left marks many buf at) where
-    module _ (k : 0 < left.bits) {x : ℕ} (e : x ≡ lowest_in left) where
+    module _ {x : ℕ} {t : Set} (step : TakesLowest left (Some x) t) where
+      k : 0 < left.bits
+      k = step.0
+
+      e : x ≡ lowest_in left
+      e = step.1.0
+
       -- the member of the turn
       pub turn_low : x < 64
-      turn_low = taken_lt w.rest k e
+      turn_low = turn_below w.rest step
 
       member_is : g x ≡ true
       member_is = ap g e ∙ rest_member w.rest k
@@ -100,10 +104,10 @@ module _ (g : ℕ → Bool) (F : ℕ → List ℕ) {from : ℕ} {b : List ℕ} (
         mark_small = omega (arith, fits_exactly turn_room v, within, f.short)
 
         -- after the turn
-        pub walked_more : {t : Set} → t ≡ removed left (lowest_in left) → Walked g F from b t (set marks many (r - from)) (many + 1) ys r
-        walked_more q = record {
+        pub walked_more : Walked g F from b t (set marks many (r - from)) (many + 1) ys r
+        walked_more = record {
           upto = x + 1;
-          rest = left_over w.rest k e q;
+          rest = turn_more w.rest step;
           wrote = wrote_as joined_with v;
           ends = subst (Ends (set marks many (r - from))) with_it
               (Ends.more (ap (λ (i : ℕ). get_or (set marks many (r - from)) i 0) (sym w.count) ∙ get_or-set_same marks many (r - from) 0 (omega (arith, turn_slot, w.long)) ∙ marked)

@@ -1,18 +1,20 @@
 -- The floor's text, written over a part that has room for it, or first to a page that has. Assumes nothing.
 -- Idea: no text that fits the page is cut there, so what was written to it is the text.
-use Rattle.std.specs.Prelude.{◌≡◌, refl, Bool, true, false, ◌&&◌, ℕ, ◌+◌, ◌<◌, ◌≤◌, ltb, length, set, take, replicate}
+use Rattle.std.specs.Prelude.{◌≡◌, refl, Bool, true, false, ◌&&◌, ℕ, ◌+◌, ◌<◌, ◌≤◌, eqb, ltb, length, set, take, replicate}
 use Rattle.std.proofs.Common.{sym, ◌∙◌, subst, arith, length-take-le, eq-eqb, ne_eqb, lt-ltb, le-ltb}
 use Rattle.std.proofs.Math.Path.{ap}
 use Rattle.std.proofs.Math.Bool.{cond}
 use mathlib.Core.List.{List, [], ◌∷◌}
 use Rattle.std.proofs.lemmas.List.{length-replicate}
+use lib.Pointwise.{pointwise}
 use Rattle.table.specs.Base.{tab}
 use Rattle.meaning.specs.Text.{overlay}
+use Rattle.text.specs.Same.{same_text}
 use Rattle.text.specs.Wrote.{capped, Wrote, Fits}
 use Rattle.text.proofs.TextLaws.{over_start, over_length, wrote_as, wrote_length}
 use Rattle.text.proofs.RoomLaws.{fits_as, fits_exactly, stores}
 use Rattle.lengths.specs.Longest.{longest_listing}
-use Rattle.lister.specs.Sheet.{Sheet, OnPage, contents_on, floor_on, WroteIf}
+use Rattle.lister.specs.Sheet.{Shown, OnPage, contents_on, floor_on, WroteIf}
 
 no_length : (t : List ℕ) → length t ≡ 0 → t ≡ []
 no_length [] e = refl
@@ -20,7 +22,7 @@ no_length (x ∷ t) e = absurd (omega arith)
 
 -- ---- the floor
 
-module _ (h : Sheet) {b : List ℕ} (f : Fits (floor_on h) 0 b) where
+module _ (h : Shown) {b : List ℕ} (f : Fits (floor_on h) 0 b) where
   -- where there are no contents, the floor's text is `0`
   floor_nothing : length (contents_on 65 h 0) ≡ 0 → floor_on h ≡ 48 ∷ []
   unfolding floor_on tab
@@ -115,3 +117,12 @@ wrote_if_length {t} {b} {e} {whole} w = ap length w.text ∙ go (whole && ltb (l
     go : (z : Bool) → length (cond z b (overlay t b)) ≡ length b
     go true = refl
     go false = over_length t b
+
+-- ---- the comparison of two texts
+
+pub same_pairs : (s t : List ℕ) → pointwise eqb s t ≡ same_text s t
+unfolding same_text
+same_pairs [] [] = refl
+same_pairs [] (y ∷ t) = refl
+same_pairs (x ∷ s) [] = refl
+same_pairs (x ∷ s) (y ∷ t) = ap (◌&&◌ (eqb x y)) (same_pairs s t)

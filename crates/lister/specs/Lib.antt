@@ -1,3 +1,4 @@
+pub mod Listed
 pub mod Sheet
 pub mod Marked
 pub mod Cuts

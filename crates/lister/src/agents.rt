@@ -1,11 +1,11 @@
-// An agent's text, from the rows of its unused actions, where there is room for it.
-ghost use Rattle.std.specs.Prelude.{cond, [], ◌++◌, ◌≤◌, ◌<◌, ◌+◌, eqb};
-ghost use Rattle.meaning.specs.Text.{decimal};
-ghost use Rattle.meaning.specs.Listing.{kind_text};
+// An agent's text: its unused actions, where there is room for them.
+ghost use Rattle.std.specs.Prelude.{cond, [], eqb};
+ghost use Rattle.meaning.specs.Listing.{kind_text, action_text, agent_text};
 ghost use Rattle.text.specs.Wrote.{Wrote, Fits};
-ghost use Rattle.lister.specs.Sheet.{dot, row_from, row_text};
+ghost use Rattle.lister.specs.Sheet.{dot};
 
-use crate::{numbers, sheet};
+use crate::numbers;
+use table::{Action, Agent};
 
 // `enter `, `exit `, `open ` or `release `.
 fn write_kind(kind: u8, at: usize, buf: &mut [u8]) -> usize
@@ -49,13 +49,12 @@ fn write_kind(kind: u8, at: usize, buf: &mut [u8]) -> usize
 }
 
 // An action: its kind and its number.
-fn write_action(kind: u8, n: u16, at: usize, buf: &mut [u8]) -> usize
-    requires { Fits (kind_text kind ++ decimal n) at buf.old }
-    ensures { Wrote (kind_text kind ++ decimal n) at buf.old buf.new result }
+fn write_action(x: Action, at: usize, buf: &mut [u8]) -> usize
+    requires { Fits (action_text x) at buf.old }
+    ensures { Wrote (action_text x) at buf.old buf.new result }
 {
-    let mid = write_kind(kind, at, buf);
-    let i = mid - at;
-    numbers::write_number(n, mid, &mut buf[i..])
+    let mid = write_kind(x.kind, at, buf);
+    numbers::write_number(x.name, mid, &mut buf[mid - at..])
 }
 
 // The full stop before an action, where there is text before it in what was begun at `from`.
@@ -70,44 +69,17 @@ fn write_dot(from: usize, at: usize, buf: &mut [u8]) -> usize
     at + 1
 }
 
-// The actions from the first to before the end of a row of sixteen.
-fn write_row(
-    kinds: &[u8; 1024],
-    numbers: &[u16; 1024],
-    row: usize,
-    first: usize,
-    end: usize,
-    from: usize,
-    buf: &mut [u8],
-) -> usize
-    requires { (row + 16 ≤ 1024) × ((end ≤ 16) × Fits (row_from kinds.now numbers.now row first end) from buf.old) }
-    ensures { Wrote (row_from kinds.now numbers.now row first end) from buf.old buf.new result }
+// The unused actions of an agent.
+pub(super) fn write_agent(a: &Agent, from: usize, buf: &mut [u8]) -> usize
+    requires { Fits (agent_text a.now) from buf.old }
+    ensures { Wrote (agent_text a.now) from buf.old buf.new result }
 {
+    let first = a.next as usize;
+    let end = text::least(a.count as usize, 16);
     let mut at: usize = from;
-    let mut k: usize = first;
-    while k < end {
-        let i = at - from;
-        let mid = write_dot(from, at, &mut buf[i..]);
-        let j = mid - from;
-        at = write_action(kinds[row + k], numbers[row + k], mid, &mut buf[j..]);
-        k += 1;
+    for k in first..end {
+        let mid = write_dot(from, at, &mut buf[at - from..]);
+        at = write_action(a.actions[k], mid, &mut buf[mid - from..]);
     }
     at
-}
-
-// Agent x, from its row.
-pub(super) fn write_agent(
-    kinds: &[u8; 1024],
-    numbers: &[u16; 1024],
-    bounds: &[u16; 64],
-    x: usize,
-    at: usize,
-    buf: &mut [u8],
-) -> usize
-    requires { (x < 64) × Fits (row_text kinds.now numbers.now bounds.now x) at buf.old }
-    ensures { Wrote (row_text kinds.now numbers.now bounds.now x) at buf.old buf.new result }
-{
-    let b = sheet::index(bounds[x]);
-    let end = text::least(b / 256, 16);
-    write_row(kinds, numbers, 16 * x, b % 256, end, at, buf)
 }

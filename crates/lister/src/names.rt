@@ -1,35 +1,17 @@
-// A place's name with its keys, from the word that holds them, where there is room for them.
+// A place's name with its keys, where there is room for them.
 ghost use Rattle.std.specs.Prelude.{◌≡◌};
 ghost use Rattle.meaning.specs.Listing.{is_plain, slashed, name_text};
 ghost use Rattle.text.specs.Wrote.{Wrote, Fits};
-ghost use Rattle.lister.specs.Sheet.{unpacked_of, keys_text, keyed_text, head_text};
+ghost use Rattle.lister.specs.Sheet.{keys_text, keyed_text, head_text};
 
 use crate::numbers;
-use crate::sheet::SPAN;
 use table::Name;
 
-// A number so many times is the word of a name and three keys that are all this number.
-const FOURFOLD: u64 = 281479271743489;
-
-// The name and the keys in a word.
-fn unpacked(word: u64) -> Name
-    ensures { result ≡ unpacked_of word }
+// Whether the keys all equal the name.
+fn is_plain(x: Name) -> bool
+    ensures { result ≡ is_plain x }
 {
-    let above = word / SPAN;
-    let higher = above / SPAN;
-    Name {
-        name: (word % SPAN) as u16,
-        entering: (above % SPAN) as u16,
-        exiting: (higher % SPAN) as u16,
-        opening: (higher / SPAN) as u16,
-    }
-}
-
-// Whether the keys in a word all equal the name.
-fn is_plain(word: u64) -> bool
-    ensures { result ≡ is_plain (unpacked_of word) }
-{
-    word == word % SPAN * FOURFOLD
+    x.entering == x.name && x.exiting == x.name && x.opening == x.name
 }
 
 // A slash and a key.
@@ -63,24 +45,24 @@ fn write_keyed(x: Name, at: usize, buf: &mut [u8]) -> usize
     write_keys(x, mid, &mut buf[i..])
 }
 
-// The name in a word, with its keys where they do not all equal it.
-fn write_name(word: u64, at: usize, buf: &mut [u8]) -> usize
-    requires { Fits (name_text (unpacked_of word)) at buf.old }
-    ensures { Wrote (name_text (unpacked_of word)) at buf.old buf.new result }
+// A name, with its keys where they do not all equal it.
+fn write_name(x: Name, at: usize, buf: &mut [u8]) -> usize
+    requires { Fits (name_text x) at buf.old }
+    ensures { Wrote (name_text x) at buf.old buf.new result }
 {
-    if is_plain(word) {
-        return numbers::write_number((word % SPAN) as u16, at, buf);
+    if is_plain(x) {
+        return numbers::write_number(x.name, at, buf);
     }
-    write_keyed(unpacked(word), at, buf)
+    write_keyed(x, at, buf)
 }
 
-// The name in a word, and the bracket that opens the contents.
+// A name, and the bracket that opens the contents.
 #[inline(never)]
-pub(super) fn write_head(word: u64, at: usize, buf: &mut [u8]) -> usize
-    requires { Fits (head_text (unpacked_of word)) at buf.old }
-    ensures { Wrote (head_text (unpacked_of word)) at buf.old buf.new result }
+pub(super) fn write_head(x: Name, at: usize, buf: &mut [u8]) -> usize
+    requires { Fits (head_text x) at buf.old }
+    ensures { Wrote (head_text x) at buf.old buf.new result }
 {
-    let mid = write_name(word, at, buf);
+    let mid = write_name(x, at, buf);
     let i = mid - at;
     buf[i] = b'[';
     mid + 1

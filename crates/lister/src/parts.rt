@@ -11,37 +11,24 @@ ghost use Rattle.lister.specs.Sheet.{bar};
 ghost use Rattle.lister.specs.Cuts.{alike, cut, Eight, start_of, part_at, put_in, in_row, Inside, Row, Rank, Ordering, Rewritable, Copyable};
 ghost use Rattle.lister.specs.Marked.{AnyMarked, Arranged};
 
-use crate::sheet;
-
 // How many bytes of parts are copied aside to a small array.
 const FEW_BYTES: usize = 1024;
-
-// A byte as a number of 64 bits.
-fn wide(x: u8) -> u64
-    ensures { (result ≡ x) × (result < 256) }
-{
-    x as u64
-}
-
-// Two bytes as one number, the first the lower.
-fn two(low: u8, high: u8) -> u64
-    ensures { (result ≡ low + 256 * high) × ((low < 256) × (high < 256)) }
-{
-    wide(low) + 256 * wide(high)
-}
 
 // The eight bytes from i on as one number.
 fn eight(buf: &[u8], i: usize) -> u64
     requires { i + 8 ≤ length buf.now }
     ensures { Eight buf.now i result }
 {
-    let a = two(buf[i], buf[i + 1]);
-    let b = two(buf[i + 2], buf[i + 3]);
-    let c = two(buf[i + 4], buf[i + 5]);
-    let d = two(buf[i + 6], buf[i + 7]);
-    let low = a + 65536 * b;
-    let high = c + 65536 * d;
-    low + 4294967296 * high
+    u64::from_le_bytes([
+        buf[i],
+        buf[i + 1],
+        buf[i + 2],
+        buf[i + 3],
+        buf[i + 4],
+        buf[i + 5],
+        buf[i + 6],
+        buf[i + 7],
+    ])
 }
 
 // Whether the eight bytes from i on are those from j on: they are compared all at once.
@@ -57,14 +44,12 @@ fn pass(buf: &[u8], s: usize, t: usize, n: usize) -> usize
     requires { (s + n ≤ length buf.now) × (t + n ≤ length buf.now) }
     ensures { (result ≤ n) × (alike buf.now s t result ≡ true) }
 {
-    let mut i: usize = 0;
-    while 8 <= n - i {
-        if !same_eight(buf, s + i, t + i) {
-            return i;
+    for k in 0..n / 8 {
+        if !same_eight(buf, s + 8 * k, t + 8 * k) {
+            return 8 * k;
         }
-        i += 8;
     }
-    i
+    8 * (n / 8)
 }
 
 // Whether the text from s to before e is the one from t to before f or comes before it.
@@ -73,17 +58,13 @@ fn comes_first(buf: &[u8], s: usize, e: usize, t: usize, f: usize) -> bool
     ensures { result ≡ leq (cut buf.now s e) (cut buf.now t f) }
 {
     let n = text::least(e - s, f - t);
-    let mut i: usize = pass(buf, s, t, n);
-    while i < n {
+    let passed = pass(buf, s, t, n);
+    for i in passed..n {
         let x = buf[s + i];
         let y = buf[t + i];
-        if x < y {
-            return true;
+        if x != y {
+            return x < y;
         }
-        if y < x {
-            return false;
-        }
-        i += 1;
     }
     e - s <= f - t
 }
@@ -96,7 +77,7 @@ fn start(ends: &[u16; 64], i: usize) -> usize
     if i == 0 {
         return 0;
     }
-    sheet::index(ends[i - 1]) + 3
+    (ends[i - 1] as usize) + 3
 }
 
 // Whether part j is part i, which is a later one, or comes before it.
@@ -107,9 +88,9 @@ fn is_upto(ends: &[u16; 64], j: usize, i: usize, buf: &[u8]) -> bool
     comes_first(
         buf,
         start(ends, j),
-        sheet::index(ends[j]),
+        ends[j] as usize,
         start(ends, i),
-        sheet::index(ends[i]),
+        ends[i] as usize,
     )
 }
 
@@ -121,17 +102,18 @@ fn rank(row: &[u8; 64], ends: &[u16; 64], i: usize, buf: &[u8]) -> usize
     if i == 0 {
         return 0;
     }
-    if is_upto(ends, sheet::wide(row[i - 1]), i, buf) {
+    if is_upto(ends, row[i - 1] as usize, i, buf) {
         return i;
     }
-    if !is_upto(ends, sheet::wide(row[0]), i, buf) {
+    if !is_upto(ends, row[0] as usize, i, buf) {
         return 0;
     }
+    // The bounds come together by halves: a search that no `for` walks, and whose test reads the buffer.
     let mut low: usize = 0;
     let mut high: usize = i - 1;
     while low < high {
         let m = low + (high - low) / 2;
-        if is_upto(ends, sheet::wide(row[m]), i, buf) {
+        if is_upto(ends, row[m] as usize, i, buf) {
             low = m + 1;
         } else {
             high = m;
@@ -145,15 +127,8 @@ fn put_in(row: &mut [u8; 64], i: usize, at: usize, x: u8)
     requires { (i < 64) × (at ≤ i) }
     ensures { row.new ≡ put_in at i x row.old }
 {
-    let mut next: u8 = x;
-    let mut j: usize = at;
-    while j < i {
-        let y = row[j];
-        row[j] = next;
-        next = y;
-        j += 1;
-    }
-    row[i] = next;
+    row.copy_within(at..i, at + 1);
+    row[at] = x;
 }
 
 // Finds the order of the parts: a row of their numbers. Answers how far parts were moved in all.
@@ -162,12 +137,10 @@ fn order(ends: &[u16; 64], many: usize, buf: &[u8], row: &mut [u8; 64]) -> usize
     ensures { Ordering ends.now buf.now many row.new result }
 {
     let mut moved: usize = 0;
-    let mut i: usize = 0;
-    while i < many {
+    for i in 0..many {
         let at = rank(row, ends, i, buf);
         put_in(row, i, at, i as u8);
         moved += i - at;
-        i += 1;
     }
     moved
 }
@@ -178,40 +151,28 @@ fn rewrite(row: &[u8; 64], ends: &[u16; 64], many: usize, spare: &[u8], buf: &mu
     ensures { buf.new ≡ overlay (joined_all bar [] (in_row (part_at ends.now spare.now) many row.now)) buf.old }
 {
     let mut at: usize = 0;
-    let mut i: usize = 0;
-    while i < many {
-        let k = sheet::wide(row[i]);
+    for i in 0..many {
+        let k = row[i] as usize;
         let s = start(ends, k);
-        let e = sheet::index(ends[k]);
+        let e = ends[k] as usize;
         let mid = crate::write_bar(0, at, &mut buf[at..]);
         at = text::write_bytes(&spare[s..e], mid, &mut buf[mid..]);
-        i += 1;
     }
 }
 
-// Puts parts of few bytes in the order of a row.
-fn arrange_few(row: &[u8; 64], ends: &[u16; 64], many: usize, buf: &mut [u8])
-    requires { Copyable 1024 ends.now many row.now buf.old }
+// Puts parts in the order of a row: so many bytes at most, which are copied aside.
+fn arrange_aside<const BYTES: usize>(row: &[u8; 64], ends: &[u16; 64], many: usize, buf: &mut [u8])
+    requires { (BYTES ≤ longest_listing) × Copyable BYTES ends.now many row.now buf.old }
     ensures { Arranged ends.now many buf.old buf.new }
 {
-    let mut spare: [u8; FEW_BYTES] = [0; FEW_BYTES];
-    let n = sheet::index(ends[many - 1]);
-    text::write_bytes(&buf[..n], 0, &mut spare);
+    let mut spare = [0; BYTES];
+    let n = ends[many - 1] as usize;
+    spare[..n].copy_from_slice(&buf[..n]);
     rewrite(row, ends, many, &spare, buf);
 }
 
-// Puts parts in the order of a row.
-fn arrange_page(row: &[u8; 64], ends: &[u16; 64], many: usize, buf: &mut [u8])
-    requires { Copyable longest_listing ends.now many row.now buf.old }
-    ensures { Arranged ends.now many buf.old buf.new }
-{
-    let mut spare: [u8; crate::PAGE_BYTES] = [0; crate::PAGE_BYTES];
-    let n = sheet::index(ends[many - 1]);
-    text::write_bytes(&buf[..n], 0, &mut spare);
-    rewrite(row, ends, many, &spare, buf);
-}
-
-// Puts so many parts at the start of a buffer in byte order; ends: where each of them ends.
+// Puts so many parts at the start of a buffer in byte order; ends: where each of them ends. The definitions `Marked` and `Inside`
+// hold the array with its count beside.
 pub(super) fn arrange(ends: &[u16; 64], many: usize, buf: &mut [u8])
     requires { AnyMarked ends.now many buf.old }
     ensures { Arranged ends.now many buf.old buf.new }
@@ -224,9 +185,9 @@ pub(super) fn arrange(ends: &[u16; 64], many: usize, buf: &mut [u8])
     if moved == 0 {
         return;
     }
-    if sheet::index(ends[many - 1]) <= FEW_BYTES {
-        arrange_few(&row, ends, many, buf);
+    if (ends[many - 1] as usize) <= FEW_BYTES {
+        arrange_aside::<FEW_BYTES>(&row, ends, many, buf);
     } else {
-        arrange_page(&row, ends, many, buf);
+        arrange_aside::<{ crate::PAGE_BYTES }>(&row, ends, many, buf);
     }
 }

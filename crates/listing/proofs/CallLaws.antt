@@ -10,8 +10,7 @@ use Rattle.table.specs.Cell.{State}
 use Rattle.table.specs.Sound.{sound}
 use Rattle.meaning.specs.Refusals.{unsound_table, too_long}
 use Rattle.meaning.specs.Listing.{listing, list_answer, list_buffer}
-use Rattle.meaning.specs.declared.Listed.{Listed}
-use Rattle.meaning.specs.declared.Listed.TheVariants.{Length, Unlisted}
+use Rattle.meaning.specs.Answers.{Listed, Length, Unlisted}
 use Rattle.text.specs.Wrote.{capped}
 use Rattle.text.proofs.TextLaws.{capped_low, capped_high}
 use Rattle.lister.specs.Sheet.{WroteIf}

@@ -4,8 +4,7 @@ use Rattle.table.specs.Cell.{State}
 use Rattle.meaning.specs.Refusals.{unsound_table, too_long}
 use Rattle.meaning.specs.Text.{overlay}
 use Rattle.meaning.specs.Listing.{listing}
-use Rattle.meaning.specs.declared.Listed.{Listed}
-use Rattle.meaning.specs.declared.Listed.TheVariants.{Length, Unlisted}
+use Rattle.meaning.specs.Answers.{Listed, Length, Unlisted}
 
 -- refused by 10, then by 12, else the length
 unfoldable pub known_answer : Bool → State → List ℕ → Listed

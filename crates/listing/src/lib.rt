@@ -9,6 +9,7 @@ ghost use Rattle.text.specs.Wrote.{Wrote};
 ghost use Rattle.listing.specs.Known.{known_answer, known_buffer};
 
 use meaning::Listed;
+use meaning::refusals::{TOO_LONG, UNSOUND_TABLE};
 use table::Cell;
 
 // The listing of any cell, sound or not, at a position, as far as there is room; answers the position after it.
@@ -23,14 +24,14 @@ pub fn write_listing(c: Cell, at: usize, buf: &mut [u8]) -> usize
 pub fn list_known(known: bool, c: Cell, buf: &mut [u8]) -> Listed
     ensures { (result ≡ known_answer known (cell_of c) buf.old) × (buf.new ≡ known_buffer known (cell_of c) buf.old) }
 {
-    if known {
-        let n = lister::write_if(c, true, 0, buf);
-        if buf.len() < n {
-            return Listed::Unlisted(12);
-        }
-        return Listed::Length(n);
+    if !known {
+        return Err(UNSOUND_TABLE);
     }
-    Listed::Unlisted(10)
+    let n = lister::write_if(c, true, 0, buf);
+    if buf.len() < n {
+        return Err(TOO_LONG);
+    }
+    Ok(n)
 }
 
 // The listing call.

@@ -2,8 +2,7 @@
 use Rattle.std.specs.Prelude.{ℕ, Bool, ◌&&◌, ◌||◌, cond, leb}
 use Rattle.sets.specs.Set.{member}
 use Rattle.table.specs.declared.Cell.{Cell}
-use Rattle.meaning.specs.declared.Found.{Found}
-use Rattle.meaning.specs.declared.Found.TheVariants.{Unfound}
+use Rattle.meaning.specs.Answers.{Found, Unfound}
 use Rattle.meaning.specs.Refusals.{place_too_large, not_yet_given, unsound_table}
 use Rattle.meaning.specs.Where.{nearest, common, found_place}
 use Rattle.locating.specs.Outwards.{up_in, name_in}

@@ -1,5 +1,5 @@
 -- The places of a row, as the walks outwards read them.
-use Rattle.std.specs.Prelude.{ℕ, Bool, List, eqb, get_or}
+use Rattle.std.specs.Prelude.{◌≡◌, ℕ, Bool, List, eqb, get_or}
 use Rattle.table.specs.Cell.{no_place}
 use Rattle.table.specs.declared.Place.{Place}
 use Rattle.meaning.specs.Where.{parent_of, place_name}
@@ -19,3 +19,7 @@ name_in ps q = place_name (places_in ps) q
 -- whether it is this one
 abbrev pub named_in : List Place → ℕ → ℕ → Bool
 named_in ps name q = eqb (name_in ps q) name
+
+-- what a call may answer for each number is the test's answer
+abbrev pub Decides : (ℕ → Bool → Type 0) → (ℕ → Bool) → Type 0
+Decides answers f = (q : ℕ) (b : Bool) → answers q b → b ≡ f q

@@ -5,8 +5,9 @@ ghost use Rattle.meaning.specs.Where as places;
 ghost use Rattle.locating.specs.Outwards.{up_in};
 ghost use Rattle.locating.specs.Known.{known_common};
 
-use super::{MOST_OUTWARDS, NONE, found_place};
+use super::{MOST_OUTWARDS, first_outwards, found_place};
 use meaning::Found;
+use meaning::refusals::{NOT_YET_GIVEN, PLACE_TOO_LARGE, UNSOUND_TABLE};
 use sets::Set;
 use table::{Cell, Place};
 
@@ -16,15 +17,12 @@ fn holders(ps: [Place; 64], r: u8) -> Set
 {
     let mut s = Set::EMPTY;
     let mut at = r;
-    let mut left = MOST_OUTWARDS;
-    while 0 < left {
+    for _turn in 0..MOST_OUTWARDS {
         s = s.insert(at);
         if at == 0 {
             return s;
         }
-        let x = table::place_at(ps, at);
-        at = x.parent;
-        left -= 1;
+        at = table::place_at(ps, at).parent;
     }
     s
 }
@@ -33,20 +31,7 @@ fn holders(ps: [Place; 64], r: u8) -> Set
 fn first_among(ps: [Place; 64], s: Set, q: u8) -> u8
     ensures { result ≡ places.outwards places.most_outwards (up_in ps) (member s) q }
 {
-    let mut at = q;
-    let mut left = MOST_OUTWARDS;
-    while 0 < left {
-        if s.has(at) {
-            return at;
-        }
-        if at == 0 {
-            return NONE;
-        }
-        let x = table::place_at(ps, at);
-        at = x.parent;
-        left -= 1;
-    }
-    NONE
+    first_outwards(ps, q, |p| s.has(p))
 }
 
 // The innermost place that holds or is both q and r, or 64.
@@ -64,10 +49,10 @@ pub fn common_known(known: bool, c: Cell, place: u8, other: u8) -> Found
 {
     if known {
         if 64 <= place {
-            return Found::Unfound(3);
+            return Err(PLACE_TOO_LARGE);
         }
         if 64 <= other {
-            return Found::Unfound(3);
+            return Err(PLACE_TOO_LARGE);
         }
         let used = c.used;
         if used.has(place) {
@@ -77,9 +62,9 @@ pub fn common_known(known: bool, c: Cell, place: u8, other: u8) -> Found
                 return found_place(p);
             }
         }
-        return Found::Unfound(5);
+        return Err(NOT_YET_GIVEN);
     }
-    Found::Unfound(10)
+    Err(UNSOUND_TABLE)
 }
 
 // The innermost place that holds or is both of two.

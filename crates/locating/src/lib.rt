@@ -6,12 +6,14 @@
 mod both;
 mod named;
 
-ghost use Rattle.std.specs.Prelude.{◌≡◌};
-ghost use Rattle.meaning.specs.Where.{found_place};
+ghost use Rattle.std.specs.Prelude.{◌≡◌, ℕ, Bool};
+ghost use Rattle.meaning.specs.Where.{found_place, most_outwards, outwards};
+ghost use Rattle.locating.specs.Outwards.{Decides, up_in};
 
 pub use both::{common, common_known};
 use meaning::Found;
 pub use named::{nearest, nearest_known};
+use table::Place;
 
 // How many places are looked at, going outwards.
 const MOST_OUTWARDS: u8 = 65;
@@ -24,7 +26,25 @@ fn found_place(p: u8) -> Found
     ensures { result ≡ found_place p }
 {
     if p == NONE {
-        return Found::Nowhere;
+        return Ok(None);
     }
-    Found::At(p)
+    Ok(Some(p))
+}
+
+// From q outwards, q itself counted: the first place that passes, or 64.
+fn first_outwards<F: Fn(u8) -> bool>(ps: [Place; 64], q: u8, passes: F) -> u8
+    requires { F.IsAlwaysCallable passes }
+    ensures { (f : ℕ → Bool) → Decides (F.post passes) f → result ≡ outwards most_outwards (up_in ps) f q }
+{
+    let mut at = q;
+    for _turn in 0..MOST_OUTWARDS {
+        if passes(at) {
+            return at;
+        }
+        if at == 0 {
+            return NONE;
+        }
+        at = table::place_at(ps, at).parent;
+    }
+    NONE
 }

@@ -4,28 +4,16 @@ ghost use Rattle.meaning.specs.Where as places;
 ghost use Rattle.locating.specs.Outwards.{up_in, name_in, named_in};
 ghost use Rattle.locating.specs.Known.{known_nearest};
 
-use super::{MOST_OUTWARDS, NONE, found_place};
+use super::{NONE, first_outwards, found_place};
 use meaning::Found;
+use meaning::refusals::{NOT_YET_GIVEN, PLACE_TOO_LARGE, UNSOUND_TABLE};
 use table::{Cell, Place};
 
 // From q outwards, q itself counted: the first place of this name, or 64.
 fn first_named(ps: [Place; 64], q: u8, name: u16) -> u8
     ensures { result ≡ places.outwards places.most_outwards (up_in ps) (named_in ps name) q }
 {
-    let mut at = q;
-    let mut left = MOST_OUTWARDS;
-    while 0 < left {
-        let x = table::place_at(ps, at);
-        if x.name.name == name {
-            return at;
-        }
-        if at == 0 {
-            return NONE;
-        }
-        at = x.parent;
-        left -= 1;
-    }
-    NONE
+    first_outwards(ps, q, |p| table::place_at(ps, p).name.name == name)
 }
 
 // The nearest place of this name that encloses q, or 64: nothing encloses the floor.
@@ -46,7 +34,7 @@ pub fn nearest_known(known: bool, c: Cell, place: u8, name: u16) -> Found
 {
     if known {
         if 64 <= place {
-            return Found::Unfound(3);
+            return Err(PLACE_TOO_LARGE);
         }
         let used = c.used;
         if used.has(place) {
@@ -54,9 +42,9 @@ pub fn nearest_known(known: bool, c: Cell, place: u8, name: u16) -> Found
             let p = nearest_place(ps, place, name);
             return found_place(p);
         }
-        return Found::Unfound(5);
+        return Err(NOT_YET_GIVEN);
     }
-    Found::Unfound(10)
+    Err(UNSOUND_TABLE)
 }
 
 // The nearest enclosing place of a name.

@@ -7,8 +7,7 @@ use Rattle.table.proofs.BaseLaws.{Told, yea, nay, told, and_left, and_right}
 use Rattle.table.specs.Cell.{cell_of}
 use Rattle.table.specs.Sound.{sound}
 use Rattle.table.specs.declared.Cell.{Cell}
-use Rattle.meaning.specs.declared.Asked.{Asked}
-use Rattle.meaning.specs.declared.Asked.TheVariants.{Would, Unasked}
+use Rattle.meaning.specs.Answers.{Asked, Would, Unasked}
 use Rattle.meaning.specs.declared.Stepped.{Stepped}
 use Rattle.meaning.specs.declared.Word.{Word}
 use Rattle.meaning.specs.Refusals.{unsound_table, no_such_agent, answer_differs}

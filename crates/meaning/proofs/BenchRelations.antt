@@ -4,7 +4,7 @@ use Rattle.std.proofs.Common.{ap}
 use Rattle.sets.proofs.ToldLaws.{clash}
 use Rattle.table.specs.Cell.{bare_table, cell_of}
 use Rattle.meaning.specs.declared.Word.TheVariants.{Took, Left}
-use Rattle.meaning.specs.declared.Answer.TheVariants.{Did}
+use Rattle.meaning.specs.Answers.{Did}
 use Rattle.meaning.specs.Run.{Call, step_call, step_reply}
 use Rattle.meaning.specs.Calculus.{move, Move}
 use Rattle.meaning.specs.Plain.{tree_of, History, start, moved, stayed}

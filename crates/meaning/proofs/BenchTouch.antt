@@ -3,7 +3,7 @@ use Rattle.std.specs.Prelude.{List, [], ◌∷◌, ℕ, ◌+◌}
 use Rattle.table.specs.Base.{tab}
 use Rattle.table.specs.Cell.{bare_table, cell_of, table_of}
 use Rattle.table.specs.declared.Cell.{Cell}
-use Rattle.meaning.specs.declared.Touching.TheVariants.{Count, Untouched}
+use Rattle.meaning.specs.Answers.{Count, Untouched}
 use Rattle.meaning.specs.Run.{Call, step_call, touch_call, Reply, step_reply, touch_reply, call_of, run}
 use Rattle.meaning.specs.Touch.{touch_of, touches_of}
 use Rattle.meaning.specs.Codes.{step_number, touch_number}

@@ -7,7 +7,7 @@ use Rattle.table.proofs.BaseLaws.{Told, yea, nay, told}
 use Rattle.table.specs.Cell.{cell_of}
 use Rattle.table.specs.Sound.{sound}
 use Rattle.table.specs.declared.Cell.{Cell}
-use Rattle.meaning.specs.declared.Found.TheVariants.{Unfound}
+use Rattle.meaning.specs.Answers.{Unfound}
 use Rattle.meaning.specs.Refusals.{place_too_large, not_yet_given, unsound_table}
 use Rattle.meaning.specs.Where.{parent_of, place_name, nearest, common, found_place, nearest_of, common_of}
 

@@ -1,11 +1,10 @@
 -- Ask, then commit (document 02, W9): what a step would give, and the step made only if it is still that.
-use Rattle.std.specs.Prelude.{ℕ, Bool, true, ◌&&◌, cond, eqb, ltb}
+use Rattle.std.specs.Prelude.{ℕ, Bool, true, ◌&&◌, cond, eqb, ltb, Ok, Err}
 use Rattle.table.specs.Cell.{Land, State, cell_of, kind_of, chooses, holding, holding_both}
 use Rattle.table.specs.Sound.{sound}
 use Rattle.table.specs.declared.Agent.{Agent}
 use Rattle.table.specs.declared.Cell.{Cell}
-use Rattle.meaning.specs.declared.Asked.{Asked}
-use Rattle.meaning.specs.declared.Asked.TheVariants.{Would, Unasked}
+use Rattle.meaning.specs.Answers.{Asked, Would, Unasked}
 use Rattle.meaning.specs.declared.Stepped.{Stepped}
 use Rattle.meaning.specs.Codes.{word_number, ask_number}
 use Rattle.meaning.specs.Refusals.{unsound_table, no_such_agent, answer_differs}
@@ -50,8 +49,8 @@ ask_of t x wish =
 
 -- word (by its number), number woken and place are what is told; where an ask is refused the step refuses by itself
 abbrev pub agrees : Asked → ℕ → ℕ → ℕ → Bool
-agrees (Would w n q) word woken place = eqb (word_number w) word && (eqb n woken && eqb q place)
-agrees (Unasked number) word woken place = true
+agrees (Ok o) word woken place = eqb (word_number o.word) word && (eqb o.woken woken && eqb o.place place)
+agrees (Err number) word woken place = true
 
 -- "Commit takes agent, wish and these three and performs the step only if they are still what the step would give"; "18 if the answer would
 -- differ, after 10 and 11"
@@ -62,8 +61,8 @@ commit_of t x wish word woken place = cond (agrees (ask_of t x wish) word woken 
 
 -- the number is that of what is told; where an ask is refused the step refuses by itself
 abbrev pub hands_back : Asked → ℕ → Bool
-hands_back (Would word woken place) n = eqb (ask_number (Would word woken place)) n
-hands_back (Unasked number) n = true
+hands_back (Ok o) n = eqb (ask_number (Ok o)) n
+hands_back (Err number) n = true
 
 -- the same commit with the three in one number, as a host hands it back unread
 unfoldable pub handed_of : Cell → ℕ → ℕ → ℕ → Stepped

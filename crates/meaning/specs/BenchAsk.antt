@@ -5,7 +5,7 @@ use Rattle.sets.specs.Word.{bit}
 use Rattle.table.specs.Cell.{State, cell_of, table_of}
 use Rattle.table.specs.declared.Cell.{Cell}
 use Rattle.meaning.specs.declared.Word.TheVariants.{Left, Opened, Done}
-use Rattle.meaning.specs.declared.Asked.TheVariants.{Would, Unasked}
+use Rattle.meaning.specs.Answers.{Would, Unasked}
 use Rattle.meaning.specs.Run.{Call, step_call, commit_call, run, answers}
 use Rattle.meaning.specs.Ask.{ask_of, commit_of, handed_of}
 use Rattle.meaning.specs.Codes.{ask_number, step_number, word_in, woken_in, place_in}

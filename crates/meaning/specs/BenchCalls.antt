@@ -2,11 +2,7 @@
 use Rattle.std.specs.Prelude.{List, [], ◌∷◌}
 use Rattle.table.specs.Cell.{bare_table, cell_of, table_of}
 use Rattle.meaning.specs.declared.Word.TheVariants.{Looked, Took, Held, Back, Slept, Left, Came, Opened, Put, Asleep, Done}
-use Rattle.meaning.specs.declared.Answer.TheVariants.{Did, Refused}
-use Rattle.meaning.specs.declared.Verdict.TheVariants.{Accepted, Rejected}
-use Rattle.meaning.specs.declared.Listed.TheVariants.{Length, Unlisted}
-use Rattle.meaning.specs.declared.Checked.TheVariants.{Sound, Unsound}
-use Rattle.meaning.specs.declared.Idled.TheVariants.{Idle, Busy, Unknown}
+use Rattle.meaning.specs.Answers.{Did, Refused, Accepted, Rejected, Length, Unlisted, Sound, Unsound, Idle, Busy, Unknown}
 use Rattle.meaning.specs.File.{load_of}
 use Rattle.meaning.specs.Run.{step_of, settled, rests}
 use Rattle.meaning.specs.Listing.{listing, list_answer, list_buffer}

@@ -3,7 +3,7 @@ use Rattle.std.specs.Prelude.{List, [], ◌∷◌, ◌++◌, ℕ}
 use Rattle.table.specs.Base.{tab}
 use Rattle.table.specs.Cell.{bare_table, table_of}
 use Rattle.table.specs.declared.Cell.{Cell}
-use Rattle.meaning.specs.declared.Limit.TheVariants.{AtMost, Uncounted}
+use Rattle.meaning.specs.Answers.{AtMost, Uncounted}
 use Rattle.meaning.specs.Run.{step_call, run}
 use Rattle.meaning.specs.Codes.{limit_number}
 use Rattle.meaning.specs.Limit.{ceiling_of}

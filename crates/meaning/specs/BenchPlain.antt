@@ -6,8 +6,7 @@ use Rattle.table.specs.Base.{tab}
 use Rattle.table.specs.Cell.{bare_table, cell_of, table_of, plain_name}
 use Rattle.meaning.specs.declared.Word.{Word}
 use Rattle.meaning.specs.declared.Word.TheVariants.{Looked, Took, Held, Back, Slept, Left, Came, Opened, Put, Asleep, Done}
-use Rattle.meaning.specs.declared.Answer.TheVariants.{Did, Refused}
-use Rattle.meaning.specs.declared.Touching.TheVariants.{Count}
+use Rattle.meaning.specs.Answers.{Did, Refused, Count}
 use Rattle.meaning.specs.Run.{Call, step_call, touch_call, commit_call, agent_of, wish_of, step_reply, touch_reply, answers}
 use Rattle.meaning.specs.Calculus.{Tree, with_tree_used, with_tree_names, with_tree_parents, with_tree_homes, with_tree_unused, next_of, stands_at, permits, move}
 use Rattle.meaning.specs.Plain.{Plain, tree_of, plain_of, land_in, plain_word, plain_step, plain_run, says_move}

@@ -4,7 +4,7 @@ use Rattle.std.specs.Prelude.{List, [], ◌∷◌, ℕ, suc}
 use Rattle.table.specs.Base.{tab}
 use Rattle.table.specs.Cell.{cell_of, table_of}
 use Rattle.table.specs.declared.Cell.{Cell}
-use Rattle.meaning.specs.declared.Found.TheVariants.{At, Nowhere, Unfound}
+use Rattle.meaning.specs.Answers.{At, Nowhere, Unfound}
 use Rattle.meaning.specs.Run.{step_call, run}
 use Rattle.meaning.specs.Where.{nearest_of, common_of}
 use Rattle.meaning.specs.Codes.{found_number}

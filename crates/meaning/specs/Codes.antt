@@ -1,29 +1,12 @@
 -- The remaining calls on a table, and every answer as numbers: refusals by the numbers of document 01, words by those of the register window.
-use Rattle.std.specs.Prelude.{ℕ, ◌+◌, ◌*◌, ◌/◌, ◌%◌, ◌^◌, cond}
+use Rattle.std.specs.Prelude.{ℕ, ◌+◌, ◌*◌, ◌/◌, ◌%◌, ◌^◌, cond, Ok, Err, Some, None, true, false}
 use Rattle.table.specs.Cell.{cell_of}
 use Rattle.table.specs.Sound.{sound}
 use Rattle.table.specs.Idle.{idle}
 use Rattle.table.specs.declared.Cell.{Cell}
 use Rattle.meaning.specs.declared.Word.{Word}
 use Rattle.meaning.specs.declared.Word.TheVariants.{Looked, Took, Held, Back, Slept, Left, Came, Opened, Put, Asleep, Done}
-use Rattle.meaning.specs.declared.Answer.{Answer}
-use Rattle.meaning.specs.declared.Answer.TheVariants.{Did, Refused}
-use Rattle.meaning.specs.declared.Asked.{Asked}
-use Rattle.meaning.specs.declared.Asked.TheVariants.{Would, Unasked}
-use Rattle.meaning.specs.declared.Verdict.{Verdict}
-use Rattle.meaning.specs.declared.Verdict.TheVariants.{Accepted, Rejected}
-use Rattle.meaning.specs.declared.Touching.{Touching}
-use Rattle.meaning.specs.declared.Touching.TheVariants.{Count, Untouched}
-use Rattle.meaning.specs.declared.Found.{Found}
-use Rattle.meaning.specs.declared.Found.TheVariants.{At, Nowhere, Unfound}
-use Rattle.meaning.specs.declared.Listed.{Listed}
-use Rattle.meaning.specs.declared.Listed.TheVariants.{Length, Unlisted}
-use Rattle.meaning.specs.declared.Limit.{Limit}
-use Rattle.meaning.specs.declared.Limit.TheVariants.{AtMost, Uncounted}
-use Rattle.meaning.specs.declared.Checked.{Checked}
-use Rattle.meaning.specs.declared.Checked.TheVariants.{Sound, Unsound}
-use Rattle.meaning.specs.declared.Idled.{Idled}
-use Rattle.meaning.specs.declared.Idled.TheVariants.{Idle, Busy, Unknown}
+use Rattle.meaning.specs.Answers.{Answer, Asked, Verdict, Touching, Found, Listed, Limit, Checked, Sound, Unsound, Idled, Idle, Busy, Unknown}
 use Rattle.meaning.specs.Refusals.{unsound_table}
 
 -- ---- calls that only ask
@@ -62,8 +45,8 @@ none_told = 255
 
 -- a step's answer: the word in bits 8 to 15 and the number woken in bits 16 to 23, or the refusal's number
 abbrev pub step_number : Answer → ℕ
-step_number (Did word woken) = above (woken * 256 + word_number word) 0
-step_number (Refused number) = number
+step_number (Ok o) = above (o.woken * 256 + word_number o.word) 0
+step_number (Err number) = number
 
 -- word, number woken and place in one number: the word in bits 8 to 15, the number woken in bits 16 to 23, the place in bits 24 to 31
 abbrev pub told_number : ℕ → ℕ → ℕ → ℕ
@@ -81,42 +64,42 @@ place_in n = n / 16777216 % 256
 
 -- an ask's answer: word and number woken as in a step's answer, and the place, or the refusal's number
 abbrev pub ask_number : Asked → ℕ
-ask_number (Would word woken place) = told_number (word_number word) woken place
-ask_number (Unasked number) = number
+ask_number (Ok o) = told_number (word_number o.word) o.woken o.place
+ask_number (Err number) = number
 
 -- a load's answer: 0, or the refusal's number with its offset above
 abbrev pub load_number : Verdict → ℕ
-load_number Accepted = 0
-load_number (Rejected number offset) = above offset number
+load_number (Ok u) = 0
+load_number (Err r) = above r.offset r.number
 
 -- a touch call's answer: the place's count above 0, or the refusal's number
 abbrev pub touch_number : Touching → ℕ
-touch_number (Count n) = above n 0
-touch_number (Untouched number) = number
+touch_number (Ok n) = above n 0
+touch_number (Err number) = number
 
 -- where a place is: the place above 0, 255 for none, or the refusal's number
 abbrev pub found_number : Found → ℕ
-found_number (At p) = above p 0
-found_number Nowhere = above none_told 0
-found_number (Unfound number) = number
+found_number (Ok (Some p)) = above p 0
+found_number (Ok None) = above none_told 0
+found_number (Err number) = number
 
 -- a listing's answer: the length above 0, or the refusal's number
 abbrev pub list_number : Listed → ℕ
-list_number (Length n) = above n 0
-list_number (Unlisted number) = number
+list_number (Ok n) = above n 0
+list_number (Err number) = number
 
 -- a check's answer: 0, or the refusal's number
 abbrev pub check_number : Checked → ℕ
-check_number Sound = 0
-check_number (Unsound number) = number
+check_number (Ok u) = 0
+check_number (Err number) = number
 
 -- whether all are asleep or done: 1 above 0 if they are
 abbrev pub idle_number : Idled → ℕ
-idle_number Idle = above 1 0
-idle_number Busy = 0
-idle_number (Unknown number) = number
+idle_number (Ok true) = above 1 0
+idle_number (Ok false) = 0
+idle_number (Err number) = number
 
 -- a ceiling's answer: how many step calls at most above 0, or the refusal's number
 abbrev pub limit_number : Limit → ℕ
-limit_number (AtMost n) = above n 0
-limit_number (Uncounted number) = number
+limit_number (Ok n) = above n 0
+limit_number (Err number) = number

@@ -8,7 +8,7 @@ use Rattle.table.specs.declared.Agent.{Agent}
 use Rattle.table.specs.declared.Cell.{Cell}
 use Rattle.meaning.specs.declared.Record.{Record}
 use Rattle.meaning.specs.declared.Record.TheVariants.{PlaceRecord, AgentRecord, ActionRecord, EndRecord, TouchRecord, Faulty}
-use Rattle.meaning.specs.declared.Verdict.TheVariants.{Accepted, Rejected}
+use Rattle.meaning.specs.Answers.{Accepted, Rejected}
 use Rattle.meaning.specs.declared.Loaded.{Loaded}
 use Rattle.meaning.specs.Refusals.{cut_short, unknown_kind, place_too_large, parent_too_large, agent_too_large, given_twice, not_yet_given}
 use Rattle.meaning.specs.Refusals.{name_zero, wrong_kind, seventeenth, after_end}

@@ -1,4 +1,5 @@
 pub mod Refusals
+pub mod Answers
 pub mod Update
 pub mod File
 pub mod Step

@@ -6,8 +6,7 @@ use Rattle.table.specs.Cell.{State, cell_of, unused, on_way, on_way_both}
 use Rattle.table.specs.Sound.{sound}
 use Rattle.table.specs.declared.Agent.{Agent}
 use Rattle.table.specs.declared.Cell.{Cell}
-use Rattle.meaning.specs.declared.Limit.{Limit}
-use Rattle.meaning.specs.declared.Limit.TheVariants.{AtMost, Uncounted}
+use Rattle.meaning.specs.Answers.{Limit, AtMost, Uncounted}
 use Rattle.meaning.specs.Refusals.{unsound_table}
 
 -- G, "a loaded cell with G agents": how many agents are given

@@ -6,8 +6,7 @@ use Rattle.table.specs.Sound.{sound}
 use Rattle.table.specs.declared.Name.{Name}
 use Rattle.table.specs.declared.Action.{Action}
 use Rattle.table.specs.declared.Agent.{Agent}
-use Rattle.meaning.specs.declared.Listed.{Listed}
-use Rattle.meaning.specs.declared.Listed.TheVariants.{Length, Unlisted}
+use Rattle.meaning.specs.Answers.{Listed, Length, Unlisted}
 use Rattle.meaning.specs.Refusals.{unsound_table, too_long}
 use Rattle.meaning.specs.Text.{ascii, decimal, gap, joined, joined_all, overlay}
 use Rattle.meaning.specs.Sorted.{sorted}

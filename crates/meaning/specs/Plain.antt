@@ -1,13 +1,12 @@
 -- The plain tree (document 01, "The plain tree"): "It is kept beside the cell from each step call's agent, wish and answered word, and
 -- from nothing else."
-use Rattle.std.specs.Prelude.{ℕ, ◌≡◌, Bool, true, false, ◌||◌, cond, List, [], ◌∷◌, eqb}
+use Rattle.std.specs.Prelude.{ℕ, ◌≡◌, Bool, true, false, ◌||◌, cond, List, [], ◌∷◌, eqb, Ok, Err}
 use Rattle.order.specs.Row.{later, latest}
 use Rattle.table.specs.Base.{upd}
 use Rattle.table.specs.Cell.{Land, State, none, no_name, unused, looks_home, chooses, fresh_number}
 use Rattle.table.specs.declared.Action.{Action}
 use Rattle.meaning.specs.declared.Word.{Word}
 use Rattle.meaning.specs.declared.Word.TheVariants.{Looked, Took, Held, Back, Slept, Left, Came, Opened, Put, Asleep, Done}
-use Rattle.meaning.specs.declared.Answer.TheVariants.{Did, Refused}
 use Rattle.meaning.specs.Step.{choose}
 use Rattle.meaning.specs.Calculus.{Tree, next_of, stands_at, move, Move}
 use Rattle.meaning.specs.Run.{Call, agent_of, wish_of, Reply, step_reply, touch_reply}
@@ -106,8 +105,8 @@ plain_word t a wish Done = t
 -- "Any other word, or a refusal: nothing."; "touch calls .., which the plain tree passes over" (document 02, W3)
 unfoldable pub plain_step : Plain → Call → Reply → Plain
 unfolding plain_word
-plain_step t k (step_reply (Did word woken)) = plain_word t (agent_of k) (wish_of k) word
-plain_step t k (step_reply (Refused number)) = t
+plain_step t k (step_reply (Ok o)) = plain_word t (agent_of k) (wish_of k) o.word
+plain_step t k (step_reply (Err number)) = t
 plain_step t k (touch_reply answer) = t
 
 -- the plain tree after a list of calls and their answers
@@ -134,8 +133,8 @@ is_move Asleep = false
 is_move Done = false
 
 abbrev pub says_move : Reply → Bool
-says_move (step_reply (Did word woken)) = is_move word
-says_move (step_reply (Refused number)) = false
+says_move (step_reply (Ok o)) = is_move o.word
+says_move (step_reply (Err number)) = false
 says_move (touch_reply answer) = false
 
 -- "the loaded tree after one calculus move for each call answered left or opened, in the order of the calls, each a move that the calculus

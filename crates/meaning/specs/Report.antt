@@ -1,12 +1,11 @@
 -- What program `walk` writes (document 01, "The listing"), from the bytes of the files `cell` and `order`.
-use Rattle.std.specs.Prelude.{ℕ, zero, suc, List, [], ◌∷◌, ◌++◌}
+use Rattle.std.specs.Prelude.{ℕ, zero, suc, List, [], ◌∷◌, ◌++◌, Ok, Err}
 use Rattle.table.specs.Base.{tab}
 use Rattle.table.specs.Cell.{State, cell_of, table_of}
 use Rattle.table.specs.declared.Cell.{Cell}
 use Rattle.meaning.specs.declared.Word.{Word}
 use Rattle.meaning.specs.declared.Word.TheVariants.{Looked, Took, Held, Back, Slept, Left, Came, Opened, Put, Asleep, Done}
-use Rattle.meaning.specs.declared.Answer.{Answer}
-use Rattle.meaning.specs.declared.Answer.TheVariants.{Did, Refused}
+use Rattle.meaning.specs.Answers.{Answer}
 use Rattle.meaning.specs.Text.{ascii, decimal}
 use Rattle.meaning.specs.File.{Load, accepted, refused, load}
 use Rattle.meaning.specs.Run.{step_of}
@@ -32,8 +31,8 @@ word_text Done = ascii "done"
 -- "agent, answer, number woken"; "a refused step gives agent, `refused`, number"
 unfoldable pub step_line : ℕ → Answer → List ℕ
 unfolding word_text tab
-step_line agent (Did word woken) = ((((decimal agent ++ ascii " ") ++ word_text word) ++ ascii " ") ++ decimal woken) ++ ascii "\n"
-step_line agent (Refused number) = ((decimal agent ++ ascii " refused ") ++ decimal number) ++ ascii "\n"
+step_line agent (Ok o) = ((((decimal agent ++ ascii " ") ++ word_text o.word) ++ ascii " ") ++ decimal o.woken) ++ ascii "\n"
+step_line agent (Err number) = ((decimal agent ++ ascii " refused ") ++ decimal number) ++ ascii "\n"
 
 -- "A refused file gives one line only, `refused`, number, offset"
 unfoldable pub refused_line : ℕ → ℕ → List ℕ

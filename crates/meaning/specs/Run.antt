@@ -1,14 +1,12 @@
 -- Any call that may change a cell, a step, a commit or a touch, and a run of calls of any kind one after the other.
-use Rattle.std.specs.Prelude.{ℕ, Bool, true, false, not, ◌&&◌, cond, List, [], ◌∷◌, eqb}
+use Rattle.std.specs.Prelude.{ℕ, Bool, true, false, not, ◌&&◌, cond, List, [], ◌∷◌, eqb, Ok, Err}
 use Rattle.table.specs.Cell.{State, none, travels}
 use Rattle.table.specs.Base.{all_below}
 use Rattle.table.specs.declared.Cell.{Cell}
 use Rattle.meaning.specs.declared.Word.{Word}
 use Rattle.meaning.specs.declared.Word.TheVariants.{Looked, Took, Held, Back, Slept, Left, Came, Opened, Put, Asleep, Done}
-use Rattle.meaning.specs.declared.Answer.{Answer}
-use Rattle.meaning.specs.declared.Answer.TheVariants.{Did, Refused}
+use Rattle.meaning.specs.Answers.{Answer, Touching}
 use Rattle.meaning.specs.declared.Stepped.{Stepped}
-use Rattle.meaning.specs.declared.Touching.{Touching}
 use Rattle.meaning.specs.declared.Touched.{Touched}
 use Rattle.meaning.specs.Ask.{commit_of}
 use Rattle.meaning.specs.Touch.{touch_of}
@@ -95,8 +93,8 @@ is_rest Done = true
 
 -- the answer says that the agent is asleep or done
 abbrev pub says_rest : Answer → Bool
-says_rest (Did word woken) = is_rest word
-says_rest (Refused number) = false
+says_rest (Ok o) = is_rest o.word
+says_rest (Err number) = false
 
 -- "An agent is asleep, or done, when a step call for it would answer that word"
 unfoldable pub rests : Cell → ℕ → Bool

@@ -3,7 +3,7 @@ use Rattle.std.specs.Prelude.{ℕ, cond}
 use Rattle.table.specs.Cell.{cell_of, table_of}
 use Rattle.table.specs.Sound.{sound}
 use Rattle.table.specs.declared.Cell.{Cell}
-use Rattle.meaning.specs.declared.Answer.TheVariants.{Did, Refused}
+use Rattle.meaning.specs.Answers.{Did, Refused}
 use Rattle.meaning.specs.declared.Stepped.{Stepped}
 use Rattle.meaning.specs.Refusals.{unsound_table, no_such_agent}
 use Rattle.meaning.specs.Step.{Outcome, step}

@@ -4,8 +4,7 @@ use Rattle.table.specs.Base.{upd}
 use Rattle.table.specs.Cell.{State, cell_of, table_of}
 use Rattle.table.specs.Sound.{sound, touch_sum, most_touches}
 use Rattle.table.specs.declared.Cell.{Cell}
-use Rattle.meaning.specs.declared.Touching.{Touching}
-use Rattle.meaning.specs.declared.Touching.TheVariants.{Count, Untouched}
+use Rattle.meaning.specs.Answers.{Touching, Count, Untouched}
 use Rattle.meaning.specs.declared.Touched.{Touched}
 use Rattle.meaning.specs.Refusals.{place_too_large, not_yet_given, unsound_table, too_many_touches}
 use Rattle.meaning.specs.Update.{with_touches}

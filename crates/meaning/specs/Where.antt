@@ -5,8 +5,7 @@ use Rattle.table.specs.Cell.{none, cell_of}
 use Rattle.table.specs.Sound.{sound}
 use Rattle.table.specs.declared.Cell.{Cell}
 use Rattle.table.specs.declared.Place.{Place}
-use Rattle.meaning.specs.declared.Found.{Found}
-use Rattle.meaning.specs.declared.Found.TheVariants.{At, Nowhere, Unfound}
+use Rattle.meaning.specs.Answers.{Found, At, Nowhere, Unfound}
 use Rattle.meaning.specs.Refusals.{place_too_large, not_yet_given, unsound_table}
 
 -- ---- outwards

@@ -2,6 +2,8 @@
 
 #![tactic(auto)]
 
+pub mod refusals;
+
 use table::{Cell, Name};
 
 // "One byte of kind, then a body": a record taken apart, or the number of its refusal.
@@ -19,22 +21,8 @@ pub enum Record {
     Faulty(u8),
 }
 
-// What a load answers: accepted, or a refusal's number and offset.
-#[derive(Clone, Copy)]
-pub enum Verdict {
-    Accepted,
-    Rejected(u8, usize),
-}
-
-// A load's answer, and the cell after it.
-#[derive(Clone, Copy)]
-pub struct Loaded {
-    pub cell: Cell,
-    pub verdict: Verdict,
-}
-
 // The word that a lock step answers.
-#[derive(Clone, Copy)]
+#[derive(Clone, Copy, Debug, PartialEq, Eq)]
 pub enum Word {
     Looked,
     Took,
@@ -49,18 +37,62 @@ pub enum Word {
     Done,
 }
 
-// What a step call answers: a word and how many agents the step woke, or a refusal's number.
-#[derive(Clone, Copy)]
-pub enum Answer {
-    Did(Word, u8),
-    Refused(u8),
+// A step that was made: its word, and how many agents it woke.
+#[derive(Clone, Copy, Debug, PartialEq, Eq)]
+pub struct Outcome {
+    pub word: Word,
+    pub woken: u8,
 }
 
-// What an ask tells of the step: the word, how many agents it would wake and the chosen place, or a refusal's number.
+// What an ask tells of a step: its word, how many agents it would wake, and the chosen place.
+#[derive(Clone, Copy, Debug, PartialEq, Eq)]
+pub struct Prospect {
+    pub word: Word,
+    pub woken: u8,
+    pub place: u8,
+}
+
+// Why a load is refused: the number, and the offset.
+#[derive(Clone, Copy, Debug, PartialEq, Eq)]
+pub struct Rejection {
+    pub number: u8,
+    pub offset: usize,
+}
+
+// Each call is "refused with a number" (document 01), and the demands speak of all numbers: so the error is a number.
+
+// What a load answers.
+pub type Verdict = Result<(), Rejection>;
+
+// What a step call answers.
+pub type Answer = Result<Outcome, u8>;
+
+// What an ask answers.
+pub type Asked = Result<Prospect, u8>;
+
+// What a touch call answers, and what one for a place's touches does: the place's count.
+pub type Touching = Result<u64, u8>;
+
+// Where a place is: in or at this place, or in none of that name.
+pub type Found = Result<Option<u8>, u8>;
+
+// What a listing call answers: the length.
+pub type Listed = Result<usize, u8>;
+
+// What a check answers: the table is sound.
+pub type Checked = Result<(), u8>;
+
+// What a call for idleness answers: whether all agents are asleep or done.
+pub type Idled = Result<bool, u8>;
+
+// What a call for the ceiling answers: how many step calls can still change the cell, at most.
+pub type Limit = Result<u64, u8>;
+
+// A load's answer, and the cell after it.
 #[derive(Clone, Copy)]
-pub enum Asked {
-    Would(Word, u8, u8),
-    Unasked(u8),
+pub struct Loaded {
+    pub cell: Cell,
+    pub verdict: Verdict,
 }
 
 // A step call's answer, and the cell after it.
@@ -70,53 +102,9 @@ pub struct Stepped {
     pub answer: Answer,
 }
 
-// What a touch call answers, and what one for a place's touches does: the place's count, or a refusal's number.
-#[derive(Clone, Copy)]
-pub enum Touching {
-    Count(u64),
-    Untouched(u8),
-}
-
 // A touch call's answer, and the cell after it.
 #[derive(Clone, Copy)]
 pub struct Touched {
     pub cell: Cell,
     pub answer: Touching,
-}
-
-// Where a place is: in or at this place, in none of that name, or a refusal's number.
-#[derive(Clone, Copy)]
-pub enum Found {
-    At(u8),
-    Nowhere,
-    Unfound(u8),
-}
-
-// What a listing call answers: the length, or a refusal's number.
-#[derive(Clone, Copy)]
-pub enum Listed {
-    Length(usize),
-    Unlisted(u8),
-}
-
-// What a check answers: the table is sound, or a refusal's number.
-#[derive(Clone, Copy)]
-pub enum Checked {
-    Sound,
-    Unsound(u8),
-}
-
-// What a call for idleness answers: all agents are asleep or done, some are not, or a refusal's number.
-#[derive(Clone, Copy)]
-pub enum Idled {
-    Idle,
-    Busy,
-    Unknown(u8),
-}
-
-// What a call for the ceiling answers: how many step calls can still change the cell at most, or a refusal's number.
-#[derive(Clone, Copy)]
-pub enum Limit {
-    AtMost(u64),
-    Uncounted(u8),
 }

@@ -1,5 +1,4 @@
 pub mod Motions
 pub mod StoreLaws
-pub mod WakeLaws
 pub mod OpenLaws
 pub mod PutLaws

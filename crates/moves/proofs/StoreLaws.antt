@@ -1,13 +1,14 @@
--- Elements stored into a table: one, and one for each member of a set in a loop over the members. Assumes nothing.
+-- Elements stored into a table: one, and one for each member of a set in a `for` over the members. Assumes nothing.
 -- Idea: a number that is no member keeps its element, so the walk over the members is a sweep over all that skips some turns.
-use Rattle.std.specs.Prelude.{◌≡◌, ℕ, ◌+◌, ◌^◌, ◌<◌, ◌≤◌, false, cond, List, set, slice_index_or, slice_set, refl}
-use Rattle.std.proofs.Common.{sym, ap, ◌∙◌, arith}
-use Rattle.sets.specs.Set.{member, removed}
-use Rattle.sets.proofs.WalkLaws.{rest_start, rest_end, rest_lt, rest_member, rest_from, rest_skip, rest_more}
-use Rattle.sets.specs.Walk.{Rest, lowest_in}
+use Rattle.std.specs.Prelude.{◌≡◌, Bool, ℕ, ◌+◌, ◌^◌, ◌<◌, ◌≤◌, false, cond, List, set, slice_index_or, slice_set, refl, Some}
+use Rattle.std.proofs.Common.{sym, ap, subst, ◌∙◌, arith}
+use Rattle.sets.specs.Set.{member, inserted_if, removed}
+use Rattle.sets.proofs.WalkLaws.{rest_start, rest_end, rest_lt, rest_member, rest_from, rest_skip, rest_more, Turn, turn_of}
+use Rattle.sets.specs.Walk.{Rest, lowest_in, TakesLowest}
 use Rattle.sets.specs.declared.Set.{Set}
 use Rattle.table.specs.Base.{tab, upd}
 use Rattle.table.proofs.BaseLaws.{upd_other, tab_ext, set_tab}
+use Rattle.updates.proofs.GatherLaws.{Gathered, gathered_more}
 use Rattle.table.proofs.SweepLaws.{below, sweep_start, sweep_at, sweep_hit, sweep_skip, sweep_end}
 
 -- ---- one element
@@ -64,3 +65,26 @@ module _ {A : Type 0} (d : A) (s : Set) (f g : ℕ → A) where
         where
           here : g (lowest_in rest) ≡ stored (lowest_in rest)
           here = rw (rest_member a.left k)
+
+    -- what a `for` over the members takes
+    module _ {i : ℕ} {t : Set} (step : TakesLowest rest (Some i) t) where
+      turn : Turn rest i t
+      turn = turn_of a.left.small step
+
+      -- its element is still f's
+      pub turn_at : slice_index_or l i d ≡ f i
+      turn_at = subst (λ (j : ℕ). slice_index_or l j d ≡ f j) (sym turn.lowest) (storing_at turn.some)
+
+      pub turn_stores : (v : A) → v ≡ g i → Storing (slice_set l i v) t
+      turn_stores v e = subst (Storing (slice_set l i v)) (sym turn.left)
+          (subst (λ (j : ℕ). Storing (slice_set l j v) (removed rest (lowest_in rest))) (sym turn.lowest) (storing_more turn.some v (e ∙ ap g turn.lowest)))
+
+-- ---- a set gathered in a `for` over the members of another
+
+module _ {g h : ℕ → Bool} {found rest : Set} (a : Gathered g h found rest) {i : ℕ} {t : Set} (step : TakesLowest rest (Some i) t) where
+  taken : Turn rest i t
+  taken = turn_of a.left.small step
+
+  pub turn_gathers : (b : Bool) → b ≡ h i → Gathered g h (inserted_if found i b) t
+  turn_gathers b e = subst (Gathered g h (inserted_if found i b)) (sym taken.left)
+      (subst (λ (j : ℕ). Gathered g h (inserted_if found j b) (removed rest (lowest_in rest))) (sym taken.lowest) (gathered_more a taken.some b (e ∙ ap h taken.lowest)))

@@ -1,24 +1,11 @@
 -- What a motion makes of a cell: the step in which a place moves.
 use Rattle.std.specs.Prelude.{ℕ, ◌&&◌}
 use Rattle.sets.specs.Word.{count_of}
-use Rattle.table.specs.Base.{upd}
 use Rattle.table.specs.Cell.{State}
-use Rattle.table.specs.declared.Place.{Place}
 use Rattle.table.specs.declared.Agent.{Agent}
-use Rattle.meaning.specs.declared.Word.{Word}
-use Rattle.meaning.specs.Update.{with_places, with_land, with_locks, with_agents, released}
-use Rattle.meaning.specs.Step.{Outcome, leave, arrive, dissolve, put, wake, woken_on, woken_by, beyond}
+use Rattle.meaning.specs.Step.{Outcome, leave, arrive, dissolve, put, woken_on, woken_by, beyond}
 use Rattle.moves.specs.declared.Motion.{Motion}
 use Rattle.moves.specs.declared.Motion.TheVariants.{Leave, Arrive, Dissolve, Put}
-
--- place h becomes y, the locks of p and q are released, all asleep on p, q or r are woken, agent x becomes b
-unfoldable pub move_place : State → ℕ → ℕ → Place → ℕ → ℕ → ℕ → Agent → Word → Outcome
-move_place c x h y p q r b w = record {
-  cell = with_land (with_locks (with_agents c (upd (wake c p q r) x b)) (released c.lock p q))
-      (with_places c.land (upd c.land.place h y));
-  word = w;
-  woken = woken_on c p q r;
-}
 
 -- what a motion of agent x, which is a, makes of a cell
 abbrev pub shifted : State → ℕ → Agent → Motion → Outcome

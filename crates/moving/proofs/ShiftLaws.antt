@@ -11,13 +11,14 @@ use Rattle.sets.proofs.WordLaws.{count_ext, word_has, word_lt}
 use Rattle.sets.specs.Set.{member, inserted}
 use Rattle.sets.proofs.SetLaws.{member_set}
 use Rattle.table.specs.Base.{tab, upd}
-use Rattle.table.proofs.BaseLaws.{Told, yea, nay, told, clash, tab_ext}
+use Rattle.table.proofs.BaseLaws.{Told, yea, nay, told, tab_ext}
 use Rattle.table.specs.Bounds.{Sized}
-use Rattle.table.specs.Cell.{no_place, no_agent, linked, cell_of, table_of, name_of, plain_name, put_agents}
+use Rattle.table.specs.Cell.{no_place, no_agent, linked, cell_of, table_of, name_of, plain_name, put_agents, put_used}
 use Rattle.table.proofs.CellLaws.{table_eq, places_are, used_are, given_are, touches_are, in_use}
 use Rattle.table.specs.declared.Place.{Place}
 use Rattle.table.specs.declared.Agent.{Agent}
 use Rattle.table.specs.declared.Cell.{Cell}
+use Rattle.meaning.specs.Answers.{Did}
 use Rattle.meaning.specs.declared.Stepped.{Stepped}
 use Rattle.meaning.specs.Update.{with_parent, with_way, linked_place, at_stage}
 use Rattle.meaning.specs.Step.{rest_stage, asleep_on, woken_by, woken_on, wake, leave, arrive, put, dissolve, dissolve_lock, beyond}
@@ -29,12 +30,13 @@ use Rattle.moves.specs.Motions.{shifted, woken_in}
 use Rattle.moves.proofs.StoreLaws.{stored_in, stored_past}
 use Rattle.moves.proofs.PutLaws.{inserted_test}
 use Rattle.moves.proofs.OpenLaws.{release_tab, held_freed}
-use Rattle.moving.specs.Turn.{agents_after, sleepers_of, holders_of}
-use Rattle.moving.specs.Plan.{number_of, goal_of, plan_of}
-use Rattle.moving.specs.Rows.{held_locks}
+use Rattle.moving.specs.declared.waking.Waking.TheVariants.{On, Opening}
 use Rattle.moving.specs.declared.plan.Plan.{Plan}
-use Rattle.moving.specs.declared.turns.Waking.{Waking}
-use Rattle.moving.specs.Shift.{plan_in, walked_by, walk_of, with_mover, moved_on, opened_of, answer_of}
+use Rattle.moving.specs.declared.walks.Walked.{Walked}
+use Rattle.moving.specs.declared.waking.Waking.{Waking}
+use Rattle.moving.specs.Turn.{agents_after, sleepers_of, holders_of, walked_of}
+use Rattle.moving.specs.Plan.{number_of, plan_of}
+use Rattle.moving.specs.Shift.{site_at, waking_in, plan_in, walked_by, with_mover, held_locks, settled_of}
 
 -- ---- one element, at a number that is read masked by 64
 
@@ -58,7 +60,7 @@ kept_one d f l e k = set-get_or l k d ∙ e
 module _ (t : Cell) (z : Sized t) where
   -- ---- those asleep are woken
   module _ (p q r : ℕ) where
-    woken_count : count_of 64 (member (sleepers_of t false p q r)) ≡ woken_on (cell_of t) p q r
+    woken_count : count_of 64 (member (sleepers_of t (On p q r))) ≡ woken_on (cell_of t) p q r
     unfolding cell_of
     woken_count = count_ext 64 _ _ (λ j l. member_set (λ y. member t.given y && asleep_on p q r (get_or t.agents y no_agent)) j l)
 
@@ -66,12 +68,12 @@ module _ (t : Cell) (z : Sized t) where
     both true s a b = refl
     both false s a b = refl
 
-    woken_agents : agents_after t false p q r ≡ tab (wake (cell_of t) p q r) 64 0
+    woken_agents : agents_after t (On p q r) ≡ tab (wake (cell_of t) p q r) 64 0
     unfolding cell_of wake
     woken_agents = tab_ext no_agent 64 _ _ (λ j l. both (member t.given j) (asleep_on p q r (get_or t.agents j no_agent)) _ _)
 
-    pub moved_agents : (x : ℕ) (b : Agent) → set (agents_after t false p q r) (x % 64) (cond (ltb x 64) b (get_or (agents_after t false p q r) (x % 64) no_agent)) ≡ tab (upd (wake (cell_of t) p q r) x b) 64 0
-    moved_agents x b = put_one no_agent (wake (cell_of t) p q r) (agents_after t false p q r) woken_agents x b b (λ h. refl)
+    pub moved_agents : (x : ℕ) (b : Agent) → set (agents_after t (On p q r)) (x % 64) (cond (ltb x 64) b (get_or (agents_after t (On p q r)) (x % 64) no_agent)) ≡ tab (upd (wake (cell_of t) p q r) x b) 64 0
+    moved_agents x b = put_one no_agent (wake (cell_of t) p q r) (agents_after t (On p q r)) woken_agents x b b (λ h. refl)
 
   -- ---- the place that moves
   moved_place : (f : Place → Place) (n : ℕ) → set t.places (n % 64) (cond (ltb n 64) (f (get_or t.places (n % 64) no_place)) (get_or t.places (n % 64) no_place))
@@ -93,10 +95,10 @@ module _ (t : Cell) (z : Sized t) where
       go (nay y) = rw y
 
   -- ---- those whom a motion wakes
-  pub woken_is : (a : Agent) (m : Motion) → count_of 64 (member (walk_of t (plan_in t a m)).sleepers) ≡ woken_in (cell_of t) a m
+  pub woken_is : (a : Agent) (m : Motion) → count_of 64 (member (sleepers_of t (waking_in t a m))) ≡ woken_in (cell_of t) a m
   unfolding cell_of
   woken_is a (Leave d) = woken_count a.remembered a.home a.home
-  woken_is a (Arrive d) = woken_count a.home d (plan_in t a (Arrive d)).r ∙ ap (λ (r : ℕ). woken_on (cell_of t) a.home d r) (beyond_is d)
+  woken_is a (Arrive d) = woken_count a.home d (cond (member t.used d && eqb (get_or t.places (d % 64) no_place).way 0) (get_or t.places (d % 64) no_place).parent d) ∙ ap (λ (r : ℕ). woken_on (cell_of t) a.home d r) (beyond_is d)
   woken_is a Dissolve = count_ext 64 _ _ (λ j l. member_set (λ y. member t.given y && woken_by a.remembered a.chosen (get_or t.agents y no_agent)) j l)
   woken_is a (Put n) = woken_count a.remembered a.remembered a.remembered
 
@@ -104,8 +106,8 @@ module _ (t : Cell) (z : Sized t) where
   module _ (x : ℕ) (a : Agent) where
     abbrev on : Motion → Stepped
     on m = record {
-      cell = moved_on (with_mover (walked_by t (plan_in t a m)) x (plan_in t a m)) (number_of a m % 64) (plan_in t a m);
-      answer = answer_of (plan_in t a m) (walk_of t (plan_in t a m));
+      cell = put_used (settled_of (waking_in t a m) (with_mover (walked_by t (waking_in t a m)) x (plan_in t a m).agent) (number_of a m % 64) (plan_in t a m).site (holders_of t (waking_in t a m))) (plan_in t a m).site.used;
+      answer = Did (plan_in t a m).word (count_of 64 (member (sleepers_of t (waking_in t a m))));
     }
 
     left : (d : ℕ) → on (Leave d) ≡ made (leave (cell_of t) x a d)
@@ -118,7 +120,7 @@ module _ (t : Cell) (z : Sized t) where
     unfolding cell_of table_of arrive
     came d = did _ _ _ (arrive (cell_of t) x a d)
         (table_eq (moved_place (λ y. with_way y 0) a.home) refl
-        (moved_agents a.home d (plan_in t a (Arrive d)).r x rested ∙ ap (λ (r : ℕ). tab (upd (wake (cell_of t) a.home d r) x rested) 64 0) (beyond_is d))
+        (moved_agents a.home d (cond (member t.used d && eqb (get_or t.places (d % 64) no_place).way 0) (get_or t.places (d % 64) no_place).parent d) x rested ∙ ap (λ (r : ℕ). tab (upd (wake (cell_of t) a.home d r) x rested) 64 0) (beyond_is d))
         (used_are t z) (given_are t z) (kept_touches (a.home % 64)) refl)
         refl (woken_is a (Arrive d))
       where
@@ -133,60 +135,39 @@ module _ (t : Cell) (z : Sized t) where
         (put_one 0 (cell_of t).touches t.touches (touches_are t z) n 0 0 (λ h. refl)) refl)
         refl (woken_is a (Put n))
 
-    -- a motion that opens nothing
-    pub moves_on : (m : Motion) → (plan_in t a m).opens ≡ false → on m ≡ made (shifted (cell_of t) x a m)
-    moves_on (Leave d) e = left d
-    moves_on (Arrive d) e = came d
-    moves_on Dissolve e = clash refl e
-    moves_on (Put n) e = set_down n
-
-    -- ---- a place is opened
-    abbrev in_two : Motion → Stepped
-    in_two m = record {
-      cell = opened_of (with_mover (walked_by t (plan_in t a m)) x (plan_in t a m)) (plan_in t a m) (walk_of t (plan_in t a m));
-      answer = answer_of (plan_in t a m) (walk_of t (plan_in t a m));
-    }
-
-    opened : in_two Dissolve ≡ made (dissolve (cell_of t) x a a.remembered a.chosen)
+    opened : on Dissolve ≡ made (dissolve (cell_of t) x a a.remembered a.chosen)
     unfolding cell_of table_of dissolve
     opened = did _ _ _ (dissolve (cell_of t) x a a.remembered a.chosen)
         (table_eq refl
-        (release_tab t a.remembered a.chosen (dissolve_lock (cell_of t) a.chosen) (held_locks t.locks t.used (holders_of t true a.remembered a.chosen 64))
+        (release_tab t a.remembered a.chosen (dissolve_lock (cell_of t) a.chosen) (held_locks t.locks t.used (holders_of t (Opening a.remembered a.chosen)))
         (tab_ext 0 64 _ _ (λ q _. held_freed t a.remembered a.chosen z _ refl q)))
-        (put_one no_agent _ (agents_after t true a.remembered a.chosen 64) refl x _ _ (λ h. refl)) refl (given_are t z) refl refl)
+        (put_one no_agent _ (agents_after t (Opening a.remembered a.chosen)) refl x _ _ (λ h. refl)) refl (given_are t z) refl refl)
         refl (woken_is a Dissolve)
 
-    pub opens_up : (m : Motion) → (plan_in t a m).opens ≡ true → in_two m ≡ made (shifted (cell_of t) x a m)
-    opens_up (Leave d) e = clash e refl
-    opens_up (Arrive d) e = clash e refl
-    opens_up Dissolve e = opened
-    opens_up (Put n) e = clash e refl
+    shifts : (m : Motion) → on m ≡ made (shifted (cell_of t) x a m)
+    shifts (Leave d) = left d
+    shifts (Arrive d) = came d
+    shifts Dissolve = opened
+    shifts (Put n) = set_down n
 
     -- ---- as the program goes about it: numbers are masked, and what is read and made has names
-    module _ (m : Motion) (n k g j i : ℕ) (l : Plan) (c : Cell) (w : Waking) (b : Agent)
-        (e_n : n ≡ number_of a m) (e_k : k ≡ n % 64) (e_g : g ≡ goal_of m) (e_j : j ≡ g % 64)
-        (e_l : l ≡ plan_of a m (get_or t.places k no_place) (get_or t.places j no_place) (get_or t.touches k 0) t.locks t.used t.order)
-        (e_c : c ≡ walked_by t l) (e_w : w ≡ walk_of t l) (e_i : i ≡ x % 64) (e_b : b ≡ cond (ltb x 64) l.agent (get_or c.agents i no_agent)) where
-      number_is : k ≡ number_of a m % 64
-      number_is = e_k ∙ ap (λ (y : ℕ). y % 64) e_n
-
+    module _ (m : Motion) (k i : ℕ) (v : Waking) (l : Plan) (c d : Cell) (w : Walked) (b : Agent)
+        (e_k : k ≡ number_of a m % 64) (e_v : v ≡ waking_in t a m) (e_l : l ≡ plan_of a m (site_at t k))
+        (e_c : c ≡ walked_by t v) (e_w : w ≡ walked_of t v) (e_i : i ≡ x % 64) (e_b : b ≡ cond (ltb x 64) l.agent (get_or c.agents i no_agent))
+        (e_d : d ≡ settled_of v (put_agents c (set c.agents i b)) k l.site w.holders) where
       plan_is : l ≡ plan_in t a m
-      plan_is = e_l ∙ ap₂ (λ (u v : ℕ). plan_of a m (get_or t.places u no_place) (get_or t.places v no_place) (get_or t.touches u 0) t.locks t.used t.order)
-          number_is (e_j ∙ ap (λ (y : ℕ). y % 64) e_g)
+      plan_is = e_l ∙ ap (λ (n : ℕ). plan_of a m (site_at t n)) e_k
 
       -- the cell with the moving agent
-      mover_is : put_agents c (set c.agents i b) ≡ with_mover (walked_by t l) x l
+      mover_is : put_agents c (set c.agents i b) ≡ with_mover (walked_by t v) x l.agent
       mover_is = ap (λ (y : Agent). put_agents c (set c.agents i y)) e_b
-          ∙ ap₂ (λ (u : Cell) (v : ℕ). put_agents u (set u.agents v (cond (ltb x 64) l.agent (get_or u.agents v no_agent)))) e_c e_i
+          ∙ ap₂ (λ (u : Cell) (n : ℕ). put_agents u (set u.agents n (cond (ltb x 64) l.agent (get_or u.agents n no_agent)))) e_c e_i
 
-      pub ends_on : l.opens ≡ false
-          → record { cell = moved_on (put_agents c (set c.agents i b)) k l; answer = answer_of l w } ≡ made (shifted (cell_of t) x a m)
-      ends_on o = (λ z. record { cell = moved_on (mover_is z) (number_is z) l; answer = answer_of l (e_w z) })
-          ∙ ap (λ (y : Plan). record { cell = moved_on (with_mover (walked_by t y) x y) (number_of a m % 64) y; answer = answer_of y (walk_of t y) }) plan_is
-          ∙ moves_on m (sym (ap (λ (y : Plan). y.opens) plan_is) ∙ o)
-
-      pub ends_open : l.opens ≡ true
-          → record { cell = opened_of (put_agents c (set c.agents i b)) l w; answer = answer_of l w } ≡ made (shifted (cell_of t) x a m)
-      ends_open o = (λ z. record { cell = opened_of (mover_is z) l (e_w z); answer = answer_of l (e_w z) })
-          ∙ ap (λ (y : Plan). record { cell = opened_of (with_mover (walked_by t y) x y) y (walk_of t y); answer = answer_of y (walk_of t y) }) plan_is
-          ∙ opens_up m (sym (ap (λ (y : Plan). y.opens) plan_is) ∙ o)
+      pub ends : record { cell = put_used d l.site.used; answer = Did l.word (count_of 64 (member w.sleepers)) } ≡ made (shifted (cell_of t) x a m)
+      ends = ap (λ (u : Cell). record { cell = put_used u l.site.used; answer = Did l.word (count_of 64 (member w.sleepers)) }) e_d
+          ∙ (λ z. record { cell = put_used (settled_of v (mover_is z) (e_k z) l.site (e_w z).holders) l.site.used; answer = Did l.word (count_of 64 (member (e_w z).sleepers)) })
+          ∙ ap₂ (λ (y : Waking) (p : Plan). record {
+            cell = put_used (settled_of y (with_mover (walked_by t y) x p.agent) (number_of a m % 64) p.site (holders_of t y)) p.site.used;
+            answer = Did p.word (count_of 64 (member (sleepers_of t y)));
+          }) e_v plan_is
+          ∙ shifts m

@@ -1,101 +1,64 @@
 -- The walk over the agents that are given, turn by turn, comes to what becomes of all of them. Assumes nothing.
 -- Idea: each turn stores one agent, or leaves it as it is where it stays the same, and gathers it where it is woken and where it lets a lock go.
-use Rattle.std.specs.Prelude.{◌≡◌, refl, ◌≢◌, ◌⊎◌, Bool, true, false, List, ℕ, ◌^◌, ◌≤◌, ◌<◌, length, get_or, set}
-use Rattle.std.proofs.Common.{sym, ap, subst, ◌∙◌, inl, inr, pos_of_ne-zero, arith}
+use Rattle.std.specs.Prelude.{◌≡◌, refl, Bool, List, ℕ, ◌^◌, ◌<◌, length, get_or, set, Some}
+use Rattle.std.proofs.Common.{sym, ap, subst, ◌∙◌}
 use Rattle.std.proofs.lemmas.List.{set-get_or}
-use Rattle.sets.specs.Word.{has}
-use Rattle.sets.proofs.WordLaws.{has_none}
-use Rattle.sets.specs.Set.{member}
-use Rattle.sets.proofs.WalkLaws.{rest_lt, lowest_found, removed_less}
-use Rattle.sets.specs.Walk.{lowest_in}
+use Rattle.sets.specs.Set.{member, inserted_if, empty_set}
+use Rattle.sets.specs.Walk.{TakesLowest}
 use Rattle.sets.specs.declared.Set.{Set}
-use Rattle.table.proofs.BaseLaws.{clash, eq?, tab_get_d}
+use Rattle.table.proofs.BaseLaws.{tab_get_d}
 use Rattle.table.specs.Cell.{no_agent, put_agents}
 use Rattle.table.specs.declared.Agent.{Agent}
 use Rattle.table.specs.declared.Cell.{Cell}
-use Rattle.updates.proofs.GatherLaws.{Gathered, gathered_start, gathered_more, gathered_end}
-use Rattle.moves.proofs.StoreLaws.{Storing, storing_start, storing_at, storing_more, storing_end}
-use Rattle.moving.specs.declared.turns.Waking.{Waking}
-use Rattle.moving.specs.Turn.{wakes, frees, becomes, changes, standing_at, start_of, turn_of, was, gone, agents_after, end_of}
-
--- an agent that is not stored stays as it is
-pub kept : (opens woken : Bool) (p q : ℕ) (a : Agent) → changes opens woken ≡ false → becomes opens p q woken a ≡ a
-kept true woken p q a e = clash refl e
-kept false true p q a e = clash refl e
-kept false false p q a e = refl
+use Rattle.updates.proofs.GatherLaws.{Gathered, gathered_start, gathered_end}
+use Rattle.moves.proofs.StoreLaws.{Storing, storing_start, storing_end, turn_at, turn_stores, turn_gathers}
+use Rattle.moving.specs.declared.waking.Waking.{Waking}
+use Rattle.moving.specs.Turn.{wakes_of, frees_of, after_of, was, gone, agents_after, walked_of}
 
 -- t: the table before
-module _ (t : Cell) (opens : Bool) (p q r : ℕ) where
+module _ (t : Cell) (w : Waking) where
   -- what holds before each turn
-  pub record Walking (d : Cell) (w : Waking) : Type 0 where
-    pub so : w ≡ standing_at opens p q r w.rest w.sleepers w.holders
-    pub row : Storing no_agent t.given (was t opens p q r) (gone t opens p q r) d.agents w.rest
-    pub slept : Gathered (member t.given) (λ y. wakes opens p q r (was t opens p q r y)) w.sleepers w.rest
-    pub held : Gathered (member t.given) (λ y. frees opens q (was t opens p q r y)) w.holders w.rest
+  pub record Walking (d : Cell) (sleepers holders rest : Set) : Type 0 where
+    pub row : Storing no_agent t.given (was t w) (gone t w) d.agents rest
+    pub slept : Gathered (member t.given) (λ y. wakes_of w (was t w y)) sleepers rest
+    pub held : Gathered (member t.given) (λ y. frees_of w (was t w y)) holders rest
     pub others : d ≡ put_agents t d.agents
 
-  pub walking_start : length t.agents ≡ 64 → t.given.bits < 2 ^ 64 → Walking t (start_of t.given opens p q r)
+  pub walking_start : length t.agents ≡ 64 → t.given.bits < 2 ^ 64 → Walking t empty_set empty_set t.given
   walking_start n g = record {
-    so = refl;
-    row = storing_start no_agent t.given (was t opens p q r) (gone t opens p q r) g t.agents (sym (tab_get_d no_agent t.agents 64 n));
+    row = storing_start no_agent t.given (was t w) (gone t w) g t.agents (sym (tab_get_d no_agent t.agents 64 n));
     slept = gathered_start t.given _ g;
     held = gathered_start t.given _ g;
     others = refl;
   }
 
-  -- the walk, said by its parts
-  module _ {d : Cell} (rest sleepers holders : Set) (a : Walking d (standing_at opens p q r rest sleepers holders)) (k : 0 < rest.bits) where
-    abbrev w : Waking
-    w = standing_at opens p q r rest sleepers holders
-
+  -- a turn: agent i is the next, and is as it was
+  module _ {d : Cell} {sleepers holders rest : Set} (a : Walking d sleepers holders rest) {i : ℕ} {u : Set} (step : TakesLowest rest (Some i) u) where
     abbrev one : Agent
-    one = get_or d.agents (lowest_in rest) no_agent
+    one = get_or d.agents i no_agent
 
-    at : one ≡ was t opens p q r (lowest_in rest)
-    at = storing_at no_agent t.given (was t opens p q r) (gone t opens p q r) a.row k
+    at : one ≡ was t w i
+    at = turn_at no_agent t.given (was t w) (gone t w) a.row step
 
-    stores : Walking (put_agents d (set d.agents (lowest_in rest) (turn_of w one).agent)) (turn_of w one).next
-    stores = record {
-      so = refl;
-      row = storing_more no_agent t.given (was t opens p q r) (gone t opens p q r) a.row k _ (ap (λ (b : Agent). becomes opens p q (wakes opens p q r b) b) at);
-      slept = gathered_more a.slept k _ (ap (wakes opens p q r) at);
-      held = gathered_more a.held k _ (ap (frees opens q) at);
-      others = ap (λ (u : Cell). put_agents u (set d.agents (lowest_in rest) (turn_of w one).agent)) a.others;
-    }
+    module _ (woken freed : Bool) (e : woken ≡ wakes_of w one) (f : freed ≡ frees_of w one) where
+      -- it is stored
+      pub walking_stores : (b : Agent) → b ≡ after_of w woken one → Walking (put_agents d (set d.agents i b)) (inserted_if sleepers i woken) (inserted_if holders i freed) u
+      walking_stores b g = record {
+        row = turn_stores no_agent t.given (was t w) (gone t w) a.row step b (g ∙ ap (λ (v : Bool). after_of w v one) e ∙ ap (λ (x : Agent). after_of w (wakes_of w x) x) at);
+        slept = turn_gathers a.slept step woken (e ∙ ap (wakes_of w) at);
+        held = turn_gathers a.held step freed (f ∙ ap (frees_of w) at);
+        others = ap (λ (x : Cell). put_agents x (set d.agents i b)) a.others;
+      }
 
-  module _ {d : Cell} {w : Waking} (a : Walking d w) where
-    is_lowest : w.at ≡ lowest_in w.rest
-    is_lowest = ap (λ (v : Waking). v.at) a.so
+      -- it stays as it is
+      pub walking_keeps : after_of w woken one ≡ one → Walking d (inserted_if sleepers i woken) (inserted_if holders i freed) u
+      walking_keeps g = subst (λ (l : List Agent). Walking (put_agents d l) (inserted_if sleepers i woken) (inserted_if holders i freed) u)
+          (set-get_or d.agents i no_agent) (walking_stores one (sym g))
 
-    module _ (l : w.at < 64) where
-      pub some_left : 0 < w.rest.bits
-      some_left = pos_of_ne-zero (λ e. clash (lowest_found 64 (member w.rest) (subst (λ (n : ℕ). n < 64) is_lowest l)) (ap (λ (n : ℕ). has n (lowest_in w.rest)) e ∙ has_none (lowest_in w.rest)))
+  -- once none is left
+  module _ {d : Cell} {sleepers holders rest : Set} (a : Walking d sleepers holders rest) (none_left : rest.bits ≡ 0) where
+    pub walking_cell : d ≡ put_agents t (agents_after t w)
+    walking_cell = a.others ∙ ap (put_agents t) (storing_end no_agent t.given (was t w) (gone t w) a.row none_left)
 
-      -- a turn that stores
-      pub walking_stores : Walking (put_agents d (set d.agents w.at (turn_of w (get_or d.agents w.at no_agent)).agent)) (turn_of w (get_or d.agents w.at no_agent)).next
-      walking_stores = subst (λ (v : Waking). Walking (put_agents d (set d.agents v.at (turn_of v (get_or d.agents v.at no_agent)).agent)) (turn_of v (get_or d.agents v.at no_agent)).next) (sym a.so)
-          (stores w.rest w.sleepers w.holders (subst (Walking d) a.so a) some_left)
-
-      -- a turn that does not
-      pub walking_keeps : (turn_of w (get_or d.agents w.at no_agent)).changes ≡ false → Walking d (turn_of w (get_or d.agents w.at no_agent)).next
-      walking_keeps e = subst (λ (l : List Agent). Walking (put_agents d l) (turn_of w (get_or d.agents w.at no_agent)).next)
-          (ap (set d.agents w.at) (kept w.opens _ w.p w.q (get_or d.agents w.at no_agent) e) ∙ set-get_or d.agents w.at no_agent) walking_stores
-
-      -- fewer are left
-      pub walking_less : (b : Agent) → (turn_of w b).next.rest.bits < w.rest.bits
-      walking_less b = removed_less w.rest a.row.left.small some_left
-
-    -- once none is left
-    module _ (l : 64 ≤ w.at) where
-      none_left : w.rest.bits ≡ 0
-      none_left = go (eq? w.rest.bits 0)
-        where
-          go : (w.rest.bits ≡ 0) ⊎ (w.rest.bits ≢ 0) → w.rest.bits ≡ 0
-          go (inl e) = e
-          go (inr n) = absurd (let h = rest_lt a.row.left (pos_of_ne-zero n) in let s = is_lowest in omega (arith, h, s, l))
-
-      pub walking_cell : d ≡ put_agents t (agents_after t opens p q r)
-      walking_cell = a.others ∙ ap (put_agents t) (storing_end no_agent t.given (was t opens p q r) (gone t opens p q r) a.row none_left)
-
-      pub walking_end : w ≡ end_of t opens p q r
-      walking_end = a.so ∙ (λ i. standing_at opens p q r (record { bits = none_left i }) (gathered_end a.slept none_left i) (gathered_end a.held none_left i))
+    pub walking_end : record { sleepers = sleepers; holders = holders } ≡ walked_of t w
+    walking_end = λ i. record { sleepers = gathered_end a.slept none_left i; holders = gathered_end a.held none_left i }

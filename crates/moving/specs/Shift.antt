@@ -1,49 +1,54 @@
 -- A motion by its parts: the agents that it finds, the moving agent, and then the places.
-use Rattle.std.specs.Prelude.{ℕ, ◌%◌, cond, ltb, get_or, set}
-use Rattle.sets.specs.Word.{count_of}
+use Rattle.std.specs.Prelude.{ℕ, ◌%◌, cond, List, ltb, get_or, set}
 use Rattle.sets.specs.Set.{member}
-use Rattle.table.specs.Cell.{no_place, no_agent, put_places, put_locks, put_agents, put_used, put_touches, put_order}
+use Rattle.sets.specs.declared.Set.{Set}
+use Rattle.order.specs.Row.{later}
+use Rattle.table.specs.Base.{tab}
+use Rattle.table.specs.Cell.{none, no_place, no_agent, land_of, put_places, put_locks, put_agents, put_touches, put_order}
 use Rattle.table.specs.declared.Agent.{Agent}
 use Rattle.table.specs.declared.Cell.{Cell}
-use Rattle.meaning.specs.declared.Answer.{Answer}
-use Rattle.meaning.specs.declared.Answer.TheVariants.{Did}
+use Rattle.meaning.specs.Step.{child_of, dissolve_place, pooled}
 use Rattle.moves.specs.declared.Motion.{Motion}
-use Rattle.moving.specs.Turn.{agents_after, end_of}
-use Rattle.moving.specs.Plan.{number_of, goal_of, plan_of}
-use Rattle.moving.specs.Rows.{rows_of}
+use Rattle.moving.specs.Turn.{agents_after}
+use Rattle.moving.specs.Plan.{number_of, goal_of, waking_of, free_locks, plan_of}
+use Rattle.moving.specs.declared.plan.Site.{Site}
 use Rattle.moving.specs.declared.plan.Plan.{Plan}
-use Rattle.moving.specs.declared.rows.Rows.{Rows}
-use Rattle.moving.specs.declared.turns.Waking.{Waking}
+use Rattle.moving.specs.declared.waking.Waking.{Waking}
+use Rattle.moving.specs.declared.waking.Waking.TheVariants.{On, Opening}
 
--- what is planned for a cell: numbers are read masked by 64
+-- what is asked of a cell where the place at k moves
+abbrev pub site_at : Cell → ℕ → Site
+site_at c k = record { place = get_or c.places k no_place; touches = get_or c.touches k 0; locks = c.locks; used = c.used; order = c.order }
+
+-- who is woken in a cell, and what is planned for it: numbers are read masked by 64
+abbrev pub waking_in : Cell → Agent → Motion → Waking
+waking_in c a motion = waking_of a motion (get_or c.places (goal_of motion % 64) no_place) c.used
+
 abbrev pub plan_in : Cell → Agent → Motion → Plan
-plan_in c a motion =
-    plan_of a motion (get_or c.places (number_of a motion % 64) no_place) (get_or c.places (goal_of motion % 64) no_place)
-    (get_or c.touches (number_of a motion % 64) 0) c.locks c.used c.order
+plan_in c a motion = plan_of a motion (site_at c (number_of a motion % 64))
 
--- the cell once its agents were walked over, and the walk at its end
-abbrev pub walked_by : Cell → Plan → Cell
-walked_by c m = put_agents c (agents_after c m.opens m.p m.q m.r)
+-- the cell once its agents were walked over
+abbrev pub walked_by : Cell → Waking → Cell
+walked_by c w = put_agents c (agents_after c w)
 
-abbrev pub walk_of : Cell → Plan → Waking
-walk_of c m = end_of c m.opens m.p m.q m.r
+-- agent x becomes b; past 63 there is none
+abbrev pub with_mover : Cell → ℕ → Agent → Cell
+with_mover d x b = put_agents d (set d.agents (x % 64) (cond (ltb x 64) b (get_or d.agents (x % 64) no_agent)))
 
--- agent x becomes the planned one; past 63 there is none
-abbrev pub with_mover : Cell → ℕ → Plan → Cell
-with_mover d x m = put_agents d (set d.agents (x % 64) (cond (ltb x 64) m.agent (get_or d.agents (x % 64) no_agent)))
+-- the locks once these holders let theirs go
+abbrev pub held_locks : List ℕ → Set → Set → List ℕ
+held_locks locks used holders = tab (λ q. cond (member used q) (cond (member holders (get_or locks q 0)) none (get_or locks q 0)) (get_or locks q 0)) 64 0
 
--- the place at k moves
-abbrev pub moved_on : Cell → ℕ → Plan → Cell
-moved_on d k m = put_order (put_touches (put_used (put_locks (put_places d (set d.places k m.place)) m.locks) m.used) (set d.touches k m.count)) m.order
+-- q is opened into p, and these holders let their locks go
+abbrev pub opened_of : Cell → ℕ → ℕ → Set → Cell
+opened_of d p q holders =
+    put_order (put_touches (put_locks
+    (put_places d (tab (λ j. cond (member d.used j) (dissolve_place p q j (get_or d.places j no_place)) (get_or d.places j no_place)) 64 0))
+    (free_locks (held_locks d.locks d.used holders) p q))
+    (tab (pooled (λ j. get_or d.touches j 0) p q) 64 0))
+    (later (child_of (land_of d.places d.used d.order) q) d.order)
 
--- a place is opened
-abbrev pub rows_in : Cell → Plan → Waking → Rows
-rows_in d m w = rows_of d.places d.locks d.touches d.order d.used m.p m.q w.holders
-
-abbrev pub opened_of : Cell → Plan → Waking → Cell
-opened_of d m w =
-    put_used (put_order (put_touches (put_locks (put_places d (rows_in d m w).places) (rows_in d m w).locks) (rows_in d m w).touches) (rows_in d m w).order) m.used
-
--- what is answered
-abbrev pub answer_of : Plan → Waking → Answer
-answer_of m w = Did m.word (count_of 64 (member w.sleepers))
+-- the place at k moves, or one is opened
+abbrev pub settled_of : Waking → Cell → ℕ → Site → Set → Cell
+settled_of (On p q r) d k s holders = put_order (put_touches (put_locks (put_places d (set d.places k s.place)) s.locks) (set d.touches k s.touches)) s.order
+settled_of (Opening p q) d k s holders = opened_of d p q holders

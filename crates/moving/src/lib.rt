@@ -4,9 +4,8 @@
 
 mod counts;
 mod plan;
-mod rows;
 mod shifts;
-mod turns;
+mod waking;
 mod walks;
 
 pub use counts::woken_lent;

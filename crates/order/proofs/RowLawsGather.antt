@@ -1,7 +1,7 @@
 -- The loops that test a row: the bits that its numbers have between them, and then its numbers as bits of one word. Assumes nothing.
 -- Idea: the bits are below 64 where every number is, and then the word has just the numbers of the row so far.
 use Rattle.std.specs.Prelude.{◌≡◌, refl, Bool, true, false, ◌&&◌, ◌||◌, List, [], ◌∷◌, ◌++◌, ℕ, zero, suc, ◌+◌, ◌*◌, ◌%◌, ◌^◌, ◌≤◌, ◌<◌, eqb, ltb, length, get_or, take}
-use Rattle.std.proofs.Common.{sym, ap, ap₂, ◌∙◌, mod-lt, le_of_suc-le-suc, not-suc-le-zero, arith, lit<, take_all, take-suc, eqb-true, eq-eqb, ltb-true, lt-ltb}
+use Rattle.std.proofs.Common.{sym, ap, ap₂, ◌∙◌, mod-lt, le_of_suc-le-suc, not-suc-le-zero, arith, lit<, take_all, take-suc, eqb-true, eq-eqb, ltb-true, lt-ltb, le-ltb}
 use Rattle.std.specs.Int.Bits.{bit_or, or_add_and}
 use Rattle.std.proofs.lemmas.Nat.{or_lt, and_le_l, and_le_r}
 use Rattle.sets.specs.Word.{has, word_of}
@@ -108,7 +108,7 @@ gathered_all {order} {seen} {j} size all a l = same_test (eqb seen all_bits) (ha
     back : has_all 64 order ≡ true → eqb seen all_bits ≡ true
     back e = eq-eqb seen all_bits (same_word 64 seen all_bits a.word (lit< tt) (λ q m. at q ∙ has_all_at 64 q order m e ∙ sym (all_has q m)))
 
--- a number that is too large is in no such row
-pub large_none : (order : List ℕ) → all_small order ≡ false → false ≡ row_fits order
+-- bits of 64 or more are of a row in which a number is too large
+pub large_none : (order : List ℕ) (bits : ℕ) → ltb bits 64 ≡ all_small order → 64 ≤ bits → false ≡ row_fits order
 unfolding row_fits
-large_none order e = sym (ap (λ (b : Bool). b && has_all 64 order) e)
+large_none order bits e l = sym (ap (λ (b : Bool). b && has_all 64 order) (sym e ∙ le-ltb bits 64 l))

@@ -1,54 +1,22 @@
 -- "Loaded places count in file order": the numbers that came are noted one after the other, and the row is made once, in the end.
 -- Assumes nothing. Idea: while no number comes twice, the row has 64 numbers, so there is room for one more and for all of them in the end.
-use Rattle.std.specs.Prelude.{◌≡◌, Bool, eqb, ltb, length, get_or, set}
+use Rattle.std.specs.Prelude.{◌≡◌, Bool, eqb, ltb, length, set}
 use Rattle.std.proofs.Math.Path.{refl, sym, ap, ap₂}
-use Rattle.std.proofs.Common.{◌∙◌, arith, length-append, take-suc-set, take_all, length-take-le, eqb-true, ltb-true}
+use Rattle.std.proofs.Common.{◌∙◌, arith, length-append, take-suc-set, length-take-le, eqb-true, ltb-true}
 use Rattle.std.proofs.Math.Bool.{true, false, not, ◌||◌}
 use mathlib.Core.List.{List, [], ◌∷◌, ◌++◌}
-use Prim.Native.Nat.{ℕ, suc, ◌+◌, ◌-◌, ◌≤◌, ◌<◌, zero-le}
+use Prim.Native.Nat.{ℕ, suc, ◌+◌, ◌≤◌, ◌<◌, zero-le}
 use Rattle.std.proofs.Math.ListN.{take, length-set}
 use Rattle.std.proofs.Math.Seq.{take-append-add}
-use Rattle.sets.specs.Word.{bit}
 use Rattle.sets.proofs.ToldLaws.{Told, yea, nay, told, clash, and_left, and_right}
 use Rattle.order.specs.Row.{keep, latest, occurs, counting, counting_row, loaded_row, filled_row, all_small}
 use Rattle.order.proofs.RowLaws.{occurs_append, length_later, fits_small, counting_fits}
 use Rattle.order.proofs.RowLawsLater.{keep_ext, loaded_more, loaded_none}
-use Rattle.order.proofs.RowLawsLoops.{Front, front_start, front_end, others_turn, Rest, rest_start}
 
 -- all numbers are 64
 pub counting_long : length counting_row ≡ 64
 unfolding counting_row counting
 counting_long = refl
-
--- ---- the row of the others, with as many of a second one as there is room for
-
--- a loop that leaves out those that pass
-pub record Others (f : ℕ → Bool) (order row : List ℕ) (n j : ℕ) : Type 0 where
-  pub front : Front (λ q. not (f q)) order row n j
-  pub end : j ≤ 64
-
-pub others_start : (f : ℕ → Bool) (order : List ℕ) → length order ≡ 64 → Others f order order 0 0
-others_start f order l = record { front = front_start _ order order l; end = zero-le }
-
-pub others_more : {f : ℕ → Bool} {order row : List ℕ} {n j one : ℕ} → length order ≡ 64 → Others f order row n j → j < 64 → one ≡ bit (f (get_or order j 0))
-    → Others f order (set row n (get_or order j 0)) (n + (1 - one)) (j + 1)
-others_more {f} size a l e = record { front = others_turn f size a.front l e; end = omega arith }
-
--- and one that puts others behind them
-pub others_rest : {f : ℕ → Bool} {order row : List ℕ} {n j : ℕ} (lasts : List ℕ) → Others f order row n j → Rest row lasts n row n 0
-others_rest {row = row} {n = n} lasts a = rest_start row lasts n a.front.full (omega (arith, a.front.few, a.end))
-
-pub others_end : {f : ℕ → Bool} {order row lasts new : List ℕ} {n j m i : ℕ} → length order ≡ 64 → Others f order row n j → 64 ≤ j → Rest row lasts n new m i → 64 ≤ m
-    → new ≡ take 64 (keep (λ q. not (f q)) order ++ lasts)
-others_end {f} {order} {row} {lasts} {new} {n} {j} {m} {i} size a l b k =
-    sym (take_all m new (omega (arith, b.full))) ∙ b.written
-    ∙ sym (ap₂ (λ (x : ℕ) (r : List ℕ). take x (r ++ lasts)) many (sym kept) ∙ take-append-add (take n row) lasts i)
-  where
-    kept : take n row ≡ keep (λ q. not (f q)) order
-    kept = front_end size a.front l
-
-    many : 64 ≡ length (take n row) + i
-    many = omega (arith, b.many, b.few, length-take-le n row (let x = a.front.few in let y = a.front.full in let z = a.end in omega arith))
 
 -- ---- the numbers that came
 

@@ -1,15 +1,18 @@
 -- The loops over a row, turn by turn: what a test keeps, written to the front of an array, and then the rest behind it. Assumes nothing.
 -- Idea: a number is stored in every turn, and counts only if it passes; the next one is stored over it where it does not.
 use Rattle.std.specs.Prelude.{◌≡◌, refl, Bool, true, false, not, ℕ, zero, suc, ◌+◌, ◌-◌, ◌≤◌, ◌<◌, eqb, length, get_or, take, set, replicate}
+use borrow.Rule.Slice.PartMut.{put_mid, post_of}
 use Rattle.std.proofs.Math.Path.{sym, ap₂}
-use Rattle.std.proofs.Common.{ap, ◌∙◌, subst, zero-le, add-zero, arith, take_all, take-suc, take-suc-set, length-take-le, eqb-true}
-use mathlib.Core.List.{List, [], ◌∷◌, ◌++◌, append-nil, append_assoc}
+use Rattle.std.proofs.Common.{ap, ◌∙◌, subst, zero-le, add-zero, arith, take_all, take-suc, take-suc-set, length-take-le, drop, length-drop, drop_of_length-le, eqb-true}
+use mathlib.Core.List.{List, [], ◌∷◌, ◌++◌, append-nil}
 use Rattle.std.proofs.Math.ListN.{length-set}
-use Rattle.std.proofs.lemmas.List.{length-replicate, get_or-replicate, take-set-le}
+use Rattle.std.proofs.Math.Seq.{take-append-add}
+use Rattle.std.proofs.lemmas.List.{take-set-le}
 use Rattle.sets.specs.Word.{bit}
-use Rattle.sets.proofs.WordLaws.{bit_lt}
 use Rattle.sets.proofs.ToldLaws.{Told, yea, nay, told}
 use Rattle.order.specs.Row.{keep, later, latest, counting, counting_row}
+use Rattle.order.specs.Parted.{IsParted}
+use Rattle.order.specs.declared.Parted.{Parted}
 use Rattle.order.proofs.RowLaws.{keep_append, keep_both}
 
 -- ---- what a test keeps, written to the front
@@ -62,82 +65,75 @@ module _ {f : ℕ → Bool} {order row : List ℕ} {n j : ℕ} (size : length or
 pub front_end : {f : ℕ → Bool} {order row : List ℕ} {n j : ℕ} → length order ≡ 64 → Front f order row n j → 64 ≤ j → take n row ≡ keep f order
 front_end {f} {order} {row} {n} {j} size a l = a.written ∙ ap (keep f) (take_all j order (omega (arith, size)))
 
--- ---- the rest of the row
-
--- a row, of which n₀ numbers were written before, with i numbers of a second one behind them
-pub record Rest (before lasts : List ℕ) (n₀ : ℕ) (row : List ℕ) (n i : ℕ) : Type 0 where
-  pub full : length row ≡ 64
-  pub few : n ≤ 64
-  pub many : n ≡ n₀ + i
-  pub written : take n row ≡ take n₀ before ++ take i lasts
-
-pub rest_start : (row lasts : List ℕ) (n : ℕ) → length row ≡ 64 → n ≤ 64 → Rest row lasts n row n 0
-rest_start row lasts n l k = record { full = l; few = k; many = sym (add-zero n); written = sym (append-nil (take n row)) }
-
-pub rest_turn : {before lasts row : List ℕ} {n₀ n i : ℕ} → Rest before lasts n₀ row n i → n < 64 → length lasts ≡ 64 → (v : ℕ) → v ≡ get_or lasts i 0
-    → Rest before lasts n₀ (set row n v) (n + 1) (i + 1)
-rest_turn {before} {lasts} {row} {n₀} {n} {i} a l z v e = record {
-  full = length-set row n v ∙ a.full;
-  few = omega arith;
-  many = omega (arith, a.many);
-  written =
-      let m : n + 1 ≡ suc n = omega arith in
-      let p : i + 1 ≡ suc i = omega arith in
-      ap (λ (x : ℕ). take x (set row n v)) m ∙ take-suc-set row n v (let z = a.full in omega arith)
-      ∙ ap₂ (λ (r : List ℕ) (x : ℕ). r ++ (x ∷ [])) a.written e ∙ append_assoc (take n₀ before) (take i lasts) (get_or lasts i 0 ∷ [])
-      ∙ ap (λ (r : List ℕ). take n₀ before ++ r) (sym (ap (λ (x : ℕ). take x lasts) p ∙ take-suc lasts i 0 (omega (arith, a.many, z))));
-}
-
--- ---- the whole row: the others, and behind them those that pass
-
-module _ (f : ℕ → Bool) (order : List ℕ) (size : length order ≡ 64) {row lasts : List ℕ} {n j : ℕ} (a : Front (λ q. not (f q)) order row n j)
-    (l : 64 ≤ j) (k : j ≤ 64) {new : List ℕ} {n' i : ℕ} (b : Rest row lasts n new n' i) (m : 64 ≤ n') where
-  others : take n row ≡ keep (λ q. not (f q)) order
-  others = front_end size a l
-
-  -- behind them is room for as many as pass
-  pub rest_many : i ≡ length (keep f order)
-  rest_many = omega (arith, b.many, b.few, keep_both f order, size, sym (length-take-le n row (let x = a.few in let y = a.full in omega arith)) ∙ ap length others)
-
-  pub rest_end : take i lasts ≡ keep f order → new ≡ later f order
-  unfolding later
-  rest_end e = sym (take_all n' new (omega (arith, b.full))) ∙ b.written ∙ ap₂ (λ (x y : List ℕ). x ++ y) others e
-
 -- what a loop over the order parts: the others and those that pass, both in their order
-pub record Parted (f : ℕ → Bool) (order row members : List ℕ) (n m j : ℕ) : Type 0 where
-  pub others : Front (λ q. not (f q)) order row n j
+pub record Parts (f : ℕ → Bool) (order others members : List ℕ) (n m j : ℕ) : Type 0 where
+  pub rest : Front (λ q. not (f q)) order others n j
   pub those : Front f order members m j
-  pub all : n + m ≡ j
-  pub end : j ≤ 64
 
-pub parted_start : (f : ℕ → Bool) (order : List ℕ) → length order ≡ 64 → Parted f order order order 0 0 0
-parted_start f order l = record { others = front_start _ order order l; those = front_start f order order l; all = refl; end = zero-le }
+pub parts_start : (f : ℕ → Bool) (order : List ℕ) → length order ≡ 64 → Parts f order order order 0 0 0
+parts_start f order l = record { rest = front_start _ order order l; those = front_start f order order l }
 
 less_bit : (n : ℕ) (b : Bool) → n + (1 - bit b) ≡ n + bit (not b)
 less_bit n true = refl
 less_bit n false = refl
 
--- the others count where a number does not pass
-pub others_turn : (f : ℕ → Bool) {order row : List ℕ} {n j one : ℕ} → length order ≡ 64 → Front (λ q. not (f q)) order row n j → j < 64
-    → one ≡ bit (f (get_or order j 0)) → Front (λ q. not (f q)) order (set row n (get_or order j 0)) (n + (1 - one)) (j + 1)
-others_turn f {order} {row} {n} {j} {one} size a l e =
-    subst (λ (x : ℕ). Front (λ q. not (f q)) order (set row n (get_or order j 0)) x (j + 1))
-    (sym (ap (λ (x : ℕ). n + (1 - x)) e ∙ less_bit n (f (get_or order j 0)))) (front_turn size a l)
-
-pub parted_turn : (f : ℕ → Bool) {order row members : List ℕ} {n m j one : ℕ} → length order ≡ 64 → Parted f order row members n m j → j < 64
-    → one ≡ bit (f (get_or order j 0)) → Parted f order (set row n (get_or order j 0)) (set members m (get_or order j 0)) (n + (1 - one)) (m + one) (j + 1)
-parted_turn f {order} {row} {members} {n} {m} {j} {one} size a l e = record {
-  others = others_turn f size a.others l e;
+pub parts_turn : (f : ℕ → Bool) {order others members : List ℕ} {n m j : ℕ} → length order ≡ 64 → Parts f order others members n m j → j < 64
+    → (one : ℕ) → one ≡ bit (f (get_or order j 0))
+    → Parts f order (set others n (get_or order j 0)) (set members m (get_or order j 0)) (n + (1 - one)) (m + one) (j + 1)
+parts_turn f {order} {others} {members} {n} {m} {j} size a l one e = record {
+  rest = subst (λ (x : ℕ). Front (λ q. not (f q)) order (set others n (get_or order j 0)) x (j + 1))
+      (sym (ap (λ (x : ℕ). n + (1 - x)) e ∙ less_bit n (f (get_or order j 0)))) (front_turn size a.rest l);
   those = subst (λ (x : ℕ). Front f order (set members m (get_or order j 0)) (m + x) (j + 1)) (sym e) (front_turn size a.those l);
-  all = omega (arith, a.all, e, bit_lt (f (get_or order j 0)));
-  end = omega arith;
 }
 
-pub parted_end : (f : ℕ → Bool) (order : List ℕ) → length order ≡ 64 → {row members : List ℕ} {n m j : ℕ} → Parted f order row members n m j → 64 ≤ j
-    → {new : List ℕ} {n' i : ℕ} → Rest row members n new n' i → 64 ≤ n' → new ≡ later f order
-parted_end f order size {row} {members} {n} {m} {j} a l {new} {n'} {i} b k =
-    let e : i ≡ m = omega (arith, b.many, b.few, a.all, a.end) in
-    rest_end f order size a.others l a.end b k (ap (λ (x : ℕ). take x members) e ∙ front_end size a.those l)
+-- in the end they are all of the order
+pub parts_end : {f : ℕ → Bool} {order others members : List ℕ} {n m j : ℕ} → length order ≡ 64 → Parts f order others members n m j → n + m ≡ j → j ≡ 64
+    → IsParted f order (record { others = others; count = n; members = members })
+parts_end {f} {order} {others} {members} {n} {m} {j} size a all l = record {
+  full = a.rest.full;
+  few = omega arith;
+  rest = front_end size a.rest (omega arith);
+  those = let e : 64 - n ≡ m = omega arith in ap (λ (x : ℕ). take x members) e ∙ front_end size a.those (omega arith);
+}
+
+-- ---- the row that is made of the parts
+
+module _ {f : ℕ → Bool} {order : List ℕ} {p : Parted} (size : length order ≡ 64) (a : IsParted f order p) where
+  -- behind the others is room for as many as pass
+  rest_many : length (take p.count p.others) ≡ p.count
+  rest_many = length-take-le p.count p.others (let x = a.few in let y = a.full in omega arith)
+
+  room : 64 ≡ length (take p.count p.others) + length (keep f order)
+  room = omega (arith, keep_both f order, size, ap length a.rest)
+
+  -- any row that begins with those that pass, put behind the others
+  pub parts_then : (lasts : List ℕ) → take (length (keep f order)) lasts ≡ keep f order → take 64 (take p.count p.others ++ lasts) ≡ later f order
+  unfolding later
+  parts_then lasts e =
+      ap (λ (n : ℕ). take n (take p.count p.others ++ lasts)) room ∙ take-append-add (take p.count p.others) lasts (length (keep f order))
+      ∙ ap₂ (λ (x y : List ℕ). x ++ y) a.rest e
+
+  pub parts_later : take 64 (take p.count p.others ++ p.members) ≡ later f order
+  parts_later = parts_then p.members (ap (λ (n : ℕ). take n p.members) many ∙ a.those)
+    where
+      many : length (keep f order) ≡ 64 - p.count
+      many = omega (arith, room, rest_many)
+
+pub parts_filled : {f : ℕ → Bool} {order : List ℕ} {p : Parted} (lasts : List ℕ) → IsParted f order p
+    → take 64 (take p.count p.others ++ lasts) ≡ take 64 (keep (λ q. not (f q)) order ++ lasts)
+parts_filled lasts a = ap (λ (r : List ℕ). take 64 (r ++ lasts)) a.rest
+
+-- a row, of which the first n numbers stay and the others are written from ys on, as many as there is room for
+pub then_row : (n : ℕ) (row lasts ys : List ℕ) → length row ≡ 64 → n ≤ 64 → ys ≡ take (64 - n) lasts → put_mid n (64 - n) row ys ≡ take 64 (take n row ++ lasts)
+then_row n row lasts ys size l e =
+    ap (λ (r : List ℕ). take n row ++ (ys ++ r)) gone ∙ ap (λ (r : List ℕ). take n row ++ r) (append-nil ys ∙ e)
+    ∙ sym (ap (λ (x : ℕ). take x (take n row ++ lasts)) many ∙ take-append-add (take n row) lasts (64 - n))
+  where
+    gone : post_of n (64 - n) row ≡ []
+    gone = drop_of_length-le (drop n row) (omega (arith, length-drop n row, size))
+
+    many : 64 ≡ length (take n row) + (64 - n)
+    many = omega (arith, length-take-le n row (omega (arith, size)))
 
 -- ---- where one number becomes the latest, those that pass are that number, as often as it stands in the row
 
@@ -156,39 +152,10 @@ take_same zero n m l = refl
 take_same (suc k) zero m l = absurd (omega arith)
 take_same (suc k) (suc n) m l = ap (λ (r : List ℕ). m ∷ r) (take_same k n m (omega arith))
 
--- a loop that leaves out q
-pub record Without (q : ℕ) (order row : List ℕ) (n j : ℕ) : Type 0 where
-  pub others : Front (λ r. not (eqb r q)) order row n j
-  pub end : j ≤ 64
-
-pub without_start : (q : ℕ) (order : List ℕ) → length order ≡ 64 → Without q order order 0 0
-without_start q order l = record { others = front_start _ order order l; end = zero-le }
-
-pub without_turn : {q : ℕ} {order row : List ℕ} {n j one : ℕ} → length order ≡ 64 → Without q order row n j → j < 64
-    → one ≡ bit (eqb (get_or order j 0) q) → Without q order (set row n (get_or order j 0)) (n + (1 - one)) (j + 1)
-without_turn {q} size a l e = record { others = others_turn (λ r. eqb r q) size a.others l e; end = omega arith }
-
--- and one that puts q wherever there is room
-pub record Filled (q : ℕ) (before : List ℕ) (n₀ : ℕ) (row : List ℕ) (n : ℕ) : Type 0 where
-  pub i : ℕ
-  pub rest : Rest before (replicate 64 q) n₀ row n i
-
-pub filled_start : {q : ℕ} {order row : List ℕ} {n j : ℕ} → Without q order row n j → Filled q row n row n
-filled_start {q} {row = row} {n = n} a =
-    record { i = 0; rest = rest_start row (replicate 64 q) n a.others.full (omega (arith, a.others.few, a.end)) }
-
-pub filled_turn : {q : ℕ} {before row : List ℕ} {n₀ n : ℕ} → Filled q before n₀ row n → n < 64 → Filled q before n₀ (set row n q) (n + 1)
-filled_turn {q} a l = record {
-  i = a.i + 1;
-  rest = rest_turn a.rest l (length-replicate 64 q) q (sym (get_or-replicate 64 a.i q 0 (omega (arith, a.rest.many))));
-}
-
-pub filled_end : (q : ℕ) (order : List ℕ) → length order ≡ 64 → {row : List ℕ} {n j : ℕ} → Without q order row n j → 64 ≤ j
-    → {new : List ℕ} {n' : ℕ} → Filled q row n new n' → 64 ≤ n' → new ≡ latest q order
-filled_end q order size a l b m =
-    rest_end (λ r. eqb r q) order size a.others l a.end b.rest m
-    (take_same b.i 64 q (omega (arith, b.rest.many, b.rest.few))
-    ∙ ap (λ (x : ℕ). replicate x q) (rest_many (λ r. eqb r q) order size a.others l a.end b.rest m) ∙ sym (keep_one q order))
+-- the others, and q wherever there is room
+pub parts_latest : (q : ℕ) {order : List ℕ} {p : Parted} → length order ≡ 64 → IsParted (λ r. eqb r q) order p → take 64 (take p.count p.others ++ replicate 64 q) ≡ latest q order
+parts_latest q {order} {p} size a =
+    parts_then size a (replicate 64 q) (take_same (length (keep (λ r. eqb r q) order)) 64 q (omega (arith, keep_both (λ r. eqb r q) order, size)) ∙ sym (keep_one q order))
 
 -- ---- the loop that counts
 

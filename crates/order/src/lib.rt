@@ -2,10 +2,10 @@
 
 #![tactic(auto)]
 
-ghost use Rattle.std.specs.Prelude.{◌≡◌, ◌≤◌, ltb};
-ghost use Rattle.sets.specs.Word.{bit};
+ghost use Rattle.std.specs.Prelude.{◌≡◌, ℕ, Bool, ◌≤◌, ◌++◌, ltb, length, take};
 ghost use Rattle.sets.specs.Set.{member};
 ghost use Rattle.order.specs.Row.{first_in, all_small, row_fits, counting_row, filled_row};
+ghost use Rattle.order.specs.Parted.{Decides, IsParted};
 
 use sets::Set;
 
@@ -13,11 +13,9 @@ use sets::Set;
 pub fn counting_row() -> [u8; 64]
     ensures { result ≡ counting_row }
 {
-    let mut row: [u8; 64] = [0; 64];
-    let mut q: u8 = 0;
-    while q < 64 {
+    let mut row = [0; 64];
+    for q in 0..64u8 {
         row[q as usize] = q;
-        q += 1;
     }
     row
 }
@@ -26,13 +24,10 @@ pub fn counting_row() -> [u8; 64]
 pub fn first_in(order: [u8; 64], s: Set) -> u8
     ensures { result ≡ first_in (member s) order }
 {
-    let mut k: usize = 0;
-    while k < 64 {
-        let q = order[k];
+    for q in order {
         if s.has(q) {
             return q;
         }
-        k += 1;
     }
     64
 }
@@ -42,88 +37,87 @@ pub fn first_in(order: [u8; 64], s: Set) -> u8
 fn bits_of(order: [u8; 64]) -> u8
     ensures { ltb result 64 ≡ all_small order }
 {
-    let mut bits: u8 = 0;
-    let mut j: usize = 0;
-    while j < 64 {
-        bits = bits | order[j];
-        j += 1;
+    let mut bits = 0;
+    for q in order {
+        bits |= q;
     }
     bits
 }
 
 // Whether every number below 64 stands in the row, and no other: the bits that they have, and then all numbers as bits of one word.
+#[tactic(auto, using(crate::proofs::RowLawsGather::large_none))]
 pub fn is_row(order: [u8; 64]) -> bool
     ensures { result ≡ row_fits order }
 {
-    let bits = bits_of(order);
-    if bits >= 64 {
+    if bits_of(order) >= 64 {
         return false;
     }
-    let mut seen: u64 = 0;
-    let mut j: usize = 0;
-    while j < 64 {
-        let q = order[j];
-        seen = seen | (1 << (q % 64));
-        j += 1;
+    let mut seen = 0u64;
+    for q in order {
+        seen |= 1 << (q % 64);
     }
-    seen == 18446744073709551615
+    seen == u64::MAX
 }
 
-// A test as a number: 1 where it holds.
-fn one_if(b: bool) -> usize
-    ensures value { result ≡ bit b }
-    ensures upper_bound { result ≤ 1 }
+// A row that a test parts: at the front of one row the numbers that do not pass and how many they are, at the front of another those that pass, each
+// in their order.
+#[derive(Clone, Copy)]
+struct Parted {
+    others: [u8; 64],
+    count: usize,
+    members: [u8; 64],
+}
+
+impl Parted {
+    // The others, and behind them as many of lasts as there is room for.
+    fn then(self, lasts: [u8; 64]) -> [u8; 64]
+        requires { self.count ≤ 64 }
+        ensures { result ≡ take 64 (take self.count self.others ++ lasts) }
+    {
+        let mut row = self.others;
+        row[self.count..].copy_from_slice(&lasts[..64 - self.count]);
+        row
+    }
+}
+
+// The row parted by a test. Each number is written to both, and counts in one of them: no turn branches.
+fn part<F: Fn(u8) -> bool>(order: [u8; 64], passes: F) -> Parted
+    requires { F.IsAlwaysCallable passes }
+    ensures room { result.count ≤ 64 }
+    ensures parts { (f : ℕ → Bool) → Decides (F.post passes) f → IsParted f order result }
 {
-    if b { 1 } else { 0 }
+    let mut others = order;
+    let mut members = order;
+    let mut count = 0;
+    let mut m = 0;
+    for q in order {
+        let one = usize::from(passes(q));
+        others[count] = q;
+        members[m] = q;
+        count += 1 - one;
+        m += one;
+    }
+    Parted {
+        others,
+        count,
+        members,
+    }
 }
 
-// The order once the members of s are the latest, in their order among themselves: the others are written to the front of the row and the
-// members to a second one, which is then put behind them.
+// The order once the members of s are the latest, in their order among themselves.
 pub fn later(order: [u8; 64], s: Set) -> [u8; 64]
     ensures { result ≡ Rattle.order.specs.Row.later (member s) order }
 {
-    let mut row = order;
-    let mut members = order;
-    let mut n: usize = 0;
-    let mut m: usize = 0;
-    let mut j: usize = 0;
-    while j < 64 {
-        let q = order[j];
-        let one = one_if(s.has(q));
-        row[n] = q;
-        members[m] = q;
-        n += 1 - one;
-        m += one;
-        j += 1;
-    }
-    let mut i: usize = 0;
-    while n < 64 {
-        row[n] = members[i];
-        n += 1;
-        i += 1;
-    }
-    row
+    let by = part(order, |q| s.has(q));
+    let members = by.members;
+    by.then(members)
 }
 
 // The order once q is the latest: the others, and then q as often as it stood there.
 pub fn latest(order: [u8; 64], q: u8) -> [u8; 64]
     ensures { result ≡ Rattle.order.specs.Row.latest q order }
 {
-    let mut row = order;
-    let mut n: usize = 0;
-    let mut j: usize = 0;
-    while j < 64 {
-        let r = order[j];
-        let one = one_if(r == q);
-        row[n] = r;
-        n += 1 - one;
-        j += 1;
-    }
-    while n < 64 {
-        row[n] = q;
-        n += 1;
-    }
-    row
+    part(order, |r| r == q).then([q; 64])
 }
 
 // The row of a loaded cell: all numbers but the members of s as they are counted, and behind them the first of those that
@@ -131,22 +125,5 @@ pub fn latest(order: [u8; 64], q: u8) -> [u8; 64]
 pub fn loaded_row(s: Set, came: [u8; 64]) -> [u8; 64]
     ensures { result ≡ filled_row (member s) came }
 {
-    let order = counting_row();
-    let mut row = order;
-    let mut n: usize = 0;
-    let mut j: usize = 0;
-    while j < 64 {
-        let q = order[j];
-        let one = one_if(s.has(q));
-        row[n] = q;
-        n += 1 - one;
-        j += 1;
-    }
-    let mut next: usize = 0;
-    while n < 64 {
-        row[n] = came[next];
-        n += 1;
-        next += 1;
-    }
-    row
+    part(counting_row(), |q| s.has(q)).then(came)
 }

@@ -12,7 +12,7 @@ use Rattle.table.specs.declared.Agent.{Agent}
 use Rattle.table.specs.declared.Place.{Place}
 use Rattle.table.specs.declared.Cell.{Cell}
 use Rattle.meaning.specs.Refusals.{outside_language, too_many}
-use Rattle.meaning.specs.declared.Verdict.TheVariants.{Accepted, Rejected}
+use Rattle.meaning.specs.Answers.{Accepted, Rejected}
 use Rattle.meaning.specs.File.{accepted, refused, loaded}
 use Rattle.language.specs.declared.Control.{Control}
 use Rattle.language.specs.declared.Control.TheVariants.{Begin}

@@ -1,5 +1,5 @@
 -- Laws of reading on: one stretch after another, a word, a digit; and the table stays that of the cell so far.
-use Rattle.std.specs.Prelude.{◌≡◌, refl, Bool, true, List, [], ◌∷◌, ℕ, suc, ◌+◌, ◌-◌, ◌≤◌, ◌<◌, ltb, length, get_or}
+use Rattle.std.specs.Prelude.{◌≡◌, refl, Bool, true, List, [], ◌∷◌, ℕ, suc, ◌+◌, ◌-◌, ◌≤◌, ◌<◌, ltb, length, get_or, Some}
 use Rattle.std.proofs.Common.{sym, ap, ◌∙◌, subst, arith, lt-ltb, ltb-true, ltb-false}
 use Rattle.table.proofs.BaseLaws.{Told, yea, nay, told}
 use Rattle.table.specs.Base.{tab}
@@ -83,9 +83,9 @@ alike_more s w i j a e n l = go (told (ltb n j))
     go (nay t) = let h = ltb-false n j t in subst (λ m. get_or s (i + m) 0 ≡ get_or w m 0) (omega arith) e
 
 -- one digit more of a number
-pub stretch_digit : {s : Text} {i j : ℕ} {c : Control} (f : Field) (v n : ℕ) → Stretch s i c j (Digits f v) → j < length s → n ≡ longer v (get_or s j 0) → 1 ≤ n
+pub stretch_digit : {s : Text} {i j : ℕ} {c : Control} (f : Field) (v n : ℕ) → Stretch s i c j (Digits f v) → j < length s → Some n ≡ longer v (get_or s j 0)
     → Stretch s i c (j + 1) (Digits f n)
-stretch_digit {s} {j} f v n p l e h = Stretches.further p l (Digits f n) (λ d. next_digit f v d (get_or s j 0) n e h)
+stretch_digit {s} {j} f v n p l e = Stretches.further p l (Digits f n) (λ d. next_digit f v d (get_or s j 0) n e)
 
 -- the first digit of an action's number, and what comes then
 pub stretch_first : {s : Text} {i j : ℕ} {m : Control} (k w : ℕ) (t : Bool) → i < length s → t ≡ is_digit 1 (get_or s i 0) → t ≡ true → w ≡ get_or s i 0 - 48

@@ -1,5 +1,5 @@
 -- The cell so far as the code keeps it, and the answer of the call.
-use Rattle.std.specs.Prelude.{ℕ, ◌+◌, ◌*◌, ◌-◌, Bool, true, false, cond, ltb, leb, eqb, length, get_or, List}
+use Rattle.std.specs.Prelude.{ℕ, ◌+◌, ◌*◌, ◌-◌, Bool, true, false, cond, ltb, leb, eqb, length, get_or, List, Option, Some, None}
 use Rattle.sets.specs.Set.{member, removed}
 use Rattle.order.specs.Row.{later}
 use Rattle.table.specs.Cell.{put_order}
@@ -10,7 +10,7 @@ use Rattle.table.specs.declared.Cell.{Cell}
 use Rattle.meaning.specs.declared.Loaded.{Loaded}
 use Rattle.meaning.specs.File.{with_action}
 use Rattle.meaning.specs.Refusals.{too_many}
-use Rattle.meaning.specs.declared.Verdict.TheVariants.{Accepted, Rejected}
+use Rattle.meaning.specs.Answers.{Accepted, Rejected}
 use Rattle.language.specs.Machine.{continues, next}
 use Rattle.language.specs.Grammar.{with_keys}
 use Rattle.language.specs.declared.Field.{Field}
@@ -23,10 +23,10 @@ use Rattle.language.specs.declared.Moved.{Moved}
 use Rattle.language.specs.declared.Moved.TheVariants.{To, Off}
 use Rattle.parser.specs.declared.Marks.{Marks}
 
--- the number v with one digit more, or 0 where the byte does not continue it
-unfoldable pub longer : ℕ → ℕ → ℕ
+-- the number v with one digit more, where the byte continues it
+unfoldable pub longer : ℕ → ℕ → Option ℕ
 unfolding continues
-longer v b = cond (continues v b) (v * 10 + (b - 48)) 0
+longer v b = cond (continues v b) (Some (v * 10 + (b - 48))) None
 
 -- ---- what an event writes, element by element
 

@@ -13,13 +13,12 @@ ghost use Rattle.std.specs.Prelude.{◌≡◌, ◌<◌};
 ghost use Rattle.language.specs.Read.{read_of};
 ghost use Rattle.parser.specs.Site.{moved_at};
 
-use build::{
-    agent_after, agent_written, before, gives_agent, gives_place, marks_after, place_after,
-};
+use build::{agent_after, agent_written, gives_agent, gives_place, marks_after, place_after};
 use finish::{answered, last};
 use language::{Control, Event, Moved};
 use machine::next_by;
-use meaning::{Loaded, Verdict};
+use meaning::refusals::OUTSIDE_LANGUAGE;
+use meaning::{Loaded, Rejection};
 use rows::with_row;
 use stretch::stretch;
 use table::Cell;
@@ -35,6 +34,7 @@ pub struct Marks {
 
 // What the byte at i does, or the end of the text, after what was read last and with d places open. No text has 2^63 bytes, so
 // fewer places are open.
+#[tactic(auto, unfolding(crate::specs::Site::moved_at))]
 fn moved(s: &[u8], i: usize, at: Control, d: usize) -> Moved
     requires { d < 9223372036854775808 }
     ensures { result ≡ moved_at s.now i at d }
@@ -65,48 +65,38 @@ pub fn read(c: Cell, s: &[u8]) -> Loaded
     let mut i: usize = 0;
     while i <= s.len() {
         let r = stretch(s, i, at);
-        let j = r.i;
-        let now = r.at;
-        let m = moved(s, j, now, d);
-        let Moved::To(k, n, e) = m else {
+        let Moved::To(k, n, e) = moved(s, r.i, r.at, d) else {
             return Loaded {
                 cell: c,
-                verdict: Verdict::Rejected(16, j),
+                verdict: Err(Rejection {
+                    number: OUTSIDE_LANGUAGE,
+                    offset: r.i,
+                }),
             };
         };
         at = k;
         d = n;
-        i = j + 1;
-        let Event::Nothing = e else {
-            let h = table::at(x.here);
-            let around = b.places[h].parent;
-            let which = agent_written(x, e);
-            let y = table::at(which);
-            let g = b.agents[y];
-            let a = agent_after(g, x, e);
-            b.agents[y] = a;
-            let given = b.given;
-            b.given = given.insert_if(which, gives_agent(x, e));
-            let q = table::at(x.places + 1);
-            let p = b.places[q];
-            let o = place_after(p, x, e);
-            b.places[q] = o;
-            let used = b.used;
-            b.used = used.insert_if(x.places + 1, gives_place(x, e));
-            x = marks_after(x, e, g.count, around);
-            let Control::Dot = k else {
-                continue;
-            };
-            let z = table::at(before(x.agents));
-            let latest = b.agents[z];
-            let row = with_row(s, i, latest);
-            let more = row.agent;
-            b.agents[z] = more;
+        i = r.i + 1;
+        if let Event::Nothing = e {
+            continue;
+        }
+        let around = b.places[table::at(x.here)].parent;
+        let which = agent_written(x, e);
+        let y = table::at(which);
+        let g = b.agents[y];
+        b.agents[y] = agent_after(g, x, e);
+        b.given = b.given.insert_if(which, gives_agent(x, e));
+        let q = table::at(x.places + 1);
+        b.places[q] = place_after(b.places[q], x, e);
+        b.used = b.used.insert_if(x.places + 1, gives_place(x, e));
+        x = marks_after(x, e, g.count, around);
+        if let Control::Dot = k {
+            let z = table::at(x.agents.saturating_sub(1));
+            let row = with_row(s, i, b.agents[z]);
+            b.agents[z] = row.agent;
             at = row.at;
             i = row.i;
-            continue;
-        };
+        }
     }
-    let over = x.over;
-    answered(c, b, over, s.len())
+    answered(c, b, x.over, s.len())
 }

@@ -19,47 +19,31 @@ pub(super) fn with_row(s: &[u8], from: usize, g: Agent) -> Row
 {
     let mut a = g;
     let mut i = from;
+    // No count of turns beside it: the agent's own count is how full its row is.
     while a.count < 16 {
         let r = action(s, i);
-        let j = r.i;
-        let c = r.at;
-        let Control::Digits(f, v) = c else {
+        let Control::Digits(Field::ActionNumber(kind), name) = r.at else {
             return Row {
                 agent: a,
-                at: c,
-                i: j,
+                at: r.at,
+                i: r.i,
             };
         };
-        let Field::ActionNumber(k) = f else {
+        if s.len() <= r.i || s[r.i] != b'.' {
             return Row {
                 agent: a,
-                at: c,
-                i: j,
-            };
-        };
-        if s.len() <= j {
-            return Row {
-                agent: a,
-                at: c,
-                i: j,
+                at: r.at,
+                i: r.i,
             };
         }
-        if s[j] != 46 {
-            return Row {
-                agent: a,
-                at: c,
-                i: j,
-            };
-        }
-        let n = a.count as usize;
-        a.actions[n] = Action { kind: k, name: v };
-        a.count = a.count + 1;
+        a.actions[a.count as usize] = Action { kind, name };
+        a.count += 1;
         a.stage = 0;
-        i = j + 1;
+        i = r.i + 1;
     }
     Row {
         agent: a,
         at: Control::Dot,
-        i: i,
+        i,
     }
 }

@@ -4,7 +4,7 @@ ghost use Rattle.language.specs.declared.Control.TheVariants.{Dot, Before, Digit
 ghost use Rattle.language.specs.declared.Field.TheVariants.{ActionNumber};
 ghost use Rattle.parser.specs.Stretches.{Stands, Stretch};
 
-use super::machine::{is_digit, more_digits, wide};
+use super::machine::{is_digit, more_digits};
 use language::{Control, Field};
 
 // What was read last, and the byte that comes next.
@@ -18,18 +18,13 @@ pub(super) struct Reached {
 fn stands(s: &[u8], i: usize, w: &[u8]) -> bool
     ensures { result ≡ true → Stands s.now i w.now }
 {
-    if s.len() < w.len() {
+    if s.len().saturating_sub(i) < w.len() {
         return false;
     }
-    if s.len() - w.len() < i {
-        return false;
-    }
-    let mut j: usize = 0;
-    while j < w.len() {
+    for j in 0..w.len() {
         if s[i + j] != w[j] {
             return false;
         }
-        j += 1;
     }
     true
 }
@@ -40,20 +35,17 @@ fn digits(s: &[u8], from: usize, f: Field, value: u16) -> Reached
 {
     let mut i = from;
     let mut v = value;
+    // A while, for where it stops is part of the answer.
     while i < s.len() {
-        let n = more_digits(v, s[i]);
-        if n < 1 {
-            return Reached {
-                at: Control::Digits(f, v),
-                i: i,
-            };
-        }
+        let Some(n) = more_digits(v, s[i]) else {
+            break;
+        };
         v = n;
         i += 1;
     }
     Reached {
         at: Control::Digits(f, v),
-        i: i,
+        i,
     }
 }
 
@@ -61,15 +53,12 @@ fn digits(s: &[u8], from: usize, f: Field, value: u16) -> Reached
 fn number(s: &[u8], i: usize, k: u8) -> Reached
     ensures { Stretch s.now i (Before (ActionNumber k)) result.i result.at }
 {
-    if i < s.len() {
-        let b = s[i];
-        if is_digit(1, b) {
-            return digits(s, i + 1, Field::ActionNumber(k), wide(b - 48));
-        }
+    if i < s.len() && is_digit(1, s[i]) {
+        return digits(s, i + 1, Field::ActionNumber(k), u16::from(s[i] - b'0'));
     }
     Reached {
         at: Control::Before(Field::ActionNumber(k)),
-        i: i,
+        i,
     }
 }
 
@@ -91,7 +80,7 @@ pub(super) fn action(s: &[u8], i: usize) -> Reached
     }
     Reached {
         at: Control::Dot,
-        i: i,
+        i,
     }
 }
 
@@ -102,5 +91,5 @@ pub(super) fn stretch(s: &[u8], i: usize, at: Control) -> Reached
     if let Control::Digits(f, v) = at {
         return digits(s, i, f, v);
     }
-    Reached { at: at, i: i }
+    Reached { at, i }
 }

@@ -9,11 +9,11 @@ use language::{Control, Event, Field, Moved};
 fn byte_of(w: &[u8], i: u8) -> u8
     ensures { result ≡ get_or w.now i 0 }
 {
-    let k = i as usize;
-    if k < w.len() { w[k] } else { 0 }
+    w.get(usize::from(i)).copied().unwrap_or(0)
 }
 
 // A byte of the word of a kind, or 0 past its end.
+#[tactic(auto, unfolding(meaning::specs::Listing::kind_text, table::specs::Base::tab))]
 fn word_byte(k: u8, i: u8) -> u8
     ensures { result ≡ get_or (kind_text k) i 0 }
 {
@@ -26,13 +26,13 @@ fn word_byte(k: u8, i: u8) -> u8
 }
 
 // Where the word of a kind has its last byte.
+#[tactic(auto, unfolding(meaning::specs::Listing::kind_text, table::specs::Base::tab))]
 fn word_last(k: u8) -> u8
     ensures { (result + 1 ≡ length (kind_text k)) × (result < 8) }
 {
     match k {
         1 => 5,
-        2 => 4,
-        3 => 4,
+        2 | 3 => 4,
         _ => 7,
     }
 }
@@ -41,13 +41,12 @@ fn word_last(k: u8) -> u8
 pub(super) fn spelled_by(k: u8, i: u8, d: usize, b: u8) -> Moved
     ensures { result ≡ spelled k i d b }
 {
-    if b == word_byte(k, i) {
-        if i < word_last(k) {
-            Moved::To(Control::Spell(k, i + 1), d, Event::Nothing)
-        } else {
-            Moved::To(Control::Before(Field::ActionNumber(k)), d, Event::Nothing)
-        }
+    if b != word_byte(k, i) {
+        return Moved::Off;
+    }
+    if i < word_last(k) {
+        Moved::To(Control::Spell(k, i + 1), d, Event::Nothing)
     } else {
-        Moved::Off
+        Moved::To(Control::Before(Field::ActionNumber(k)), d, Event::Nothing)
     }
 }

@@ -12,7 +12,7 @@ use Rattle.order.proofs.RowLawsLoaded.{Came, came_start}
 use Rattle.table.specs.Cell.{State, bare_table, cell_of, table_of, put_order}
 use Rattle.table.proofs.CellLaws.{back, sized_bare}
 use Rattle.table.specs.declared.Cell.{Cell}
-use Rattle.meaning.specs.declared.Verdict.TheVariants.{Accepted, Rejected}
+use Rattle.meaning.specs.Answers.{Accepted, Rejected}
 use Rattle.meaning.specs.File.{place_length, is_full, Progress, bare_progress, accepted, refused, load_from, load, loaded, load_of}
 use Rattle.meaning.proofs.FileLaws.{bare_used, load_begun, load_empty}
 

@@ -6,37 +6,25 @@ ghost use Rattle.meaning.specs.File.{two_bytes, four_bytes, keyed_name, place_le
 ghost use Rattle.meaning.specs.File.{place_record, agent_record, action_record, touch_record, record_at};
 
 use meaning::Record;
+use meaning::refusals::{
+    AGENT_TOO_LARGE, CUT_SHORT, GIVEN_TWICE, NAME_ZERO, NOT_YET_GIVEN, PARENT_TOO_LARGE,
+    PLACE_TOO_LARGE, SEVENTEENTH, UNKNOWN_KIND, WRONG_KIND,
+};
 use sets::Set;
 use table::Name;
-
-// A byte as a number of two.
-fn wide(x: u8) -> u16
-    ensures { result ≡ x }
-{
-    x as u16
-}
 
 // A number of two bytes, the low one first.
 pub(super) fn two_bytes(low: u8, high: u8) -> u16
     ensures { result ≡ two_bytes low high }
 {
-    wide(low) + 256 * wide(high)
-}
-
-// A number of two bytes as one of four.
-fn wider(x: u16) -> u32
-    ensures { result ≡ x }
-{
-    x as u32
+    u16::from_le_bytes([low, high])
 }
 
 // A number of four bytes, the lowest first.
 fn four_bytes(lowest: u8, low: u8, high: u8, highest: u8) -> u32
     ensures { result ≡ four_bytes lowest low high highest }
 {
-    let lower = two_bytes(lowest, low);
-    let upper = two_bytes(high, highest);
-    wider(lower) + 65536 * wider(upper)
+    u32::from_le_bytes([lowest, low, high, highest])
 }
 
 // How many bytes a place record of this kind has, its kind among them.
@@ -63,43 +51,35 @@ fn keyed_name(s: &[u8], at: usize) -> Name
     requires { at + 11 ≤ length s.now }
     ensures { result ≡ keyed_name s.now at }
 {
-    let n = two_bytes(s[at + 3], s[at + 4]);
-    let e = two_bytes(s[at + 5], s[at + 6]);
-    let x = two_bytes(s[at + 7], s[at + 8]);
-    let o = two_bytes(s[at + 9], s[at + 10]);
     Name {
-        name: n,
-        entering: e,
-        exiting: x,
-        opening: o,
+        name: two_bytes(s[at + 3], s[at + 4]),
+        entering: two_bytes(s[at + 5], s[at + 6]),
+        exiting: two_bytes(s[at + 7], s[at + 8]),
+        opening: two_bytes(s[at + 9], s[at + 10]),
     }
 }
 
 // A place record's body. taken: its number was given before; known: its parent was.
+#[tactic(auto, unfolding(meaning::specs::File::place_record))]
 fn place_record(taken: bool, known: bool, number: u8, parent: u8, name: Name) -> Record
     ensures { result ≡ place_record taken known number parent name }
 {
-    if number < 1 {
-        return Record::Faulty(3);
+    if number == 0 || number >= 64 {
+        return Record::Faulty(PLACE_TOO_LARGE);
     }
-    if 64 <= number {
-        return Record::Faulty(3);
-    }
-    if 64 <= parent {
-        return Record::Faulty(13);
+    if parent >= 64 {
+        return Record::Faulty(PARENT_TOO_LARGE);
     }
     if taken {
-        return Record::Faulty(4);
+        return Record::Faulty(GIVEN_TWICE);
     }
-    if known {
-        if name.name < 1 {
-            Record::Faulty(6)
-        } else {
-            Record::PlaceRecord(number, parent, name)
-        }
-    } else {
-        Record::Faulty(5)
+    if !known {
+        return Record::Faulty(NOT_YET_GIVEN);
     }
+    if name.name == 0 {
+        return Record::Faulty(NAME_ZERO);
+    }
+    Record::PlaceRecord(number, parent, name)
 }
 
 // The place record that starts at `at` and gives this name. used: the places so far.
@@ -107,79 +87,74 @@ fn place_named(s: &[u8], at: usize, used: Set, name: Name) -> Record
     requires { at + 5 ≤ length s.now }
     ensures { result ≡ place_named used s.now at name }
 {
-    let n = s[at + 1];
-    let p = s[at + 2];
-    let taken = used.has(n);
-    let known = used.has(p);
-    place_record(taken, known, n, p, name)
+    let number = s[at + 1];
+    let parent = s[at + 2];
+    place_record(used.has(number), used.has(parent), number, parent, name)
 }
 
 // An agent record's body. taken: its number was given before; known: its home was.
+#[tactic(auto, unfolding(meaning::specs::File::agent_record))]
 fn agent_record(taken: bool, known: bool, number: u8, home: u8) -> Record
     ensures { result ≡ agent_record taken known number home }
 {
-    if 64 <= number {
-        return Record::Faulty(14);
+    if number >= 64 {
+        return Record::Faulty(AGENT_TOO_LARGE);
     }
-    if 64 <= home {
-        return Record::Faulty(13);
+    if home >= 64 {
+        return Record::Faulty(PARENT_TOO_LARGE);
     }
     if taken {
-        return Record::Faulty(4);
+        return Record::Faulty(GIVEN_TWICE);
     }
-    if known {
-        Record::AgentRecord(number, home)
-    } else {
-        Record::Faulty(5)
+    if !known {
+        return Record::Faulty(NOT_YET_GIVEN);
     }
+    Record::AgentRecord(number, home)
 }
 
 // An action record's body. known: its agent was given before; full: that agent has sixteen actions.
+#[tactic(auto, unfolding(meaning::specs::File::action_record))]
 pub(super) fn action_record(known: bool, full: bool, agent: u8, kind: u8, name: u16) -> Record
     ensures { result ≡ action_record known full agent kind name }
 {
-    if 64 <= agent {
-        return Record::Faulty(14);
+    if agent >= 64 {
+        return Record::Faulty(AGENT_TOO_LARGE);
     }
-    if known {
-        if kind < 1 {
-            return Record::Faulty(7);
-        }
-        if 4 < kind {
-            return Record::Faulty(7);
-        }
-        if name < 1 {
-            return Record::Faulty(6);
-        }
-        if full {
-            Record::Faulty(8)
-        } else {
-            Record::ActionRecord(agent, kind, name)
-        }
-    } else {
-        Record::Faulty(5)
+    if !known {
+        return Record::Faulty(NOT_YET_GIVEN);
     }
+    if kind == 0 || kind > 4 {
+        return Record::Faulty(WRONG_KIND);
+    }
+    if name == 0 {
+        return Record::Faulty(NAME_ZERO);
+    }
+    if full {
+        return Record::Faulty(SEVENTEENTH);
+    }
+    Record::ActionRecord(agent, kind, name)
 }
 
 // A touch record's body. taken: the touches of its place were given before; known: its place was.
+#[tactic(auto, unfolding(meaning::specs::File::touch_record))]
 fn touch_record(taken: bool, known: bool, place: u8, touches: u32) -> Record
     ensures { result ≡ touch_record taken known place touches }
 {
-    if 64 <= place {
-        return Record::Faulty(3);
+    if place >= 64 {
+        return Record::Faulty(PLACE_TOO_LARGE);
     }
     if taken {
-        return Record::Faulty(4);
+        return Record::Faulty(GIVEN_TWICE);
     }
-    if known {
-        Record::TouchRecord(place, touches)
-    } else {
-        Record::Faulty(5)
+    if !known {
+        return Record::Faulty(NOT_YET_GIVEN);
     }
+    Record::TouchRecord(place, touches)
 }
 
 // The record that starts at `at`. used, given: the places and agents so far; full: the agents with sixteen actions;
 // counted: the places whose touches were given.
+#[tactic(auto, unfolding(meaning::specs::File::record_at))]
 pub(super) fn record_at(
     s: &[u8],
     at: usize,
@@ -191,55 +166,27 @@ pub(super) fn record_at(
     requires { at < length s.now }
     ensures { result ≡ record_at (known_by used given full counted) s.now at }
 {
-    let kind = s[at];
     let left = s.len() - at;
-    match kind {
-        1 => {
-            if left < 5 {
-                return Record::Faulty(1);
-            }
-            let w = plain_name(two_bytes(s[at + 3], s[at + 4]));
-            place_named(s, at, used, w)
+    match s[at] {
+        1 if left >= 5 => place_named(s, at, used, plain_name(two_bytes(s[at + 3], s[at + 4]))),
+        6 if left >= 11 => place_named(s, at, used, keyed_name(s, at)),
+        2 if left >= 3 => {
+            let number = s[at + 1];
+            let home = s[at + 2];
+            agent_record(given.has(number), used.has(home), number, home)
         }
-        6 => {
-            if left < 11 {
-                return Record::Faulty(1);
-            }
-            let w = keyed_name(s, at);
-            place_named(s, at, used, w)
-        }
-        2 => {
-            if left < 3 {
-                return Record::Faulty(1);
-            }
-            let n = s[at + 1];
-            let h = s[at + 2];
-            let taken = given.has(n);
-            let known = used.has(h);
-            agent_record(taken, known, n, h)
-        }
-        3 => {
-            if left < 5 {
-                return Record::Faulty(1);
-            }
-            let a = s[at + 1];
-            let k = s[at + 2];
-            let w = two_bytes(s[at + 3], s[at + 4]);
-            let known = given.has(a);
-            let filled = full.has(a);
-            action_record(known, filled, a, k, w)
+        3 if left >= 5 => {
+            let agent = s[at + 1];
+            let name = two_bytes(s[at + 3], s[at + 4]);
+            action_record(given.has(agent), full.has(agent), agent, s[at + 2], name)
         }
         4 => Record::EndRecord,
-        5 => {
-            if left < 6 {
-                return Record::Faulty(1);
-            }
-            let n = s[at + 1];
-            let m = four_bytes(s[at + 2], s[at + 3], s[at + 4], s[at + 5]);
-            let taken = counted.has(n);
-            let known = used.has(n);
-            touch_record(taken, known, n, m)
+        5 if left >= 6 => {
+            let place = s[at + 1];
+            let touches = four_bytes(s[at + 2], s[at + 3], s[at + 4], s[at + 5]);
+            touch_record(counted.has(place), used.has(place), place, touches)
         }
-        _ => Record::Faulty(2),
+        1 | 2 | 3 | 5 | 6 => Record::Faulty(CUT_SHORT),
+        _ => Record::Faulty(UNKNOWN_KIND),
     }
 }

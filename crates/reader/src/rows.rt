@@ -14,25 +14,14 @@ pub(super) struct Reached {
 }
 
 // The record that starts at `at`, where it is an action of agent n, which was given and has room; otherwise the row ends.
+#[tactic(auto, unfolding(crate::specs::ActionRow::own_record))]
 fn own_record(s: &[u8], at: usize, n: u8) -> Record
     ensures { result ≡ own_record s.now at n }
 {
-    if s.len() < at {
+    if s.len().saturating_sub(at) < 5 || s[at] != 3 || s[at + 1] != n {
         return Record::EndRecord;
     }
-    let left = s.len() - at;
-    if left < 5 {
-        return Record::EndRecord;
-    }
-    if s[at] != 3 {
-        return Record::EndRecord;
-    }
-    if s[at + 1] != n {
-        return Record::EndRecord;
-    }
-    let k = s[at + 2];
-    let w = two_bytes(s[at + 3], s[at + 4]);
-    action_record(true, false, n, k, w)
+    action_record(true, false, n, s[at + 2], two_bytes(s[at + 3], s[at + 4]))
 }
 
 // Agent n, so far g, with the actions of its own records from `from` on, as many as follow one another and have room.
@@ -41,16 +30,15 @@ pub(super) fn with_row(s: &[u8], from: usize, n: u8, g: Agent) -> Reached
 {
     let mut a = g;
     let mut at = from;
+    // No count of turns beside it: the agent's own count is how full its row is.
     while a.count < 16 {
-        let r = own_record(s, at, n);
-        let Record::ActionRecord(_, k, w) = r else {
-            return Reached { agent: a, at: at };
+        let Record::ActionRecord(_, kind, name) = own_record(s, at, n) else {
+            break;
         };
-        let j = a.count as usize;
-        a.actions[j] = Action { kind: k, name: w };
-        a.count = a.count + 1;
+        a.actions[a.count as usize] = Action { kind, name };
+        a.count += 1;
         a.stage = 0;
-        at = at + 5;
+        at += 5;
     }
-    Reached { agent: a, at: at }
+    Reached { agent: a, at }
 }

@@ -1,5 +1,5 @@
 -- The report by what the load or the reading answered: a run from the cell, or a refusal. By cases on the load of the file or of the text.
-use Rattle.std.specs.Prelude.{◌≡◌, Bool, true, false, ℕ}
+use Rattle.std.specs.Prelude.{◌≡◌, Bool, true, false, ℕ, Ok, Err}
 use Rattle.std.proofs.Math.Path.{refl, ap, ap₂}
 use Rattle.std.proofs.Common.{sym, ◌∙◌}
 use mathlib.Core.List.{List, ◌++◌}
@@ -7,8 +7,7 @@ use Rattle.table.specs.Base.{tab}
 use Rattle.table.proofs.BaseLaws.{clash}
 use Rattle.table.specs.Cell.{State}
 use Rattle.table.specs.declared.Cell.{Cell}
-use Rattle.meaning.specs.declared.Verdict.{Verdict}
-use Rattle.meaning.specs.declared.Verdict.TheVariants.{Accepted, Rejected}
+use Rattle.meaning.specs.Answers.{Verdict, Accepted, Rejected}
 use Rattle.meaning.specs.declared.Loaded.{Loaded}
 use Rattle.meaning.specs.File.{Load, accepted, refused, load, loaded, load_of}
 use Rattle.meaning.specs.Report.{refused_line, calls_in, report_of, report}
@@ -17,16 +16,16 @@ use Rattle.language.specs.TypedReport.{line_of, pointed, typed_of, typed_report}
 use Rattle.report.specs.Run.{report_from}
 
 is_accepted : Verdict → Bool
-is_accepted Accepted = true
-is_accepted (Rejected number offset) = false
+is_accepted (Ok u) = true
+is_accepted (Err r) = false
 
 number_of : Verdict → ℕ
-number_of Accepted = 0
-number_of (Rejected number offset) = number
+number_of (Ok u) = 0
+number_of (Err r) = r.number
 
 offset_of : Verdict → ℕ
-offset_of Accepted = 0
-offset_of (Rejected number offset) = offset
+offset_of (Ok u) = 0
+offset_of (Err r) = r.offset
 
 -- what an accepted load gives: a cell, from which the report is the run of what was answered
 pub record Given (l : Load) (z : Loaded) (order : List ℕ) : Type 0 where

@@ -12,7 +12,6 @@ ghost use Rattle.meaning.specs.Report.{report as report_of};
 ghost use Rattle.report.specs.Run.{report_from};
 
 use lines::{write_refused, write_step};
-use meaning::Verdict;
 use table::Cell;
 use text::offset;
 pub use typed::write_typed_report;
@@ -26,35 +25,28 @@ fn write_listing_line(word: &[u8], c: Cell, at: usize, buf: &mut [u8]) -> usize
     let i = offset(at, said, buf.len());
     let listed = listing::write_listing(c, said, &mut buf[i..]);
     let j = offset(at, listed, buf.len());
-    text::write_byte(10, listed, &mut buf[j..])
+    text::write_byte(b'\n', listed, &mut buf[j..])
 }
 
 // How many pairs of the order count: 16,384 at most, and an odd last byte is none.
 fn pairs(order: &[u8]) -> usize
     ensures { result ≡ least (length order.now / 2) 16384 }
 {
-    let n = order.len() / 2;
-    text::least(n, 16384)
+    text::least(order.len() / 2, 16384)
 }
 
 // From an accepted cell on: the first line, a line for each call, and the last line.
 fn write_run(c: Cell, order: &[u8], buf: &mut [u8]) -> usize
     ensures { Wrote (report_from c order.now) 0 buf.old buf.new result }
 {
-    let n = pairs(order);
     let mut d = c;
     let mut at = write_listing_line(b"start ", c, 0, buf);
-    let mut i: usize = 0;
-    while i < n {
+    for i in 0..pairs(order) {
         let agent = order[2 * i];
-        let wish = order[2 * i + 1];
-        let s = step::step(d, agent, wish);
-        let answer = s.answer;
-        let next = s.cell;
+        let s = step::step(d, agent, order[2 * i + 1]);
         let k = offset(0, at, buf.len());
-        at = write_step(agent, answer, at, &mut buf[k..]);
-        d = next;
-        i += 1;
+        at = write_step(agent, s.answer, at, &mut buf[k..]);
+        d = s.cell;
     }
     let k = offset(0, at, buf.len());
     write_listing_line(b"end ", d, at, &mut buf[k..])
@@ -64,12 +56,9 @@ fn write_run(c: Cell, order: &[u8], buf: &mut [u8]) -> usize
 pub fn write_report(cell: &[u8], order: &[u8], buf: &mut [u8]) -> usize
     ensures { Wrote (report_of cell.now order.now) 0 buf.old buf.new result }
 {
-    let c = table::bare();
-    let r = reader::load(c, cell);
-    let v = r.verdict;
-    let d = r.cell;
-    match v {
-        Verdict::Accepted => write_run(d, order, buf),
-        Verdict::Rejected(number, place) => write_refused(number, place, 0, buf),
+    let r = reader::load(table::bare(), cell);
+    match r.verdict {
+        Ok(()) => write_run(r.cell, order, buf),
+        Err(r) => write_refused(r.number, r.offset, 0, buf),
     }
 }

@@ -2,40 +2,38 @@
 ghost use Rattle.std.specs.Prelude.{◌≡◌, ◌++◌, map, replicate};
 ghost use Rattle.text.specs.Wrote.{Wrote, Placed};
 ghost use Rattle.meaning.specs.Report.{refused_line};
-ghost use Rattle.language.specs.TypedReport.{line_length, shown, shown_from, window, caret_line, pointed, typed_report};
+ghost use Rattle.language.specs.TypedReport.{line_of, shown, shown_from, window, caret_line, pointed, typed_report};
 
 use crate::write_run;
 use lines::write_refused;
-use meaning::Verdict;
 use text::{least, offset};
 
-// How many bytes of a file are its line: all but a last byte 10, and a byte 13 before that.
-fn line_length(file: &[u8]) -> usize
-    ensures { result ≡ line_length file.now }
+// The longest part of a text that is shown, and how many bytes of it stand before the caret.
+const MOST_SHOWN: usize = 72;
+
+const SHOWN_BEFORE: usize = 40;
+
+// The line of a file: all but a last byte 10, and a byte 13 before that.
+fn line_of(file: &[u8]) -> &[u8]
+    ensures { result.now ≡ line_of file.now }
 {
-    let n = file.len();
-    if n == 0 {
-        return 0;
+    match file {
+        [line @ .., b'\n'] => match line {
+            [line @ .., b'\r'] => line,
+            _ => line,
+        },
+        _ => file,
     }
-    if file[n - 1] != 10 {
-        return n;
-    }
-    if n == 1 {
-        return 0;
-    }
-    if file[n - 2] == 13 { n - 2 } else { n - 1 }
 }
 
 // A byte as it is shown.
+#[tactic(auto, unfolding(language::specs::TypedReport::shown))]
 fn shown_byte(b: u8) -> u8
     ensures { result ≡ shown b }
 {
-    if b < 32 {
-        b'?'
-    } else if b <= 126 {
-        b
-    } else {
-        b'?'
+    match b {
+        b' '..=b'~' => b,
+        _ => b'?',
     }
 }
 
@@ -43,11 +41,8 @@ fn shown_byte(b: u8) -> u8
 fn write_shown(t: &[u8], at: usize, buf: &mut [u8]) -> usize
     ensures { Wrote (map shown t.now) at buf.old buf.new result }
 {
-    let n = least(t.len(), buf.len());
-    let mut i: usize = 0;
-    while i < n {
+    for i in 0..least(t.len(), buf.len()) {
         buf[i] = shown_byte(t[i]);
-        i += 1;
     }
     text::plus(at, t.len())
 }
@@ -56,11 +51,8 @@ fn write_shown(t: &[u8], at: usize, buf: &mut [u8]) -> usize
 fn write_blanks(count: usize, at: usize, buf: &mut [u8]) -> usize
     ensures { Wrote (replicate count 32) at buf.old buf.new result }
 {
-    let n = least(count, buf.len());
-    let mut i: usize = 0;
-    while i < n {
+    for i in 0..least(count, buf.len()) {
         buf[i] = b' ';
-        i += 1;
     }
     text::plus(at, count)
 }
@@ -76,15 +68,14 @@ fn write_caret(before: usize, at: usize, buf: &mut [u8]) -> usize
 }
 
 // The first byte that is shown of a text with so many bytes.
+#[tactic(auto, unfolding(language::specs::TypedReport::shown_from))]
 fn shown_from(size: usize, place: usize) -> usize
     ensures { result ≡ shown_from size place }
 {
-    if size <= 72 {
-        0
-    } else if place < 40 {
+    if size <= MOST_SHOWN {
         0
     } else {
-        place - 40
+        place.saturating_sub(SHOWN_BEFORE)
     }
 }
 
@@ -94,8 +85,9 @@ fn write_window(line: &[u8], place: usize, at: usize, buf: &mut [u8]) -> usize
 {
     let from = shown_from(line.len(), place);
     let i = least(from, line.len());
-    let k = i + least(line.len() - i, 72);
-    write_shown(&line[i..k], at, buf)
+    let rest = &line[i..];
+    let m = least(rest.len(), MOST_SHOWN);
+    write_shown(&rest[..m], at, buf)
 }
 
 // The text in a line of its own, and the caret's line under it.
@@ -105,7 +97,7 @@ fn write_pointed(line: &[u8], place: usize, at: usize, buf: &mut [u8]) -> usize
 {
     let mid = write_window(line, place, at, buf);
     let i = offset(at, mid, buf.len());
-    let end = text::write_byte(10, mid, &mut buf[i..]);
+    let end = text::write_byte(b'\n', mid, &mut buf[i..]);
     let j = offset(at, end, buf.len());
     let from = shown_from(line.len(), place);
     write_caret(place - from, end, &mut buf[j..])
@@ -124,13 +116,10 @@ fn write_refused_text(line: &[u8], number: u8, place: usize, buf: &mut [u8]) -> 
 pub fn write_typed_report(file: &[u8], order: &[u8], buf: &mut [u8]) -> usize
     ensures { Wrote (typed_report file.now order.now) 0 buf.old buf.new result }
 {
-    let n = line_length(file);
-    let c = table::bare();
-    let r = parser::read(c, &file[..n]);
-    let v = r.verdict;
-    let d = r.cell;
-    match v {
-        Verdict::Accepted => write_run(d, order, buf),
-        Verdict::Rejected(number, place) => write_refused_text(&file[..n], number, place, buf),
+    let line = line_of(file);
+    let r = parser::read(table::bare(), line);
+    match r.verdict {
+        Ok(()) => write_run(r.cell, order, buf),
+        Err(r) => write_refused_text(line, r.number, r.offset, buf),
     }
 }

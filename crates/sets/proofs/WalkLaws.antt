@@ -1,6 +1,6 @@
 -- A loop that takes the members of a set in order, lowest first, until none is left. Assumes nothing.
 -- Idea: what is left are the members from some number i on; between i and the lowest that is left there is no member.
-use Rattle.std.specs.Prelude.{◌≡◌, refl, ◌⊎◌, Bool, true, false, not, ◌&&◌, cond, ℕ, zero, suc, ◌+◌, ◌*◌, ◌-◌, ◌/◌, ◌%◌, ◌^◌, ◌≤◌, ◌<◌, eqb, leb}
+use Rattle.std.specs.Prelude.{◌≡◌, refl, ◌⊎◌, Bool, true, false, not, ◌&&◌, cond, ℕ, zero, suc, ◌+◌, ◌*◌, ◌-◌, ◌/◌, ◌%◌, ◌^◌, ◌≤◌, ◌<◌, eqb, leb, Some}
 use Rattle.std.proofs.Common.{sym, ap, ap₂, ◌∙◌, subst, inl, inr, zero-le, le_of_suc-le-suc, not-suc-le-zero, pow-suc, lt_of_le_of_lt, arith, lit<, eq-eqb, ne_eqb, le-leb, leb-true}
 use Rattle.std.proofs.lemmas.Bool.{false≢true, lt-leb}
 use Rattle.std.proofs.Math.Dec.{eqb-zero-suc, eqb-suc-zero, eqb-suc-suc}
@@ -12,7 +12,7 @@ use Rattle.sets.proofs.WordLaws.{two_cases, has_zero, has_suc, has_none, same_wo
 use Rattle.sets.specs.Set.{member, removed}
 use Rattle.sets.proofs.SetLaws.{order, member_removed, removed_none}
 use Rattle.sets.specs.declared.Set.{Set}
-use Rattle.sets.specs.Walk.{lowest_in, Rest}
+use Rattle.sets.specs.Walk.{lowest_in, Rest, TakesLowest}
 
 -- ---- the lowest member
 
@@ -168,3 +168,42 @@ module _ {g : ℕ → Bool} {i : ℕ} {s : Set} (r : Rest g i s) where
         at j l (inl d) = rw (ne_eqb j m (λ e. omega arith), lt-leb (m + 1) j (omega arith)) (lowest_below 64 (member s) j d)
         at j l (inr (inl e)) = rw (eq-eqb j m e, lt-leb (m + 1) j (omega arith))
         at j l (inr (inr d)) = let f = rest_from in rw (ne_eqb j m (λ e. omega arith), le-leb (m + 1) j (omega arith)) (r.left j l ∙ ap (λ (b : Bool). b && g j) (le-leb i j (omega arith)))
+
+-- ---- a turn of a `for` over a set
+
+-- the member that a turn takes, and what it leaves: the lowest member is taken, and any walk over the members of g goes on past it
+pub record Turn (s : Set) (i : ℕ) (t : Set) : Type 0 where
+  pub some : 0 < s.bits
+  pub lowest : i ≡ lowest_in s
+  pub left : t ≡ removed s (lowest_in s)
+  pub below : i < 64
+  pub taken : member s i ≡ true
+
+pub turn_of : {s : Set} {i : ℕ} {t : Set} → s.bits < 2 ^ 64 → TakesLowest s (Some i) t → Turn s i t
+turn_of {s} {i} {t} h (k, (e, f)) = record {
+  some = k;
+  lowest = e;
+  left = f ∙ ap (removed s) e;
+  below = subst (λ (x : ℕ). x < 64) (sym e) (lowest_lt 64 s.bits h k);
+  taken = ap (member s) e ∙ lowest_found 64 (member s) (lowest_lt 64 s.bits h k);
+}
+
+-- what was taken is a member, at or past i; those before it are none
+module _ {g : ℕ → Bool} {i : ℕ} {s : Set} (r : Rest g i s) {j : ℕ} {t : Set} (step : TakesLowest s (Some j) t) where
+  turn : Turn s j t
+  turn = turn_of r.small step
+
+  pub turn_below : j < 64
+  turn_below = turn.below
+
+  pub turn_member : g j ≡ true
+  turn_member = ap g turn.lowest ∙ rest_member r turn.some
+
+  pub turn_from : i ≤ j
+  turn_from = subst (λ (x : ℕ). i ≤ x) (sym turn.lowest) (rest_from r turn.some)
+
+  pub turn_skip : (m : ℕ) → i ≤ m → m < j → g m ≡ false
+  turn_skip m h l = rest_skip r turn.some m h (subst (λ (x : ℕ). m < x) turn.lowest l)
+
+  pub turn_more : Rest g (j + 1) t
+  turn_more = subst (λ (u : Set). Rest g (j + 1) u) (sym turn.left) (subst (λ (x : ℕ). Rest g (x + 1) (removed s (lowest_in s))) (sym turn.lowest) (rest_more r turn.some))

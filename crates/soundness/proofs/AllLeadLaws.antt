@@ -36,10 +36,6 @@ module _ (up : List ℕ) (used : Set) where
       go q l (yea t) = rw t (eq-eqb (iter f 64 q) 0 (h q l t))
       go q l (nay t) = rw t
 
-  -- all places in use are known
-  pub all_known : (known : Set) → Ways up known → known.bits ≡ used.bits → true ≡ all_lead (above up) used
-  all_known known w e = all_led (λ q l t. known_leads known w q (ap (λ (n : ℕ). has n q) e ∙ t))
-
 -- ---- turn by turn
 
 module _ (up : List ℕ) (known begun : Set) where
@@ -56,9 +52,6 @@ module _ (up : List ℕ) (known begun : Set) where
   module _ (all rest : Set) (o : Remains all rest) (b : rest.bits < 2 ^ 64) (k : 0 < rest.bits) where
     abbrev q : ℕ
     q = lowest_in rest
-
-    pub remains_small : lowest_in rest < 64
-    remains_small = lowest_lt 64 rest.bits b k
 
     module _ (more : Set) (m : Followed up all (lowest_in rest) more) where
       pub remains_more : member more (lowest_in rest) ≡ true → Remains more (removed rest (lowest_in rest))

@@ -20,7 +20,7 @@ use Rattle.table.proofs.BaseLaws.{Told, yea, nay, told, and_left, and_right, con
 use Rattle.table.proofs.TestLaws.{Tested, tested_start, tested_end, tested_stop, tested_more}
 use Rattle.table.proofs.SweepLaws.{below, sweep_start, sweep_hit, sweep_skip, sweep_end}
 use Rattle.table.specs.Cell.{none, no_place}
-use Rattle.soundness.specs.Climb.{floor_alone}
+use Rattle.soundness.specs.Lead.{floor_alone}
 use Rattle.soundness.specs.Lead.{above, Leading, Ways}
 use Rattle.soundness.proofs.LeadLaws.{iter_stays, inserted_is, inserted_keeps, leading_more}
 use Rattle.soundness.specs.Pass.{child, parents_of, all_lead, child_fits, child_stands, child_test, child_at, children_fit}

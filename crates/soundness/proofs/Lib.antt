@@ -6,6 +6,6 @@ pub mod AllLeadLaws
 pub mod LandLaws
 pub mod SoundLaws
 pub mod LeftLaws
-pub mod TurnLaws
 pub mod StageLaws
 pub mod ClimbLaws
+pub mod TurnLaws

@@ -18,7 +18,6 @@ use Rattle.table.specs.Base.{all_below, any_below, count_below}
 use Rattle.table.proofs.BaseLaws.{Told, yea, nay, told, and_left, and_right, all_at, any_rest, count_rest, count_le}
 use Rattle.table.proofs.TestLaws.{Tested, tested_start, tested_end, tested_stop, tested_more}
 use Rattle.table.specs.Cell.{none, no_agent, State, cell_of}
-use Rattle.lent.proofs.Words.{Words}
 use Rattle.table.specs.Sound.{first_held, second_held_in, agent_fits, agent_sound, going_from, claims, goes, stands, travellers_fit, place_fits, place_sound, leads, core_sound}
 use Rattle.soundness.specs.Pass.{quiet}
 use Rattle.soundness.proofs.AgentLaws.{quiet_first, quiet_second, quiet_from, from_home}
@@ -38,16 +37,16 @@ pub passed_are : (c : Cell) {claimed claimed' going going' rest rest' : Set} →
 passed_are c {claimed} {claimed'} {going} {going'} {rest} {rest'} e f g p =
     subst (λ (s : Set). Passed c s going rest) (sym e) (subst (λ (s : Set). Passed c claimed' s rest) (sym f) (subst (λ (s : Set). Passed c claimed' going' s) (sym g) p))
 
-pub passed_start : (c : Cell) → Words c → Passed c empty_set empty_set c.given
+pub passed_start : (c : Cell) → c.given.bits < 2 ^ 64 → Passed c empty_set empty_set c.given
 unfolding any_below count_below
-passed_start c z = record {
-  tested = tested_start (has c.given.bits) (agent_sound (cell_of c)) c.given (rest_start c.given z.given);
+passed_start c b = record {
+  tested = tested_start (has c.given.bits) (agent_sound (cell_of c)) c.given (rest_start c.given b);
   held = λ q l. has_none q;
   moved = λ q l. ap bit (has_none q);
   small = lit< tt;
 }
 
-module _ (c : Cell) (z : Words c) (claimed going rest : Set) (p : Passed c claimed going rest) where
+module _ (c : Cell) (claimed going rest : Set) (p : Passed c claimed going rest) where
   abbrev w : State
   w = cell_of c
 

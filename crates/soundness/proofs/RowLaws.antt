@@ -1,6 +1,6 @@
 -- An agent's row of actions, read from the next one to the last. Assumes nothing.
 -- Idea: before next and from count on nothing is asked of an action.
-use Rattle.std.specs.Prelude.{◌≡◌, Bool, ◌&&◌, ℕ, ◌+◌, ◌≤◌, ◌<◌, ltb, get_or}
+use Rattle.std.specs.Prelude.{◌≡◌, Bool, ◌&&◌, ℕ, ◌+◌, ◌≤◌, ◌<◌, ltb, get_or, None, Some}
 use Rattle.std.proofs.Math.Path.{refl, sym}
 use Rattle.std.proofs.Common.{ap, ◌∙◌, le_trans, arith}
 use Rattle.std.proofs.Math.Bool.{true, false, cond}
@@ -8,6 +8,7 @@ use borrow.Author.Tests.{lt-ltb, le-ltb, le-leb, lt-leb}
 use Rattle.table.specs.Base.{all_below}
 use Rattle.table.proofs.BaseLaws.{all_yes, all_no, all_at, all_more, all_rest}
 use Rattle.soundness.specs.Pass.{sixteen_fit}
+use Rattle.soundness.specs.Turn.{row_kind}
 use Rattle.table.specs.Cell.{no_action, next_action, kind_of}
 use Rattle.table.specs.Sound.{action_fits, action_at, actions_fit}
 use Rattle.table.specs.declared.Action.{Action}
@@ -71,3 +72,30 @@ module _ (a : Agent) (n : a.next ≤ a.count) (m : a.count ≤ 16) where
 
       fits : (j : ℕ) → action_fits (get_or a.actions j no_action) ≡ true → action_at a j ≡ true
       fits j h = ap (λ (b : Bool). cond (ltb j a.next) true (cond (ltb j a.count) b true)) h ∙ both (ltb j a.next) (ltb j a.count)
+
+-- ---- what is answered
+
+pub kind_told : (a : Agent) (n : ℕ) → true ≡ actions_fit a → n ≡ kind_of a → Some n ≡ row_kind a
+kind_told a n e k = rw (← e) (ap Some k)
+
+pub kind_untold : (a : Agent) → false ≡ actions_fit a → None ≡ row_kind a
+kind_untold a e = rw (← e)
+
+-- the kind is told just of a row in range
+module _ (a : Agent) where
+  go_some : (b : Bool) (n k : ℕ) → Some n ≡ cond b (Some k) None → (b ≡ true) × (n ≡ k)
+  go_some true n k e = (refl, (cc))
+  go_some false n k e = absurd (cc)
+
+  go_none : (b : Bool) (k : ℕ) → None ≡ cond b (Some k) None → b ≡ false
+  go_none true k e = absurd (cc)
+  go_none false k e = refl
+
+  pub told_fits : (n : ℕ) → Some n ≡ row_kind a → actions_fit a ≡ true
+  told_fits n e = (go_some (actions_fit a) n (kind_of a) e).0
+
+  pub told_kind : (n : ℕ) → Some n ≡ row_kind a → n ≡ kind_of a
+  told_kind n e = (go_some (actions_fit a) n (kind_of a) e).1
+
+  pub told_out : None ≡ row_kind a → actions_fit a ≡ false
+  told_out e = go_none (actions_fit a) (kind_of a) e

@@ -1,6 +1,6 @@
 -- The program's test of the places, after its walk over the agents, is soundness. Assumes nothing.
 -- Idea: place by place the two tests are equal.
-use Rattle.std.specs.Prelude.{◌≡◌, ◌≢◌, Bool, false, ◌||◌, cond, List, ℕ, ◌<◌, get_or}
+use Rattle.std.specs.Prelude.{◌≡◌, ◌≢◌, Bool, false, ◌||◌, cond, ℕ, ◌<◌, get_or}
 use Rattle.std.proofs.Math.Path.{refl, sym, ap, ap₂}
 use Rattle.std.proofs.Common.{◌∙◌, arith, eqb-true, ne_eqb}
 use Rattle.std.proofs.Math.Bool.{true, not, ◌&&◌}
@@ -12,7 +12,6 @@ use Rattle.sets.specs.declared.Set.{Set}
 use Rattle.table.specs.Base.{all_below, any_below, count_below}
 use Rattle.table.proofs.BaseLaws.{Told, yea, nay, told, and_left, and_right, and_cong, cond_cong, same_test, all_at, all_yes}
 use Rattle.table.specs.Cell.{none, no_place, State, cell_of}
-use Rattle.lent.proofs.Words.{Words}
 use Rattle.table.specs.Sound.{claims, goes, nameless, place_fits, place_sound, leads, core_sound}
 use Rattle.soundness.specs.Pass.{all_lead, floor_stands, floor_fits, floor_sound, child_stands, child_fits, child_test, child_at, children_fit, lands_fit}
 use Rattle.soundness.proofs.PassLaws.{Passed, passed_fit, passed_held, passed_moved}
@@ -52,13 +51,7 @@ all_first P Q n l z h = same_test (Q 0 && all_below P n) (all_below Q n)
 
 -- ---- places
 
--- where the floor is not as it should be the whole is not, and where it is the other places decide
-pub floor_decides : (ps : List Place) (ls : List ℕ) (used claimed going : Set) (b : Bool)
-    → floor_sound (get_or ps 0 no_place) (get_or ls 0 0) used claimed going ≡ b → (b && children_fit ps ls used claimed going) ≡ lands_fit ps ls used claimed going
-unfolding lands_fit
-floor_decides ps ls used claimed going b e = sym (ap (λ (y : Bool). y && children_fit ps ls used claimed going) e)
-
-module _ (c : Cell) (z : Words c) where
+module _ (c : Cell) where
   abbrev u : ℕ → Bool
   u = has c.used.bits
 
@@ -99,10 +92,10 @@ module _ (c : Cell) (z : Words c) where
   pub lands_same : (claimed going rest : Set) → Passed c claimed going rest → rest.bits ≡ 0 → lands_fit c.places c.locks c.used claimed going ≡ core_sound (cell_of c)
   unfolding lands_fit floor_sound children_fit all_lead core_sound cell_of
   lands_same claimed going rest p e =
-      let held = passed_held c z claimed going rest p e in
-      let moved = passed_moved c z claimed going rest p e in
+      let held = passed_held c claimed going rest p e in
+      let moved = passed_moved c claimed going rest p e in
       sym (and_assoc (u 0) (floor_fits (place 0) (get_or c.locks 0 0) (member claimed 0) (member going 0)) (children_fit c.places c.locks c.used claimed going))
       ∙ and_cong (u 0) _ _ (λ f.
       and_assoc (floor_fits (place 0) (get_or c.locks 0 0) (member claimed 0) (member going 0)) (all_below (child_at c.places c.locks c.used claimed going) 64) (all_lead (λ q. (get_or c.places q no_place).parent) c.used)
       ∙ ap (λ (b : Bool). b && all_lead (λ q. (get_or c.places q no_place).parent) c.used) (places_same claimed going held moved f)
-      ∙ sym (ap (λ (b : Bool). b && (all_below (place_sound w) 64 && all_below (leads w) 64)) (passed_fit c z claimed going rest p e)))
+      ∙ sym (ap (λ (b : Bool). b && (all_below (place_sound w) 64 && all_below (leads w) 64)) (passed_fit c claimed going rest p e)))

@@ -24,3 +24,7 @@ pub record Followed (up : List ℕ) (known : Set) (q : ℕ) (more : Set) : Type 
   pub leading : Leading (above up) more
   pub kept : (j : ℕ) → j < 64 → member known j ≡ true → member more j ≡ true
   pub lost : member more q ≡ false → (n : ℕ) → iter (above up) n q ≢ 0
+
+-- the floor alone
+abbrev pub floor_alone : Set
+floor_alone = record { bits = 1 }

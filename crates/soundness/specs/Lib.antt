@@ -3,4 +3,3 @@ pub mod Lead
 pub mod Seen
 pub mod Left
 pub mod Turn
-pub mod Climb

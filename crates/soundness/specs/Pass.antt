@@ -1,5 +1,5 @@
 -- The soundness test as the program goes about it: numbers are read masked by 64, whatever they are, and tested for use beside.
-use Rattle.std.specs.Prelude.{ℕ, ◌≡◌, Bool, true, false, not, ◌&&◌, ◌||◌, cond, List, leb, eqb, get_or}
+use Rattle.std.specs.Prelude.{ℕ, Bool, true, false, not, ◌&&◌, ◌||◌, cond, List, leb, eqb, get_or}
 use Rattle.sets.specs.Set.{member}
 use Rattle.sets.specs.declared.Set.{Set}
 use Rattle.table.specs.Base.{all_below, tab, iter}
@@ -10,10 +10,6 @@ use Rattle.table.specs.declared.Agent.{Agent}
 use Rattle.table.specs.declared.Place.{Place}
 
 -- ---- one agent
-
--- what was read is what it should be, where the actions are in range
-abbrev pub Known : Bool → ℕ → ℕ → Type 0
-Known fit m n = fit ≡ true → m ≡ n
 
 -- all sixteen actions of a row are in range
 unfoldable pub sixteen_fit : List Action → Bool

@@ -7,34 +7,18 @@ use sets::Set;
 // The largest sum of touches in a sound table.
 const MOST: u64 = 1000000000000;
 
-// Whether the touches sum to at most that, and how many more may come.
-#[derive(Clone, Copy)]
-pub struct Left {
-    pub fits: bool,
-    pub room: u64,
-}
-
-// What is left for touches beside those of the places in use.
-pub fn touches_left(ts: &[u64; 64], used: Set) -> Left
+// How many touches may still come beside those of the places in use; none where these pass the bound.
+pub fn touches_left(ts: &[u64; 64], used: Set) -> Option<u64>
     ensures { result ≡ left_of ts.now used }
 {
     let mut left = MOST;
-    let mut rest = used;
-    while rest.bits != 0 {
-        let q = rest.first();
-        rest = rest.rest();
-        let k = q as usize;
-        let n = ts[k];
+    for q in used {
+        // checked_sub was tried, and is slower: five instructions more a place.
+        let n = ts[q as usize];
         if n > left {
-            return Left {
-                fits: false,
-                room: 0,
-            };
+            return None;
         }
         left -= n;
     }
-    Left {
-        fits: true,
-        room: left,
-    }
+    Some(left)
 }

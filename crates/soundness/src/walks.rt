@@ -2,92 +2,96 @@
 ghost use Rattle.std.specs.Prelude.{◌≡◌};
 ghost use Rattle.table.specs.Cell.{cell_of};
 ghost use Rattle.table.specs.Sound.{sound};
+ghost use Rattle.soundness.specs.Pass.{lands_fit};
 ghost use Rattle.soundness.specs.Seen.{seen_of};
-ghost use Rattle.soundness.specs.Turn.{Walked, core, tell_of};
+ghost use Rattle.soundness.specs.Turn.{Walked};
 
 use super::sound::Seen;
-use super::touches::{Left, touches_left};
-use super::turns::Walk;
-use super::{books, lands, turns};
+use super::touches::touches_left;
+use super::turns::{Busy, Held};
+use super::{agents, lands};
 use table::{Cell, at};
 
-// What all agents say together.
-fn agents_seen(cell: &Cell) -> Walk
+// What all agents hold together; none where one of them does not fit.
+fn agents_seen(cell: &Cell) -> Option<Held>
     ensures { Walked cell.now result }
 {
-    let mut w = turns::start(cell.used, cell.given);
-    while w.at < 64 {
-        let k = w.at as usize;
-        let a = cell.agents[k];
-        let g = turns::glance(w, a);
-        if g.busy {
-            let hk = g.home;
-            let home = cell.places[hk];
-            let ck = g.chosen;
-            let chosen = cell.places[ck];
-            let fk = g.first;
-            let first = cell.locks[fk];
-            let sk = turns::second(a, g.kind, home);
-            let second = cell.locks[sk];
-            let v = turns::busy(w, a, g.kind, home, chosen, first, second);
-            w = v;
+    let mut held = Held::NOTHING;
+    for i in cell.given {
+        let agent = cell.agents[i as usize];
+        if !cell.used.has(agent.home) {
+            return None;
+        }
+        let kind = agents::row_of(agent)?;
+        if agents::is_quiet(agent.stage) {
+            if !agents::quiet_fits(agent, cell.used.has(agent.remembered), kind) {
+                return None;
+            }
         } else {
-            let v = turns::passed(w, g.fit);
-            w = v;
+            let home = cell.places[at(agent.home)];
+            let first = agents::first_held(agent);
+            let second = agents::second_held(agent, kind, home.parent);
+            let busy = Busy {
+                number: i,
+                agent,
+                kind,
+                used: cell.used,
+                home,
+                chosen: cell.places[at(agent.chosen)],
+                first_lock: cell.locks[at(first)],
+                second_lock: cell.locks[at(second)],
+            };
+            held = busy.adds(held)?;
         }
     }
-    w
+    Some(held)
 }
 
-// What all places say together, after the agents.
-fn places_seen(cell: &Cell, w: Walk) -> bool
-    ensures { result ≡ core cell.now w }
+// Whether all places are as they should be, beside what the agents hold.
+fn places_seen(cell: &Cell, held: Held) -> bool
+    ensures { result ≡ lands_fit cell.now.places cell.now.locks cell.now.used held.claimed held.going }
 {
-    let floor = cell.places[0];
-    let floor_lock = cell.locks[0];
+    if !lands::floor_sound(cell.places[0], cell.locks[0], cell.used, held) {
+        return false;
+    }
     let mut up: [u8; 64] = [0; 64];
-    let mut l = lands::floored(w, cell.used, floor, floor_lock);
-    while l.at < 64 {
-        let k = l.at as usize;
-        let x = cell.places[k];
-        let lock = cell.locks[k];
-        let v = lands::placed(l, x, lock);
-        up[k] = x.parent;
-        l = v;
+    let mut known = lands::FLOOR;
+    for q in cell.used.remove(0) {
+        let x = cell.places[q as usize];
+        let lock = cell.locks[q as usize];
+        if !lands::child_fits(
+            x,
+            lock,
+            cell.used.has(x.parent),
+            held.claimed.has(q),
+            held.going.has(q),
+        ) {
+            return false;
+        }
+        known = known.insert_if(q, known.has(x.parent));
+        up[q as usize] = x.parent;
     }
-    lands::led(l, up)
-}
-
-// Whether the table is sound, after its agents, its places and its touches.
-fn tell(fit: bool, left: Left, row: [u8; 64]) -> bool
-    ensures { result ≡ tell_of fit left row }
-{
-    if fit {
-        books::books_fit(left.fits, row)
-    } else {
-        false
-    }
+    lands::all_lead(&up, cell.used, known)
 }
 
 // Whether a lent cell is sound.
 pub fn sound_lent(cell: &Cell) -> bool
     ensures { result ≡ sound (cell_of cell.now) }
 {
-    let w = agents_seen(cell);
-    let fit = places_seen(cell, w);
-    let left = touches_left(&cell.touches, cell.used);
-    tell(fit, left, cell.order)
+    let Some(held) = agents_seen(cell) else {
+        return false;
+    };
+    places_seen(cell, held)
+        && touches_left(&cell.touches, cell.used).is_some()
+        && order::is_row(cell.order)
 }
 
 // What a call for this agent sees of a lent cell; past 63 agents are numbered from 0 again.
 pub fn see_lent(cell: &Cell, agent: u8) -> Seen
     ensures { result ≡ seen_of cell.now agent }
 {
-    let s = sound_lent(cell);
-    let own = at(agent);
-    let mine = cell.agents[own];
     Seen {
-        sound: s,
-        agent: mine,
+        sound: sound_lent(cell),
+        agent: cell.agents[at(agent)],
     }
 }

@@ -1,18 +1,20 @@
 -- The children of a place by a key, and the walk that takes out those that something is on its way to. Assumes nothing.
 -- Idea: a place that is not in use is on its way nowhere, so what holds below one place in use holds up to the next.
-use Rattle.std.specs.Prelude.{◌≡◌, ◌≢◌, ◌⊎◌, Bool, ◌&&◌, ◌||◌, cond, eqb}
+use Rattle.std.specs.Prelude.{◌≡◌, ◌≢◌, ◌⊎◌, Bool, ◌&&◌, ◌||◌, cond, eqb, List, get_or, Some}
 use Rattle.std.proofs.Math.Path.{refl, sym, ap}
-use Rattle.std.proofs.Common.{ap₂, ◌∙◌, inl, inr, arith, add-one, eq-eqb, ne_eqb}
+use Rattle.std.proofs.Common.{ap₂, subst, ◌∙◌, inl, inr, arith, add-one, eq-eqb, ne_eqb}
 use Rattle.std.proofs.Math.Bool.{true, false, not}
 use Prim.Native.Nat.{ℕ, ◌+◌, ◌^◌, ◌<◌}
-use Rattle.sets.specs.Set.{member, set_of, removed}
+use Rattle.sets.specs.Set.{member, set_of, inserted_if, removed}
 use Rattle.sets.proofs.SetLaws.{set_ext, member_set, set_member}
-use Rattle.sets.proofs.WalkLaws.{rest_end, rest_member, rest_from, rest_skip, rest_more}
-use Rattle.sets.specs.Walk.{Rest, lowest_in}
+use Rattle.sets.proofs.WalkLaws.{rest_end, rest_member, rest_from, rest_skip, rest_more, Turn, turn_of}
+use Rattle.sets.specs.Walk.{Rest, lowest_in, TakesLowest}
 use Rattle.sets.specs.declared.Set.{Set}
 use Rattle.table.specs.Base.{any_below}
 use Rattle.table.proofs.BaseLaws.{eq?, any_rest}
-use Rattle.table.specs.Cell.{Land, linked_to, travels}
+use Rattle.table.specs.Cell.{Land, no_place, key_of, linked_to, travels}
+use Rattle.table.specs.declared.Place.{Place}
+use Rattle.updates.proofs.GatherLaws.{Gathered, gathered_more}
 use Rattle.meaning.specs.Step.{on_way_to, awaited, named}
 use Rattle.stages.specs.Changes.{child_named}
 
@@ -27,6 +29,18 @@ child_split kind l p n = set_ext _ _ (λ q _. go (l.used q) (eqb (l.place q).way
     go : (u v w : Bool) → (u && (v && w)) ≡ ((u && v) && w)
     go true v w = refl
     go false v w = refl
+
+-- place q stands in p, and n is its key for this kind
+abbrev pub named_child : List Place → ℕ → ℕ → ℕ → ℕ → Bool
+named_child ps kind p n q = eqb (get_or ps q no_place).way 0 && eqb (get_or ps q no_place).parent p && eqb (key_of kind (get_or ps q no_place).name) n
+
+-- a turn of a `for` that gathers, which takes j
+pub gathered_turn : {g h : ℕ → Bool} {found rest others : Set} {j : ℕ} → Gathered g h found rest → TakesLowest rest (Some j) others → (b : Bool) → b ≡ h j
+    → Gathered g h (inserted_if found j b) others
+gathered_turn {g} {h} {found} {rest} {others} {j} a step b e =
+    let t : Turn rest j others = turn_of a.left.small step in
+    subst (Gathered g h (inserted_if found j b)) (sym t.left)
+    (subst (λ (i : ℕ). Gathered g h (inserted_if found i b) (removed rest (lowest_in rest))) (sym t.lowest) (gathered_more a t.some b (e ∙ ap h t.lowest)))
 
 -- ---- taking out
 
@@ -97,3 +111,11 @@ module _ (l : Land) (among : Set) where
         at q b = ap₂ (λ (x : ℕ) (y : Bool). not (eqb q x) && y) e
             (ap (λ (z : Set). member z q) a.got ∙ member_set _ q b ∙ ap (λ (y : Bool). member among q && not y) (before q))
             ∙ go q b away (member among q) (any_below (on_way_to l q) m) ∙ sym (ap (λ (y : Bool). member among q && not y) (next q))
+
+    -- a turn of a `for`, which takes j
+    pub unmet_turn : {others : Set} {j : ℕ} → TakesLowest rest (Some j) others → (d : ℕ)
+        → d ≡ cond (not (eqb j 0) && not (eqb (l.place j).way 0)) (l.place j).parent 64 → Unmet (removed s d) others
+    unmet_turn {others} {j} step d e =
+        let t : Turn rest j others = turn_of a.left.small step in
+        subst (Unmet (removed s d)) (sym t.left)
+        (unmet_more t.some d (e ∙ ap (λ (i : ℕ). cond (not (eqb i 0) && not (eqb (l.place i).way 0)) (l.place i).parent 64) t.lowest))

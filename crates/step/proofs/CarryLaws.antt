@@ -20,8 +20,7 @@ use Rattle.table.specs.declared.Agent.{Agent}
 use Rattle.table.specs.declared.Cell.{Cell}
 use Rattle.meaning.specs.declared.Word.{Word}
 use Rattle.meaning.specs.declared.Word.TheVariants.{Took, Held}
-use Rattle.meaning.specs.declared.Answer.{Answer}
-use Rattle.meaning.specs.declared.Answer.TheVariants.{Did, Refused}
+use Rattle.meaning.specs.Answers.{Answer, Did, Refused}
 use Rattle.meaning.specs.Refusals.{unsound_table, no_such_agent}
 use Rattle.meaning.specs.Update.{at_stage, with_locks, with_agent}
 use Rattle.meaning.specs.Step.{still, turn, take, release, step_at, step}

@@ -1,5 +1,5 @@
 -- What a call does to a cell: the decision, of what was seen of the cell, and what it makes of a table.
-use Rattle.std.specs.Prelude.{ℕ, ◌%◌, Bool, true, false, ◌&&◌, cond, ltb, eqb, get_or, set}
+use Rattle.std.specs.Prelude.{ℕ, ◌%◌, Bool, ◌&&◌, cond, ltb, eqb, get_or, set, Option, Some, None}
 use Rattle.sets.specs.Set.{member}
 use Rattle.table.specs.Cell.{none, no_agent, cell_of, land_of, kind_of, chooses, put_locks, put_agents, holding_both}
 use Rattle.table.specs.declared.Agent.{Agent}
@@ -8,8 +8,7 @@ use Rattle.soundness.specs.declared.sound.Seen.{Seen}
 use Rattle.meaning.specs.declared.Word.{Word}
 use Rattle.meaning.specs.declared.Word.TheVariants.{Took, Held, Left, Came, Opened}
 use Rattle.meaning.specs.declared.Word.TheVariants as words
-use Rattle.meaning.specs.declared.Answer.{Answer}
-use Rattle.meaning.specs.declared.Answer.TheVariants.{Did, Refused}
+use Rattle.meaning.specs.Answers.{Answer, Did, Refused}
 use Rattle.meaning.specs.declared.Stepped.{Stepped}
 use Rattle.meaning.specs.Refusals.{unsound_table, no_such_agent}
 use Rattle.meaning.specs.Update.{at_stage}
@@ -32,7 +31,7 @@ told_by a chosen = cond (chooses (kind_of a)) chosen none_told
 -- no place moves: the agent's stage, remembered and chosen place, the lock of two places, the answer and the place that an ask tells
 abbrev pub becoming : ℕ → ℕ → ℕ → ℕ → ℕ → ℕ → Answer → ℕ → Decision
 becoming stage remembered choice first second lock answer q =
-    record { moves = false; motion = Dissolve; stage = stage; remembered = remembered; choice = choice; first = first; second = second; lock = lock; answer = answer; chosen = q }
+    record { motion = None; stage = stage; remembered = remembered; choice = choice; first = first; second = second; lock = lock; answer = answer; chosen = q }
 
 -- nothing changes
 abbrev pub staying : Agent → Answer → ℕ → Decision
@@ -62,7 +61,7 @@ motion_choice (Put q) a = none_told
 -- a place moves, and the agent and the locks are as they were; how many agents it wakes is known when it is carried out
 abbrev pub going : Motion → Agent → Decision
 going m a =
-    record { moves = true; motion = m; stage = a.stage; remembered = a.remembered; choice = a.chosen; first = none; second = none; lock = none; answer = Did (motion_word m) 0; chosen = told_by a (motion_choice m a) }
+    record { motion = Some m; stage = a.stage; remembered = a.remembered; choice = a.chosen; first = none; second = none; lock = none; answer = Did (motion_word m) 0; chosen = told_by a (motion_choice m a) }
 
 -- the place whose lock a change asks for
 abbrev pub wanted_by : Change → ℕ
@@ -114,5 +113,9 @@ abbrev pub settled : Cell → ℕ → Decision → Cell
 settled t x d = locked_at (locked_at (staged_at t x d) d.first d.lock) d.second d.lock
 
 -- what a decision for agent x makes of a table
+abbrev pub carried_by : Cell → ℕ → Decision → Option Motion → Stepped
+carried_by t x d (Some m) = made (shifted (cell_of t) x (agent_at t x) m)
+carried_by t x d None = record { cell = settled t x d; answer = d.answer }
+
 unfoldable pub carried_out : Cell → ℕ → Decision → Stepped
-carried_out t x d = cond d.moves (made (shifted (cell_of t) x (agent_at t x) d.motion)) (record { cell = settled t x d; answer = d.answer })
+carried_out t x d = carried_by t x d d.motion

@@ -1,10 +1,10 @@
 -- The smallest unused number: it is unused and every smaller one is in use; where there is none every number is. Assumes nothing.
-use Rattle.std.specs.Prelude.{◌≡◌, refl, Bool, true, false, ℕ, ◌^◌, ◌≤◌, ◌<◌, ltb}
+use Rattle.std.specs.Prelude.{◌≡◌, refl, Bool, true, false, ℕ, ◌-◌, ◌%◌, ◌^◌, ◌≤◌, ◌<◌, ltb}
 use Rattle.std.proofs.Common.{ap, ◌∙◌, arith, lit<}
 use Rattle.std.proofs.Math.Bool.{not, xor}
 use borrow.Author.Tests.{not-true, ltb-true, ltb-false}
-use Rattle.std.specs.Int.Bits.{bit_xor}
-use Rattle.std.proofs.lemmas.Nat.{xor_lt}
+use Rattle.std.specs.Int.Bits.{bit_xor, xor_add_and}
+use Rattle.std.proofs.lemmas.Nat.{xor_lt, and_mask}
 use Rattle.std.specs.Int.Count.{count_trailing_zeros}
 use Rattle.sets.specs.Word.{has}
 use Rattle.sets.proofs.WordLaws.{has_xor, lowest_ext, lowest_le, trailing_has}
@@ -45,11 +45,16 @@ module _ (used : ℕ → Bool) where
       go (yea e) = let l = ltb-true (fresh_number used) 64 e in clash (all (fresh_number used) l) (fresh_unused l)
       go (nay e) = ltb-false (fresh_number used) 64 e
 
+-- the word of all the others
+others : (w : ℕ) → w < 2 ^ 64 → all_bits - w ≡ bit_xor w all_bits
+others w h = let m : w % 2 ^ 64 ≡ w = omega arith in omega (arith, xor_add_and w all_bits, and_mask w 64 ∙ m)
+
 -- by the word of the numbers in use: it is as many as the zeros below the lowest one of the word of all the others
-pub fresh_word : (w : ℕ) → w < 2 ^ 64 → count_trailing_zeros 64 (bit_xor w all_bits) ≡ fresh_number (has w)
+pub fresh_word : (w : ℕ) → w < 2 ^ 64 → count_trailing_zeros 64 (all_bits - w) ≡ fresh_number (has w)
 unfolding fresh_number xor
 fresh_word w h =
-    trailing_has 64 (bit_xor w all_bits) (xor_lt 64 w all_bits h (lit< tt))
+    ap (count_trailing_zeros 64) (others w h)
+    ∙ trailing_has 64 (bit_xor w all_bits) (xor_lt 64 w all_bits h (lit< tt))
     ∙ lowest_ext 64 _ _ (λ q l. has_xor w all_bits q ∙ ap (λ (b : Bool). xor b (has w q)) (all_has q l) ∙ other (has w q))
   where
     other : (b : Bool) → xor true b ≡ not b

@@ -6,16 +6,8 @@ ghost use Rattle.table.specs.Cell.{fresh_number};
 use sets::Set;
 
 // The smallest number that is not in use, or 64 where all are: the zeros below the lowest one of the word of all the others.
-fn lowest_unused(used: Set) -> u32
-    ensures { result ≡ fresh_number (member used) }
-{
-    let others = used.bits ^ 18446744073709551615;
-    u64::trailing_zeros(others)
-}
-
-// The same as a byte: the number that a new place gets.
 pub fn fresh_number(used: Set) -> u8
     ensures { result ≡ fresh_number (member used) }
 {
-    lowest_unused(used) as u8
+    (!used.bits).trailing_zeros() as u8
 }

@@ -1,5 +1,5 @@
 -- Laws of texts written over a part of a buffer, one after another. Assumes nothing.
-use Rattle.std.specs.Prelude.{◌≡◌, refl, Bool, true, cond, List, [], ◌∷◌, ◌++◌, ◌⊎◌, ℕ, zero, suc, ◌+◌, ◌-◌, ◌/◌, ◌%◌, ◌<◌, ◌≤◌, length, take, drop, set, get_or, leb, ltb, eqb}
+use Rattle.std.specs.Prelude.{◌≡◌, refl, Bool, true, cond, List, [], ◌∷◌, ◌++◌, ◌⊎◌, ℕ, zero, suc, ◌+◌, ◌-◌, ◌/◌, ◌%◌, ◌<◌, ◌≤◌, length, take, drop, set, get_or, leb, ltb, eqb, min}
 use Rattle.std.proofs.Common.{sym, ap₂, ◌∙◌, append-nil, inl, le_of_suc-le-suc, not-suc-le-zero, arith, add-one, sub-one, length-append, length-drop, drop_of_length-le, take_all, take-suc}
 use Rattle.std.proofs.Math.Path.{ap}
 use Rattle.std.proofs.Math.Logic.{inr}
@@ -86,6 +86,22 @@ capped_more a b = go (told (leb a 18446744073709551615))
     go : Told (leb a 18446744073709551615) → capped (capped a + b) ≡ capped (a + b)
     go (yea p) = rw (capped_low a (leb-true _ _ p))
     go (nay p) = rw (capped_high a (leb-false _ _ p)) (capped_full _ (omega arith) ∙ sym (capped_full (a + b) (omega (arith, leb-false a 18446744073709551615 p))))
+
+-- an addition that ends at the largest number
+pub capped_min : (n : ℕ) → min n 18446744073709551615 ≡ capped n
+capped_min n = go (told (leb n 18446744073709551615))
+  where
+    go : Told (leb n 18446744073709551615) → min n 18446744073709551615 ≡ capped n
+    go (yea e) = omega (arith, capped_low n (leb-true _ _ e), leb-true n 18446744073709551615 e)
+    go (nay e) = omega (arith, capped_high n (leb-false _ _ e), leb-false n 18446744073709551615 e)
+
+pub least_min : (a b : ℕ) → min a b ≡ least a b
+unfolding least
+least_min a b = go (told (ltb a b))
+  where
+    go : Told (ltb a b) → min a b ≡ cond (ltb a b) a b
+    go (yea t) = rw t (omega (arith, ltb-true a b t))
+    go (nay t) = rw t (omega (arith, ltb-false a b t))
 
 pub least_le : (n a b : ℕ) → n ≡ least a b → (n ≤ a) × (n ≤ b)
 unfolding least
@@ -246,6 +262,16 @@ bytes_all t b xs i n e l p = p ∙ go (told (ltb (length t) (length b)))
     go : Told (ltb (length t) (length b)) → overlay (take i t) b ≡ overlay t b
     go (yea h) = let q : n ≡ length t = e ∙ rw h in ap (λ (z : List ℕ). overlay z b) (take_all i t (omega arith))
     go (nay h) = let q : n ≡ length b = e ∙ rw h in over_cut t b i (omega arith)
+
+-- as much of a text as there is room for, over the buffer's start
+pub copied : (n : ℕ) (t b : List ℕ) → n ≡ min (length t) (length b) → take n t ++ drop n b ≡ overlay t b
+unfolding overlay
+copied zero [] b e = refl
+copied zero (x ∷ t) [] e = refl
+copied zero (x ∷ t) (y ∷ b) e = absurd (omega arith)
+copied (suc n) [] b e = absurd (omega arith)
+copied (suc n) (x ∷ t) [] e = absurd (omega arith)
+copied (suc n) (x ∷ t) (y ∷ b) e = ap (λ (l : List ℕ). x ∷ l) (copied n t b (omega arith))
 
 -- ---- digits
 pub digits_none : (k n : ℕ) → k ≡ 0 → digits k n ≡ []

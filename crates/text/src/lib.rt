@@ -10,51 +10,45 @@ ghost use Rattle.meaning.specs.Text.{digits, decimal};
 ghost use Rattle.text.specs.Wrote.{Wrote, Placed, capped, least as least_of};
 
 // a + b, or the largest number where that is more.
+#[tactic(auto, using(crate::proofs::TextLaws::capped_min))]
 pub fn plus(a: usize, b: usize) -> usize
     ensures { result ≡ capped (a + b) }
 {
-    if b <= 18446744073709551615 - a {
-        a + b
-    } else {
-        18446744073709551615
-    }
+    a.saturating_add(b)
 }
 
+// The smaller of two numbers.
+#[tactic(auto, using(crate::proofs::TextLaws::least_min))]
 pub fn least(a: usize, b: usize) -> usize
     ensures { result ≡ least_of a b }
 {
-    if a < b { a } else { b }
+    a.min(b)
 }
 
 // How far into a part with so much room, lent from `from` on, the position `at` lies: at its end where it is past it.
+#[tactic(auto, using(crate::proofs::TextLaws::least_min))]
 pub fn offset(from: usize, at: usize, room: usize) -> usize
     ensures { result ≡ least_of (at - from) room }
 {
-    if at < from {
-        return 0;
-    }
-    least(at - from, room)
+    at.saturating_sub(from).min(room)
 }
 
+#[tactic(auto, using(crate::proofs::TextLaws::copied))]
 pub fn write_bytes(t: &[u8], at: usize, buf: &mut [u8]) -> usize
     ensures { Wrote t.now at buf.old buf.new result }
 {
-    let n = least(t.len(), buf.len());
-    let mut i: usize = 0;
-    while i < n {
-        buf[i] = t[i];
-        i += 1;
-    }
+    let n = t.len().min(buf.len());
+    buf[..n].copy_from_slice(&t[..n]);
     plus(at, t.len())
 }
 
+#[tactic(auto, using(crate::proofs::TextLaws::one_byte, crate::proofs::TextLaws::no_byte))]
 pub fn write_byte(x: u8, at: usize, buf: &mut [u8]) -> usize
     ensures { Wrote (x ∷ []) at buf.old buf.new result }
 {
-    if buf.len() == 0 {
-        return plus(at, 1);
+    if let Some(first) = buf.first_mut() {
+        *first = x;
     }
-    buf[0] = x;
     plus(at, 1)
 }
 
@@ -66,7 +60,7 @@ fn write_digits(k: u8, n: u64, at: usize, buf: &mut [u8]) -> usize
     if k == 0 {
         return at;
     }
-    let x = 48 + ((n % 10) as u8);
+    let x = b'0' + (n % 10) as u8;
     if n < 10 {
         return write_byte(x, at, buf);
     }
@@ -79,6 +73,5 @@ fn write_digits(k: u8, n: u64, at: usize, buf: &mut [u8]) -> usize
 pub fn write_number(n: u64, at: usize, buf: &mut [u8]) -> usize
     ensures { Wrote (decimal n) at buf.old buf.new result }
 {
-    let m = write_digits(20, n, 0, buf);
-    plus(at, m)
+    plus(at, write_digits(20, n, 0, buf))
 }

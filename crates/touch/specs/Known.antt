@@ -6,8 +6,7 @@ use Rattle.table.specs.Cell.{put_touches}
 use Rattle.table.specs.Sound.{most_touches}
 use Rattle.table.specs.declared.Cell.{Cell}
 use Rattle.soundness.specs.Left.{total_of}
-use Rattle.meaning.specs.declared.Touching.{Touching}
-use Rattle.meaning.specs.declared.Touching.TheVariants.{Count, Untouched}
+use Rattle.meaning.specs.Answers.{Touching, Count, Untouched}
 use Rattle.meaning.specs.declared.Touched.{Touched}
 use Rattle.meaning.specs.Refusals.{place_too_large, not_yet_given, unsound_table, too_many_touches}
 use Rattle.touch.specs.declared.TouchDecision.{TouchDecision}

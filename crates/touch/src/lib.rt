@@ -4,8 +4,9 @@
 
 ghost use Rattle.std.specs.Prelude.{◌≡◌};
 ghost use Rattle.meaning.specs.Touch.{touch_of, touches_of};
-ghost use Rattle.touch.specs.Known.{refusing, counting, known_touch, known_touches};
+ghost use Rattle.touch.specs.Known.{known_touch, known_touches};
 
+use meaning::refusals::{NOT_YET_GIVEN, PLACE_TOO_LARGE, TOO_MANY_TOUCHES, UNSOUND_TABLE};
 use meaning::{Touched, Touching};
 use sets::Set;
 use table::Cell;
@@ -17,27 +18,18 @@ pub struct TouchDecision {
     pub answer: Touching,
 }
 
-// A refused call: the touches stay.
-fn refused(count: u64, number: u8) -> TouchDecision
-    ensures { result ≡ refusing count number }
+// What a touch call answers, told whether the cell is sound, by the places in use and all counts: refusal 10, then 3, 5 and 15, then the sum.
+fn answered(known: bool, used: Set, touches: &[u64; 64], place: u8, number: u32) -> Touching
+    ensures { result ≡ (known_touch known used touches.now place number).answer }
 {
-    TouchDecision {
-        count: count,
-        answer: Touching::Untouched(number),
+    let count = touches_known(known, used, touches, place)?;
+    match soundness::touches_left(touches, used) {
+        Some(left) if u64::from(number) <= left => Ok(count + u64::from(number)),
+        _ => Err(TOO_MANY_TOUCHES),
     }
 }
 
-// A call that is not refused answers the touches that its place then has.
-fn counted(count: u64) -> TouchDecision
-    ensures { result ≡ counting count }
-{
-    TouchDecision {
-        count: count,
-        answer: Touching::Count(count),
-    }
-}
-
-// What a touch call does, told whether the cell is sound, by the places in use and all counts: refusal 10, then 3, 5 and 15, then the sum.
+// What a touch call does, told the same: a refused call leaves the touches that its place has.
 pub fn decide_touch(
     known: bool,
     used: Set,
@@ -47,41 +39,23 @@ pub fn decide_touch(
 ) -> TouchDecision
     ensures { result ≡ known_touch known used touches.now place number }
 {
-    let k = table::at(place);
-    let count = touches[k];
-    if known {
-        if 64 <= place {
-            return refused(count, 3);
-        }
-        if used.has(place) {
-            let left = soundness::touches_left(touches, used);
-            if !left.fits {
-                return refused(count, 15);
-            }
-            let more = number as u64;
-            if left.room < more {
-                return refused(count, 15);
-            }
-            return counted(count + more);
-        }
-        return refused(count, 5);
+    let answer = answered(known, used, touches, place, number);
+    TouchDecision {
+        count: answer.unwrap_or(touches[table::at(place)]),
+        answer,
     }
-    refused(count, 10)
 }
 
 // A touch call.
 pub fn touch(c: Cell, place: u8, number: u32) -> Touched
     ensures { result ≡ touch_of c place number }
 {
-    let known = soundness::is_sound(c);
-    let d = decide_touch(known, c.used, &c.touches, place, number);
-    let answer = d.answer;
-    let k = table::at(place);
-    let mut e = c;
-    e.touches[k] = d.count;
+    let d = decide_touch(soundness::is_sound(c), c.used, &c.touches, place, number);
+    let mut cell = c;
+    cell.touches[table::at(place)] = d.count;
     Touched {
-        cell: e,
-        answer: answer,
+        cell,
+        answer: d.answer,
     }
 }
 
@@ -89,23 +63,21 @@ pub fn touch(c: Cell, place: u8, number: u32) -> Touched
 pub fn touches_known(known: bool, used: Set, touches: &[u64; 64], place: u8) -> Touching
     ensures { result ≡ known_touches known used touches.now place }
 {
-    if known {
-        if 64 <= place {
-            return Touching::Untouched(3);
-        }
-        if used.has(place) {
-            let k = place as usize;
-            return Touching::Count(touches[k]);
-        }
-        return Touching::Untouched(5);
+    if !known {
+        return Err(UNSOUND_TABLE);
     }
-    Touching::Untouched(10)
+    if 64 <= place {
+        return Err(PLACE_TOO_LARGE);
+    }
+    if !used.has(place) {
+        return Err(NOT_YET_GIVEN);
+    }
+    Ok(touches[place as usize])
 }
 
 // The touches of a place, asked for.
 pub fn touches(c: Cell, place: u8) -> Touching
     ensures { result ≡ touches_of c place }
 {
-    let known = soundness::is_sound(c);
-    touches_known(known, c.used, &c.touches, place)
+    touches_known(soundness::is_sound(c), c.used, &c.touches, place)
 }

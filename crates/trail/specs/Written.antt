@@ -4,8 +4,7 @@ use Rattle.std.specs.Prelude.{ℕ, ◌%◌, Bool, ◌&&◌, ◌||◌, cond, List
 use Rattle.meaning.specs.Codes.{word_number, word_in, place_in}
 use Rattle.meaning.specs.Refusals.{too_long}
 use Rattle.meaning.specs.Text.{overlay}
-use Rattle.meaning.specs.declared.Listed.{Listed}
-use Rattle.meaning.specs.declared.Listed.TheVariants.{Length, Unlisted}
+use Rattle.meaning.specs.Answers.{Listed, Length, Unlisted}
 use Rattle.meaning.specs.declared.Word.TheVariants.{Left, Opened, Put}
 
 -- a word, by its number, says a move: "at each left, opened and put"

@@ -3,7 +3,7 @@
 use Rattle.std.specs.Prelude.{◌≡◌, List, ℕ}
 use Rattle.table.specs.Cell.{State, cell_of}
 use Rattle.table.specs.declared.Cell.{Cell}
-use Rattle.meaning.specs.declared.Verdict.TheVariants.{Accepted}
+use Rattle.meaning.specs.Answers.{Accepted}
 use Rattle.meaning.specs.File.{accepted}
 use Rattle.meaning.specs.Listing.{listing, list_answer, list_buffer}
 use Rattle.calculus.specs.Terms.{◌≅◌}

@@ -9,7 +9,7 @@ use Rattle.table.specs.declared.Action.{Action}
 use Rattle.table.specs.declared.Agent.{Agent}
 use Rattle.table.specs.declared.Cell.{Cell}
 use Rattle.meaning.specs.declared.Word.{Word}
-use Rattle.meaning.specs.declared.Answer.TheVariants.{Did}
+use Rattle.meaning.specs.Answers.{Did}
 use Rattle.meaning.specs.Step.{Outcome}
 use Rattle.meaning.specs.Run.{made}
 

@@ -13,34 +13,30 @@ use table::{Action, Agent, Place};
 pub fn at_stage(a: Agent, stage: u8, remembered: u8, chosen: u8) -> Agent
     ensures { result ≡ at_stage a stage remembered chosen }
 {
-    let mut b = a;
-    b.stage = stage;
-    b.remembered = remembered;
-    b.chosen = chosen;
-    b
+    Agent {
+        stage,
+        remembered,
+        chosen,
+        ..a
+    }
 }
 
 // The agent, living in h.
 pub fn with_home(a: Agent, h: u8) -> Agent
     ensures { result ≡ with_home a h }
 {
-    let mut b = a;
-    b.home = h;
-    b
+    Agent { home: h, ..a }
 }
 
 // The agent with one action more, which it is looking for; as it is where it has sixteen.
+#[tactic(auto, unfolding(meaning::specs::File::with_action))]
 pub fn with_action(g: Agent, kind: u8, name: u16) -> Agent
     ensures { result ≡ cond (leb 16 g.count) g (with_action g kind name) }
 {
     let mut a = g;
-    if g.count < 16 {
-        let j = g.count as usize;
-        a.actions[j] = Action {
-            kind: kind,
-            name: name,
-        };
-        a.count = g.count + 1;
+    if a.count < 16 {
+        a.actions[a.count as usize] = Action { kind, name };
+        a.count += 1;
         a.stage = 0;
     }
     a
@@ -50,13 +46,12 @@ pub fn with_action(g: Agent, kind: u8, name: u16) -> Agent
 pub fn released(ls: [u8; 64], p: u8, q: u8) -> [u8; 64]
     ensures { result ≡ tab (Rattle.meaning.specs.Update.released (λ j. get_or ls j 0) p q) 64 0 }
 {
-    let ms = table::with_lock(ls, p, 64);
-    table::with_lock(ms, q, 64)
+    table::with_lock(table::with_lock(ls, p, 64), q, 64)
 }
 
 // Whether a place, in use or not, is linked.
 pub fn linked(known: bool, x: Place) -> bool
     ensures { result ≡ (known && eqb x.way 0) }
 {
-    if known { x.way == 0 } else { false }
+    known && x.way == 0
 }

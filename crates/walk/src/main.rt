@@ -9,22 +9,32 @@
 
 #![tactic(auto)]
 
-ghost use Rattle.std.specs.Prelude.{◌≡◌, length};
-ghost use Rattle.files.specs.Inputs.{Within};
+ghost use Rattle.std.specs.Prelude.{◌≡◌};
 ghost use Rattle.walk.specs.Names.{naming_by};
 
 use buffers::{CELL_BYTES, ORDER_BYTES, TEXT_BYTES, TYPED_BYTES};
-use files::Input;
+use files::{Absent, Extent, Program, Source, Unread, Wanted};
 use std::env::Env;
-use std::io::Write;
 
 // Where the two files' names come from: their own, two arguments, or two arguments after `--text`.
-#[derive(Clone, Copy)]
+#[derive(Clone, Copy, PartialEq, Eq, Debug)]
 enum Naming {
     Usual,
     Given,
     Typed,
     Unclear,
+}
+
+const USAGE: &[u8] =
+    b"usage: walk [CELL ORDER | --text TEXT ORDER]   (without paths: the files cell and order of the working folder)\n";
+
+// A file as much of which is read as there is room for; an absent one reads as empty.
+const fn start_of(name: &[u8]) -> Wanted {
+    Wanted {
+        name,
+        absent: Absent::Empty,
+        extent: Extent::Start,
+    }
 }
 
 // Without arguments the names are `cell` and `order`; two arguments are the names, unless the first is the option; so are the two
@@ -33,22 +43,11 @@ enum Naming {
 fn naming_by(count: usize, option: bool) -> Naming
     ensures { result ≡ naming_by count option }
 {
-    if count < 2 {
-        Naming::Usual
-    } else if count == 3 {
-        if option {
-            Naming::Unclear
-        } else {
-            Naming::Given
-        }
-    } else if count == 4 {
-        if option {
-            Naming::Typed
-        } else {
-            Naming::Unclear
-        }
-    } else {
-        Naming::Unclear
+    match (count, option) {
+        (0 | 1, _) => Naming::Usual,
+        (3, false) => Naming::Given,
+        (4, true) => Naming::Typed,
+        _ => Naming::Unclear,
     }
 }
 
@@ -56,71 +55,47 @@ fn naming_by(count: usize, option: bool) -> Naming
 fn has_option(rt: &HostRuntime) -> bool {
     let mut word = [0u8; 8];
     match rt.arg(1, &mut word) {
-        Ok(n) => word[..n].starts_with(b"--text") && n == 6,
+        Ok(n) => &word[..n] == b"--text".as_slice(),
         Err(_) => false,
     }
 }
 
-fn usage(rt: &HostRuntime) {
-    let line =
-        b"usage: walk [CELL ORDER | --text TEXT ORDER]   (without paths: the files cell and order of the working folder)\n";
-    let _told = rt.stderr().write_all(line);
-}
-
-// The bytes of the file that argument i names, where names are given, or else of the file with this name; an absent one reads as empty.
-fn read(rt: &HostRuntime, given: bool, i: usize, name: &[u8], whole: bool, buf: &mut [u8]) -> Input
-    ensures { Within result (length buf.new) }
-{
-    let input = files::read_input(rt, b"walk", given, i, name, true, whole, buf);
-    if let Input::Unnamed = input {
-        usage(rt);
-    }
-    input
-}
-
-// Writes the report in one piece.
-fn show(rt: &HostRuntime, report: &[u8]) {
-    if let Err(error) = rt.stdout().write_all(report) {
-        let _failed = files::complain(rt, b"walk", b"standard output", error);
-    }
-}
-
-// The report of a cell file: `cell` and `order`, or the files that two arguments name.
-fn run_cell(rt: &HostRuntime, given: bool) {
+// The report of a cell file, and how many bytes it has.
+fn run_cell(walk: Program, cells: Source, orders: Source) -> Result<usize, Unread> {
     let mut cell = [0u8; CELL_BYTES];
     let mut order = [0u8; ORDER_BYTES];
     let mut text = [0u8; TEXT_BYTES];
-    let Input::Bytes(n) = read(rt, given, 1, b"cell", false, &mut cell) else {
-        return;
-    };
-    let Input::Bytes(m) = read(rt, given, 2, b"order", false, &mut order) else {
-        return;
-    };
+    let n = walk.read_input(cells, start_of(b"cell"), &mut cell)?;
+    let m = walk.read_input(orders, start_of(b"order"), &mut order)?;
     let k = buffers::write_whole(&cell, n, &order, m, &mut text);
-    show(rt, &text[..k]);
+    walk.show(&text[..k])
 }
 
-// The report of a typed layout. The text is read whole or not at all.
-fn run_typed(rt: &HostRuntime) {
+// The report of a typed layout, and how many bytes it has. The text is read whole or not at all.
+fn run_typed(walk: Program) -> Result<usize, Unread> {
     let mut typed = [0u8; TYPED_BYTES];
     let mut order = [0u8; ORDER_BYTES];
     let mut text = [0u8; TEXT_BYTES];
-    let Input::Bytes(n) = read(rt, true, 2, b"text", true, &mut typed) else {
-        return;
+    let whole = Wanted {
+        extent: Extent::Whole,
+        ..start_of(b"text")
     };
-    let Input::Bytes(m) = read(rt, true, 3, b"order", false, &mut order) else {
-        return;
-    };
+    let n = walk.read_input(Source::Argument(2), whole, &mut typed)?;
+    let m = walk.read_input(Source::Argument(3), start_of(b"order"), &mut order)?;
     let k = buffers::write_typed(&typed, n, &order, m, &mut text);
-    show(rt, &text[..k]);
+    walk.show(&text[..k])
 }
 
 fn main(rt: HostRuntime) {
-    let names = naming_by(files::argument_count(&rt), has_option(&rt));
-    match names {
-        Naming::Usual => run_cell(&rt, false),
-        Naming::Given => run_cell(&rt, true),
-        Naming::Typed => run_typed(&rt),
-        Naming::Unclear => usage(&rt),
-    }
+    let walk = Program {
+        rt: &rt,
+        name: b"walk",
+        usage: USAGE,
+    };
+    let _told = match naming_by(files::argument_count(&rt), has_option(&rt)) {
+        Naming::Usual => run_cell(walk, Source::Usual, Source::Usual),
+        Naming::Given => run_cell(walk, Source::Argument(1), Source::Argument(2)),
+        Naming::Typed => run_typed(walk),
+        Naming::Unclear => walk.misuse(),
+    };
 }

@@ -1,13 +1,13 @@
 -- The operators on a byte, by its bits: or sets one, and with the complement clears, and tells whether a bit is shared; and what bits the flags have then.
 -- Assumes nothing.
 -- Idea: two bytes with the same bits are the same; the complement goes by the lowest bit first.
-use Rattle.std.specs.Prelude.{◌≡◌, ◌⊎◌, ◌≢◌, Bool, true, not, ◌&&◌, ◌||◌, ℕ, zero, suc, ◌-◌, ◌/◌, ◌%◌, ◌^◌, ◌<◌, eqb}
+use Rattle.std.specs.Prelude.{◌≡◌, ◌⊎◌, ◌≢◌, Bool, true, not, ◌&&◌, ◌||◌, ℕ, zero, suc, ◌-◌, ◌*◌, ◌/◌, ◌%◌, ◌^◌, ◌<◌, eqb}
 use Rattle.std.proofs.Math.Path.{refl}
-use Rattle.std.proofs.Common.{sym, ap, ◌∙◌, inl, inr, pow-suc, le_of_suc-le-suc, not-suc-le-zero, arith}
+use Rattle.std.proofs.Common.{sym, ap, ◌∙◌, inl, inr, pow-suc, le_of_suc-le-suc, not-suc-le-zero, arith, lit<}
 use Rattle.std.proofs.Math.Bool.{false, or_comm}
 use Rattle.std.specs.Int.Bits.{bit_and, bit_or, and_lt}
 use Rattle.std.proofs.lemmas.Nat.{or_lt, and_shr, and_mod}
-use Rattle.std.proofs.Math.Pow.{pow-lt}
+use Rattle.std.proofs.Math.Pow.{pow-lt, shl_exact}
 use Rattle.sets.specs.Word.{bit, has, word_of}
 use Rattle.sets.proofs.WordLaws.{two_cases, has_zero, has_suc, word_ext, word_has, has_word, has_or, has_none, has_pow}
 use Rattle.table.specs.Base.{any_below}
@@ -21,6 +21,12 @@ pub or_flag : (flags i : ℕ) → flags < 2 ^ 8 → i < 8 → bit_or flags (2 ^ 
 unfolding with_flag
 or_flag w i h l = sym (word_has 8 (bit_or w (2 ^ i)) (or_lt 8 w (2 ^ i) h (pow-lt l)))
     ∙ word_ext 8 _ _ (λ j m. has_or w (2 ^ i) j ∙ ap (◌||◌ (has w j)) (has_pow i j) ∙ or_comm (has w j) (eqb j i))
+
+-- a bit that is shifted to its place
+pub or_shifted : (flags i : ℕ) → flags < 2 ^ 8 → i < 8 → bit_or flags (1 * 2 ^ i % 256) ≡ with_flag i true flags
+or_shifted w i h l =
+    let one : 1 * 2 ^ i ≡ 2 ^ i = omega arith in
+    ap (bit_or w) (shl_exact {a = 1} 1 i 8 (lit< tt) (omega arith) ∙ one) ∙ or_flag w i h l
 
 -- and nothing is set where nothing is to be
 pub no_flag : (flags i : ℕ) → flags < 2 ^ 8 → flags ≡ with_flag i false flags

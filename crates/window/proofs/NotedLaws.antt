@@ -1,8 +1,8 @@
 -- The window after a step is told by the number of the step's answer; and what a command comes to.
 -- Idea: a step wakes at most 64 and is refused with 10 or 11, so that word, number woken and refusal are read off the number.
 -- Assumes nothing.
-use Rattle.std.specs.Prelude.{◌≡◌, ◌≢◌, Bool, true, false, cond, ℕ, ◌+◌, ◌*◌, ◌/◌, ◌%◌, ◌≤◌, ◌<◌, eqb, ltb, leb}
-use Rattle.std.proofs.Common.{ap, ap₂, ◌∙◌, arith, lit<, ne_eqb, eq-eqb}
+use Rattle.std.specs.Prelude.{◌≡◌, ◌≢◌, Bool, true, false, cond, List, ℕ, ◌+◌, ◌*◌, ◌/◌, ◌%◌, ◌≤◌, ◌<◌, eqb, ltb, leb, get_or, Ok, Err}
+use Rattle.std.proofs.Common.{sym, ap, ap₂, ◌∙◌, arith, lit<, ne_eqb, eq-eqb}
 use Rattle.sets.proofs.WordLaws.{count_most}
 use Rattle.table.proofs.BaseLaws.{Told, yea, nay, told}
 use Rattle.table.specs.Cell.{State, cell_of, none, fresh_number, linked, looks_home, kind_of, open_kind, release_kind}
@@ -13,14 +13,14 @@ use Rattle.table.specs.declared.Agent.{Agent}
 use Rattle.table.specs.declared.Cell.{Cell}
 use Rattle.meaning.specs.declared.Word.{Word}
 use Rattle.meaning.specs.declared.Word.TheVariants.{Looked, Took, Held, Back, Slept, Left, Came, Opened, Put, Asleep, Done}
-use Rattle.meaning.specs.declared.Answer.{Answer}
-use Rattle.meaning.specs.declared.Answer.TheVariants.{Did, Refused}
+use Rattle.meaning.specs.Answers.{Answer, Did}
 use Rattle.meaning.specs.Codes.{word_number, above, step_number}
 use Rattle.meaning.specs.Step.{Outcome, stays, fires, choice, still, turn, take, release, look, lock_first, put, put_or_sleep, lock_second, hold, leave, dissolve, act, arrive, travel, step_at, step}
 use Rattle.meaning.specs.Run.{made, turned_away, step_of}
 use Rattle.window.specs.declared.Window.{Window}
 use Rattle.window.specs.Window.{refused_flag, refused_base, with_flag, with_answer, lined, step_window, command_of}
-use Rattle.window.specs.Noted.{did_of, noted_of}
+use Rattle.window.specs.Noted.{did_of, refused_of, noted_of}
+use Rattle.std.specs.Int.{w64, to_le_bytes}
 
 -- ---- a step wakes at most 64
 
@@ -72,8 +72,8 @@ few_step c x wish =
 
 -- number woken and refusal have their bits
 abbrev Fits : Answer → Type 0
-Fits (Did word woken) = woken < 256
-Fits (Refused number) = (0 < number) × (number < 128)
+Fits (Ok o) = o.woken < 256
+Fits (Err number) = (0 < number) × (number < 128)
 
 -- a step call refuses with 10 and 11 alone
 step_fits : (t : Cell) (x wish : ℕ) → Fits (step_of t x wish).answer
@@ -115,15 +115,27 @@ module _ (w n : ℕ) (a : w < 256) (b : n < 256) where
 -- the window after a step, told by the number of its answer
 noted_answer : (w : Window) (rest : Bool) (answer : Answer) → Fits answer → noted_of w (step_number answer) rest ≡ step_window w rest answer
 unfolding noted_of
-noted_answer w rest (Did word woken) l =
-    let s : word_number word < 256 = omega (arith, word_small word) in
-    rw (eq-eqb (step_number (Did word woken) % 256) 0 (refusal_of (word_number word) woken s l))
-    (ap₂ (λ (m n : ℕ). did_of w m n rest) (word_of (word_number word) woken s l) (woken_of (word_number word) woken s l))
-noted_answer w rest (Refused number) l =
+noted_answer w rest (Ok o) l =
+    let s : word_number o.word < 256 = omega (arith, word_small o.word) in
+    rw (eq-eqb (step_number (Did o.word o.woken) % 256) 0 (refusal_of (word_number o.word) o.woken s l))
+    (ap₂ (λ (m n : ℕ). did_of w m n rest) (word_of (word_number o.word) o.woken s l) (woken_of (word_number o.word) o.woken s l))
+noted_answer w rest (Err number) l =
     let low : number % 256 ≡ number = omega (arith, l.1) in
     let some : number % 256 ≢ 0 = λ e. omega (arith, e, low, l.0) in
     let same : number % 256 % 128 ≡ number = omega (arith, l.1) in
     rw (ne_eqb (number % 256) 0 some) (ap (λ (n : ℕ). lined (with_answer w (refused_base + n) 0 (with_flag refused_flag true w.flags))) same)
+
+-- the same told by the bytes of the number, the lowest first
+module _ (w : Window) (bytes : List ℕ) (number : ℕ) (rest : Bool) (e : bytes ≡ to_le_bytes w64 number) where
+  pub noted_did : get_or bytes 0 0 ≡ 0 → did_of w (get_or bytes 1 0) (get_or bytes 2 0) rest ≡ noted_of w number rest
+  unfolding noted_of
+  noted_did z = rw (eq-eqb (number % 256) 0 (sym (ap (λ (s : List ℕ). get_or s 0 0) e) ∙ z))
+      (ap₂ (λ (m n : ℕ). did_of w m n rest) (ap (λ (s : List ℕ). get_or s 1 0) e) (ap (λ (s : List ℕ). get_or s 2 0) e))
+
+  pub noted_refused : get_or bytes 0 0 ≢ 0 → refused_of w (get_or bytes 0 0) ≡ noted_of w number rest
+  unfolding noted_of
+  noted_refused z = rw (ne_eqb (number % 256) 0 (λ n. z (ap (λ (s : List ℕ). get_or s 0 0) e ∙ n)))
+      (ap (refused_of w) (ap (λ (s : List ℕ). get_or s 0 0) e))
 
 -- so after any step call
 pub noted_step : (t : Cell) (x wish : ℕ) (w : Window) (rest : Bool) → noted_of w (step_number (step_of t x wish).answer) rest ≡ step_window w rest (step_of t x wish).answer

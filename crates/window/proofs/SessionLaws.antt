@@ -1,7 +1,7 @@
 -- Every session of a card is right: `session_right`.
 -- Idea: one act at a time, and a command by whether it is 1; a step's window by its answer.
 -- Assumes nothing.
-use Rattle.std.specs.Prelude.{◌≡◌, Bool, false, not, ◌&&◌, ◌||◌, cond, List, [], ◌∷◌, ◌++◌, ℕ, ◌<◌, ltb}
+use Rattle.std.specs.Prelude.{◌≡◌, Bool, false, not, ◌&&◌, ◌||◌, cond, List, [], ◌∷◌, ◌++◌, ℕ, ◌<◌, ltb, Ok, Err}
 use Rattle.std.proofs.Math.Path.{refl, ap}
 use Rattle.std.proofs.Common.{sym, ◌∙◌, subst, arith, eqb-true, eq-eqb}
 use Rattle.std.proofs.Math.Bool.{true, and-true, and-false, or-true}
@@ -13,8 +13,7 @@ use Rattle.table.specs.Cell.{cell_of}
 use Rattle.table.specs.Sound.{sound}
 use Rattle.table.specs.Idle.{idle}
 use Rattle.table.specs.declared.Cell.{Cell}
-use Rattle.meaning.specs.declared.Answer.{Answer}
-use Rattle.meaning.specs.declared.Answer.TheVariants.{Did, Refused}
+use Rattle.meaning.specs.Answers.{Answer, Refused}
 use Rattle.meaning.specs.Run.{Call, step_call, made, turned_away, step_of, call_of, run}
 use Rattle.window.specs.declared.Window.{Window}
 use Rattle.window.specs.declared.Commanded.{Commanded}
@@ -27,18 +26,18 @@ use Rattle.window.proofs.BitLaws.{has_flag, has_cleared}
 module _ (w : Window) (rest : Bool) where
   step_line : (answer : Answer) → LineRight (step_window w rest answer)
   unfolding lined
-  step_line (Did word woken) = refl
-  step_line (Refused number) = refl
+  step_line (Ok o) = refl
+  step_line (Err number) = refl
 
   step_kept : (answer : Answer) → CardsKept w (step_window w rest answer)
   unfolding lined
-  step_kept (Did word woken) = record { command = refl; agent = refl; wish = refl; mask = refl }
-  step_kept (Refused number) = record { command = refl; agent = refl; wish = refl; mask = refl }
+  step_kept (Ok o) = record { command = refl; agent = refl; wish = refl; mask = refl }
+  step_kept (Err number) = record { command = refl; agent = refl; wish = refl; mask = refl }
 
   step_answer : (answer : Answer) → Answered (step_window w rest answer) answer
   unfolding lined
-  step_answer (Did word woken) = (refl, refl)
-  step_answer (Refused number) = (refl, refl)
+  step_answer (Ok o) = (refl, refl)
+  step_answer (Err number) = (refl, refl)
 
   -- flag i, which was h: two flags may be set, and no number is both of theirs
   two_flags : (woke h : Bool) (i : ℕ) → (rest && eqb i rest_flag || (woke && eqb i woke_flag || h)) ≡ (cond (eqb i woke_flag) woke (cond (eqb i rest_flag) rest false) || h && true)
@@ -55,21 +54,21 @@ module _ (w : Window) (rest : Bool) where
 
   step_flag : (answer : Answer) (i : ℕ) → i < 8 → has (step_window w rest answer).flags i ≡ (seen_for rest answer i || has w.flags i && true)
   unfolding lined
-  step_flag (Did word woken) i l =
-      has_flag rest_flag rest (with_flag woke_flag (ltb 0 woken) w.flags) i l
-      ∙ ap (λ (h : Bool). rest && eqb i rest_flag || h) (has_flag woke_flag (ltb 0 woken) w.flags i l)
-      ∙ two_flags (ltb 0 woken) (has w.flags i) i
-  step_flag (Refused number) i l = has_flag refused_flag true w.flags i l ∙ ap (λ (h : Bool). eqb i refused_flag || h) (sym (and-true (has w.flags i)))
+  step_flag (Ok o) i l =
+      has_flag rest_flag rest (with_flag woke_flag (ltb 0 o.woken) w.flags) i l
+      ∙ ap (λ (h : Bool). rest && eqb i rest_flag || h) (has_flag woke_flag (ltb 0 o.woken) w.flags i l)
+      ∙ two_flags (ltb 0 o.woken) (has w.flags i) i
+  step_flag (Err number) i l = has_flag refused_flag true w.flags i l ∙ ap (λ (h : Bool). eqb i refused_flag || h) (sym (and-true (has w.flags i)))
 
   -- a step is seen for the flags 0 to 2 alone
   seen_small : (answer : Answer) (i : ℕ) → seen_for rest answer i ≡ true → i < 8
-  seen_small (Did word woken) i e = go (told (eqb i woke_flag)) (told (eqb i rest_flag)) e
+  seen_small (Ok o) i e = go (told (eqb i woke_flag)) (told (eqb i rest_flag)) e
     where
-      go : Told (eqb i woke_flag) → Told (eqb i rest_flag) → cond (eqb i woke_flag) (ltb 0 woken) (cond (eqb i rest_flag) rest false) ≡ true → i < 8
+      go : Told (eqb i woke_flag) → Told (eqb i rest_flag) → cond (eqb i woke_flag) (ltb 0 o.woken) (cond (eqb i rest_flag) rest false) ≡ true → i < 8
       go (yea p) _ e = omega (arith, eqb-true i woke_flag p)
       go (nay p) (yea q) e = omega (arith, eqb-true i rest_flag q)
-      go (nay p) (nay q) e = absurd (false≢true (sym (ap (λ (b : Bool). cond b (ltb 0 woken) (cond (eqb i rest_flag) rest false)) p ∙ ap (λ (b : Bool). cond b rest false) q) ∙ e))
-  seen_small (Refused number) i e = omega (arith, eqb-true i refused_flag e)
+      go (nay p) (nay q) e = absurd (false≢true (sym (ap (λ (b : Bool). cond b (ltb 0 o.woken) (cond (eqb i rest_flag) rest false)) p ∙ ap (λ (b : Bool). cond b rest false) q) ∙ e))
+  seen_small (Err number) i e = omega (arith, eqb-true i refused_flag e)
 
 -- ---- one act
 
@@ -121,8 +120,8 @@ act_flag s (clears ones) i l = has_cleared s.window.flags ones i l
 
 -- a refused step leaves the cell
 refusing : Answer → Bool
-refusing (Did word woken) = false
-refusing (Refused number) = true
+refusing (Ok o) = false
+refusing (Err number) = true
 
 refused_stays : (t : Cell) (x wish number : ℕ) → (step_of t x wish).answer ≡ Refused number → (step_of t x wish).cell ≡ t
 unfolding step_of made turned_away refusing

@@ -1,11 +1,10 @@
 -- What is claimed of a card's session (document 02, W14): any sequence of commands and clears, the card writing its own bytes between them at will.
 -- Definitions only.
-use Rattle.std.specs.Prelude.{◌≡◌, Bool, true, false, not, ◌&&◌, ◌||◌, cond, List, [], ◌∷◌, ◌++◌, ℕ, ◌+◌, ◌<◌, eqb, ltb}
+use Rattle.std.specs.Prelude.{◌≡◌, Bool, true, false, not, ◌&&◌, ◌||◌, cond, List, [], ◌∷◌, ◌++◌, ℕ, ◌+◌, ◌<◌, eqb, ltb, Ok, Err}
 use Rattle.sets.specs.Word.{bit, has}
 use Rattle.table.specs.Cell.{cell_of}
 use Rattle.table.specs.Idle.{idle}
-use Rattle.meaning.specs.declared.Answer.{Answer}
-use Rattle.meaning.specs.declared.Answer.TheVariants.{Did, Refused}
+use Rattle.meaning.specs.Answers.{Answer, Refused}
 use Rattle.meaning.specs.declared.Stepped.{Stepped}
 use Rattle.meaning.specs.Codes.{word_number}
 use Rattle.meaning.specs.Run.{Call, step_call, step_of, run}
@@ -84,8 +83,8 @@ step_now s = step_of s.cell s.window.agent s.window.wish
 
 -- what a step with this answer is seen for: it woke someone, it met rest, it was refused; rest: all agents are asleep or done after it
 abbrev pub seen_for : Bool → Answer → ℕ → Bool
-seen_for rest (Did word woken) i = cond (eqb i woke_flag) (ltb 0 woken) (cond (eqb i rest_flag) rest false)
-seen_for rest (Refused number) i = eqb i refused_flag
+seen_for rest (Ok o) i = cond (eqb i woke_flag) (ltb 0 o.woken) (cond (eqb i rest_flag) rest false)
+seen_for rest (Err number) i = eqb i refused_flag
 
 -- the act is a step, and is seen for flag i
 abbrev pub sees : ℕ → Commanded → Act → Bool
@@ -102,8 +101,8 @@ pub record CardsKept (w v : Window) : Type 0 where
 
 -- "answer (0 looked, .. 10 done; 128 plus the number if refused), woken"; a refusal "gives woken 0"
 abbrev pub Answered : Window → Answer → Type 0
-Answered w (Did word woken) = (w.answer ≡ word_number word) × (w.woken ≡ woken)
-Answered w (Refused number) = (w.answer ≡ refused_base + number) × (w.woken ≡ 0)
+Answered w (Ok o) = (w.answer ≡ word_number o.word) × (w.woken ≡ o.woken)
+Answered w (Err number) = (w.answer ≡ refused_base + number) × (w.woken ≡ 0)
 
 -- of a cell and a window, whatever they hold, and any acts
 pub record SessionRight (s : Commanded) (acts : List Act) : Type 0 where

@@ -1,12 +1,11 @@
 -- A register window for the bonder's card (document 02, W14): eight bytes, what a command and a clear make of them.
-use Rattle.std.specs.Prelude.{ℕ, ◌+◌, Bool, true, not, ◌&&◌, ◌||◌, cond, eqb, ltb}
+use Rattle.std.specs.Prelude.{ℕ, ◌+◌, Bool, true, not, ◌&&◌, ◌||◌, cond, eqb, ltb, Ok, Err}
 use Rattle.sets.specs.Word.{bit, has, word_of}
 use Rattle.table.specs.Base.{any_below}
 use Rattle.table.specs.Cell.{cell_of}
 use Rattle.table.specs.Idle.{idle}
 use Rattle.table.specs.declared.Cell.{Cell}
-use Rattle.meaning.specs.declared.Answer.{Answer}
-use Rattle.meaning.specs.declared.Answer.TheVariants.{Did, Refused}
+use Rattle.meaning.specs.Answers.{Answer}
 use Rattle.meaning.specs.declared.Stepped.{Stepped}
 use Rattle.meaning.specs.Codes.{word_number}
 use Rattle.meaning.specs.Run.{step_of}
@@ -92,8 +91,8 @@ made_flags flags woken rest = with_flag rest_flag rest (with_flag woke_flag (ltb
 -- the window after a step with this answer; rest: all agents are asleep or done after it. "bit 2 on a refusal, which sets no other bit and gives
 -- woken 0"
 abbrev pub step_window : Window → Bool → Answer → Window
-step_window w rest (Did word woken) = lined (with_answer w (word_number word) woken (made_flags w.flags woken rest))
-step_window w rest (Refused number) = lined (with_answer w (refused_base + number) 0 (with_flag refused_flag true w.flags))
+step_window w rest (Ok o) = lined (with_answer w (word_number o.word) o.woken (made_flags w.flags o.woken rest))
+step_window w rest (Err number) = lined (with_answer w (refused_base + number) 0 (with_flag refused_flag true w.flags))
 
 -- a step through the window; "a refused one leaves the cell, not the window, as it was"
 abbrev pub stepped : Window → Stepped → Commanded

@@ -8,7 +8,7 @@ ghost use Rattle.std.specs.Prelude.{◌≡◌};
 ghost use Rattle.window.specs.Window.{lined, command_of, clear_of};
 ghost use Rattle.window.specs.Noted.{did_of, refused_of, noted_of};
 
-use flags::{line_of, with_refusal, with_rest, with_woke, without};
+use flags::{REFUSED, REST, WOKE, line_of, with_flag, without};
 use table::Cell;
 
 // "Eight bytes: command, agent, wish, answer, woken, flags, mask, line".
@@ -32,46 +32,50 @@ pub struct Commanded {
     pub window: Window,
 }
 
+// The command that is a step.
+const STEP: u8 = 1;
+
 // The window, its line as its flags and its mask say: what a command other than 1 makes of it.
 pub fn with_line(w: Window) -> Window
     ensures { result ≡ lined w }
 {
-    let mut v = w;
-    v.line = line_of(w.flags, w.mask);
-    v
+    Window {
+        line: line_of(w.flags, w.mask),
+        ..w
+    }
 }
 
 // The window after a step that was made, told its word by its number; rest: all agents are asleep or done after it.
 fn did(w: Window, word: u8, woken: u8, rest: bool) -> Window
     ensures { result ≡ did_of w word woken rest }
 {
-    let mut v = w;
-    v.answer = word;
-    v.woken = woken;
-    let f = with_woke(w.flags, woken > 0);
-    v.flags = with_rest(f, rest);
-    with_line(v)
+    let flags = with_flag(w.flags, WOKE, woken > 0);
+    with_line(Window {
+        answer: word,
+        woken,
+        flags: with_flag(flags, REST, rest),
+        ..w
+    })
 }
 
 // The window after a step that was refused with this number.
 fn refused(w: Window, number: u8) -> Window
     ensures { result ≡ refused_of w number }
 {
-    let mut v = w;
-    v.answer = 128 + number % 128;
-    v.woken = 0;
-    v.flags = with_refusal(w.flags);
-    with_line(v)
+    with_line(Window {
+        answer: 128 + number % 128,
+        woken: 0,
+        flags: with_flag(w.flags, REFUSED, true),
+        ..w
+    })
 }
 
 // The window after a step, told the number of its answer; rest: all agents are asleep or done after it.
 pub fn noted(w: Window, number: u64, rest: bool) -> Window
     ensures { result ≡ noted_of w number rest }
 {
-    let low = (number % 256) as u8;
+    let [low, word, woken, ..] = number.to_le_bytes();
     if low == 0 {
-        let word = (number / 256 % 256) as u8;
-        let woken = (number / 65536 % 256) as u8;
         did(w, word, woken, rest)
     } else {
         refused(w, low)
@@ -82,24 +86,27 @@ pub fn noted(w: Window, number: u64, rest: bool) -> Window
 pub fn command(c: Cell, w: Window) -> Commanded
     ensures { result ≡ command_of c w }
 {
-    if w.command == 1 {
-        let s = step::step(c, w.agent, w.wish);
-        let d = s.cell;
-        let answer = s.answer;
-        let number = numbers::step_number(answer);
-        let rest = table::is_idle(d);
-        let v = noted(w, number, rest);
-        return Commanded { cell: d, window: v };
+    if w.command != STEP {
+        return Commanded {
+            cell: c,
+            window: with_line(w),
+        };
     }
-    let v = with_line(w);
-    Commanded { cell: c, window: v }
+    let s = step::step(c, w.agent, w.wish);
+    let number = numbers::step_number(s.answer);
+    let rest = table::is_idle(s.cell);
+    Commanded {
+        cell: s.cell,
+        window: noted(w, number, rest),
+    }
 }
 
 // Ones written to the flags clear those bits.
 pub fn clear(w: Window, ones: u8) -> Window
     ensures { result ≡ clear_of w ones }
 {
-    let mut v = w;
-    v.flags = without(w.flags, ones);
-    with_line(v)
+    with_line(Window {
+        flags: without(w.flags, ones),
+        ..w
+    })
 }

@@ -6,7 +6,7 @@ use Rattle.std.proofs.Common.{arith}
 use borrow.Author.Tests.{le-leb, lt-leb}
 use Rattle.meaning.specs.Codes.{place_in}
 use Rattle.meaning.specs.Text.{overlay}
-use Rattle.meaning.specs.declared.Listed.TheVariants.{Length, Unlisted}
+use Rattle.meaning.specs.Answers.{Length, Unlisted}
 use Rattle.trail.specs.Written.{tells_move, told_bytes, told_answer, told_buffer}
 
 module _ (x asked : ℕ) where

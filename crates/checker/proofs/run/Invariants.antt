@@ -1,5 +1,4 @@
 -- Before each turn so many moves are made, and what is left of the trail decides the whole.
-use Prim.Native.Nat.{◌-◌, ◌≤◌}
 use mathlib.Core.List.{List}
 use Prim.Native.Nat.{ℕ}
 use Rattle.table.specs.Cell.{cell_of}
@@ -10,7 +9,4 @@ use Rattle.checker.proofs.JudgeLaws.{Left}
 use Rattle.checker.proofs.run.Given as goal
 
 abbrev pub invariant-loop-n : goal.invariant-loop-n
-invariant-loop-n l = (l.n ≤ l.moves) × (Ready l.d × ((text : List ℕ) → Left (judged 0 (tree_of (cell_of l.initial.d)) l.trail text) l.trail text l.d l.n))
-
-abbrev pub decreases-loop-n : goal.decreases-loop-n
-decreases-loop-n l = l.moves - l.n
+invariant-loop-n l = Ready l.d × ((text : List ℕ) → Left (judged 0 (tree_of (cell_of l.initial.d)) l.trail text) l.trail text l.d l.n)

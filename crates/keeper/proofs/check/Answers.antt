@@ -1,7 +1,7 @@
 -- What `checked` answers, told whether the cell is sound.
 use Rattle.std.proofs.Common.{ap, ◌∙◌, Bool, cond}
 use Rattle.meaning.specs.Refusals.{unsound_table}
-use Rattle.meaning.specs.declared.Checked.TheVariants.{Sound, Unsound}
+use Rattle.meaning.specs.Answers.{Sound, Unsound}
 use Rattle.meaning.specs.Codes.{check_of}
 use Rattle.keeper.proofs.check.Goals as goal
 

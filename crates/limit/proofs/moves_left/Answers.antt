@@ -1,14 +1,13 @@
 -- Each turn adds what the lowest agent that is left has; what is added is small.
-use Rattle.std.proofs.Common.{rules, ℕ, ◌≡◌, ◌+◌, ◌≤◌, ◌<◌, ◌∙◌, arith, get_or, subst, sym, ap, pos_of_ne-zero}
+use Rattle.std.proofs.Common.{rules, ℕ, ◌≡◌, ◌+◌, ◌≤◌, ◌<◌, ◌^◌, ◌∙◌, arith, get_or, subst, sym, Some}
 use Rattle.sets.specs.Word.{has}
-use Rattle.sets.specs.Set.{removed}
-use Rattle.sets.specs.Walk.{lowest_in}
-use Rattle.sets.proofs.WalkLaws.{rest_start, rest_lt, removed_less}
+use Rattle.sets.specs.Walk.{TakesLowest}
+use Rattle.sets.proofs.WalkLaws.{rest_start, turn_below}
 use Rattle.sets.specs.declared.Set.{Set}
 use Rattle.table.specs.Cell.{no_agent, cell_of}
 use Rattle.table.specs.declared.Cell.{Cell}
 use Rattle.meaning.specs.Limit.{moves_of, moves_left}
-use Rattle.lending.proofs.Added.{Added, added_start, added_more, added_most, added_end}
+use Rattle.lending.proofs.Added.{Added, added_start, added_turn, added_most, added_none}
 use Rattle.limit.specs.Known.{moves_at}
 use Rattle.limit.proofs.LimitLaws.{moves_read, moves_most}
 use Rattle.limit.proofs.moves_left.Goals as goal
@@ -26,38 +25,34 @@ most : (h : Cell) (moves : ℕ) (rest : Set) → Sum h moves rest → moves ≤ 
 unfolding moves_left cell_of
 most h moves rest a = omega (arith, added_most (has h.given.bits) (before h) a, moves_most (cell_of h))
 
--- the agent k of a turn is the lowest that is left, and n are the moves before it
-module _ (h : Cell) (moves : ℕ) (rest : Set) (a : Sum h moves rest) (some : rest.bits ≡ 0 → ⊥) (k : ℕ) (e : k ≡ lowest_in rest) where
-  low : k < 64
-  low = subst (λ (i : ℕ). i < 64) (sym e) (rest_lt a.walk.walk (pos_of_ne-zero some))
+-- the agent i of a turn has n moves before it
+next : (h : Cell) (moves : ℕ) (rest others : Set) → Sum h moves rest → (i : ℕ) → TakesLowest rest (Some i) others
+    → (n : ℕ) → n ≡ moves_at (get_or h.agents i no_agent).stage (get_or h.agents i no_agent).next (get_or h.agents i no_agent).count → Sum h (moves + n) others
+next h moves rest others a i step n e =
+    subst (λ (m : ℕ). Sum h (moves + m) others) (sym (e ∙ sym (moves_read (get_or h.agents i no_agent)))) (added_turn (has h.given.bits) (before h) a step)
 
-  next : (n : ℕ) → n ≡ moves_at (get_or h.agents k no_agent).stage (get_or h.agents k no_agent).next (get_or h.agents k no_agent).count → Sum h (moves + n) (removed rest (lowest_in rest))
-  next n e' = subst (λ (m : ℕ). Sum h (moves + m) (removed rest (lowest_in rest))) (sym (e' ∙ sym (moves_read (get_or h.agents k no_agent)) ∙ ap (before h) e))
-      (added_more (has h.given.bits) (before h) a (pos_of_ne-zero some))
+pub loop-i-init : goal.loop-i-init
+loop-i-init c =
+    let t = c.args.cell.now in
+    let e = c.into_iter-i-iterator.ensures.into_iter_gives in
+    let small : c.into_iter-i-iterator.result.bits < 2 ^ 64 = search rules in
+    subst (Sum t 0) (sym e) (added_start (has t.given.bits) (before t) t.given (rest_start t.given (subst (λ (s : Set). s.bits < 2 ^ 64) e small)))
 
-pub loop-rest-init : goal.loop-rest-init
-loop-rest-init c = λ b. added_start (has c.args.cell.now.given.bits) (before c.args.cell.now) c.args.cell.now.given (rest_start c.args.cell.now.given b)
-
-pub bounds-cell-k : goal.bounds-cell-k
-bounds-cell-k c = low c.args.cell.now c.loop-rest.moves c.loop-rest.rest (c.loop-rest.invariant (search rules)) c.loop-rest-test.true c.first-i.result c.first-i.ensures
+pub bounds-cell-i : goal.bounds-cell-i
+bounds-cell-i c = turn_below c.loop-i.invariant.walk.walk c.in-Some.ensures.steps
 
 pub overflow_add-moves : goal.overflow_add-moves
 overflow_add-moves c =
-    let h = c.args.cell.now in
-    let s = next h c.loop-rest.moves c.loop-rest.rest (c.loop-rest.invariant (search rules)) c.loop-rest-test.true c.first-i.result c.first-i.ensures c.moves_at-n.result c.moves_at-n.ensures in
-    let m : c.loop-rest.moves + c.moves_at-n.result ≤ 2112 = most h _ _ s in
+    let s = next c.args.cell.now c.loop-i.moves c.loop-i.i-iterator c.next.new.self c.loop-i.invariant c.in-Some.i c.in-Some.ensures.steps
+    c.moves_at-moves.result c.moves_at-moves.ensures in
+    let m : c.loop-i.moves + c.moves_at-moves.result ≤ 2112 = most c.args.cell.now _ _ s in
     search rules
 
-pub loop-rest-preserved : goal.loop-rest-preserved
-loop-rest-preserved c =
-    let h = c.args.cell.now in
-    λ b. subst (λ (s : Set). Sum h (c.loop-rest.moves + c.moves_at-n.result) s) (sym c.rest-others.ensures)
-    (next h c.loop-rest.moves c.loop-rest.rest (c.loop-rest.invariant (search rules)) c.loop-rest-test.true c.first-i.result c.first-i.ensures c.moves_at-n.result c.moves_at-n.ensures)
-
-pub loop-rest-smaller : goal.loop-rest-smaller
-loop-rest-smaller c =
-    subst (λ (s : Set). s.bits < c.loop-rest.rest.bits) (sym c.rest-others.ensures) (removed_less c.loop-rest.rest (search rules) (pos_of_ne-zero c.loop-rest-test.true))
+pub loop-i-preserved : goal.loop-i-preserved
+loop-i-preserved c =
+    next c.args.cell.now c.loop-i.moves c.loop-i.i-iterator c.next.new.self c.loop-i.invariant c.in-Some.i c.in-Some.ensures.steps
+    c.moves_at-moves.result c.moves_at-moves.ensures
 
 pub returns : goal.returns
 unfolding moves_left cell_of
-returns c = added_end (has c.args.cell.now.given.bits) (before c.args.cell.now) (c.loop-rest.invariant (omega arith)) c.loop-rest-test.false
+returns c = added_none (has c.args.cell.now.given.bits) (before c.args.cell.now) c.loop-i.invariant c.in-None.ensures.steps

@@ -14,10 +14,10 @@ pub slice_bounds-write_ended-start : goal.slice_bounds-write_ended-start
 slice_bounds-write_ended-start c = (least_le _ _ _ c.offset-i.ensures).1
 
 pub write_ended-n-requires : goal.write_ended-n-requires
-write_ended-n-requires c = placed_on (omega (arith, c.well_formed)) c.write_refusal-said.ensures c.offset-i.ensures
+write_ended-n-requires c = placed_on (omega (arith, c.well_formed)) c.write_told-said.ensures c.offset-i.ensures
 
 pub returns : goal.returns
 unfolding refused_line tab
 returns c =
     moved (wrote_as (refused_grouped (ascii "refused ") (decimal c.args.number) (32 ∷ []) (decimal c.args.place) (10 ∷ []))
-    (next (omega (arith, c.well_formed)) c.write_refusal-said.ensures c.offset-i.ensures c.write_ended-n.ensures)) c.plus.ensures
+    (next (omega (arith, c.well_formed)) c.write_told-said.ensures c.offset-i.ensures c.write_ended-n.ensures)) c.plus.ensures

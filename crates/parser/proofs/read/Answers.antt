@@ -15,45 +15,45 @@ returns-in_default c =
     let l = c.loop-i in
     let r = c.stretch-r.result in
     rest_off _ r.i r.at l.d l.b l.x (rest_stretch _ l.i l.at l.d l.b l.x l.invariant c.stretch-r.ensures) (stretch_within c.loop-i-test.true c.stretch-r.ensures) _
-    c.moved-m.ensures _ c.in_default.is
+    c.moved.ensures _ c.in_default.is
 
+pub loop-i-smaller-in-Nothing : goal.loop-i-smaller-in-Nothing
+loop-i-smaller-in-Nothing c = omega (arith, stretch_within c.loop-i-test.true c.stretch-r.ensures, stretch_up c.stretch-r.ensures, c.loop-i-test.true)
+
+pub loop-i-preserved-in-Nothing : goal.loop-i-preserved-in-Nothing
+loop-i-preserved-in-Nothing c =
+    let l = c.loop-i in
+    let r = c.stretch-r.result in
+    rest_nothing _ r.i r.at l.d l.b l.x (rest_stretch _ l.i l.at l.d l.b l.x l.invariant c.stretch-r.ensures) (stretch_within c.loop-i-test.true c.stretch-r.ensures)
+    _ c.moved.ensures _ _ _ c.in-To.is c.in-Nothing.is
+
+-- what an event leaves: the table and the marks as it writes them
 pub loop-i-smaller : goal.loop-i-smaller
-loop-i-smaller c = omega (arith, stretch_within c.loop-i-test.true c.stretch-r.ensures, stretch_up c.stretch-r.ensures, c.loop-i-test.true)
+loop-i-smaller c =
+    omega (arith, stretch_within c.loop-i-test.true c.stretch-r.ensures, stretch_up c.stretch-r.ensures, c.loop-i-test.true)
 
 pub loop-i-preserved : goal.loop-i-preserved
 loop-i-preserved c =
     let l = c.loop-i in
     let r = c.stretch-r.result in
-    rest_nothing _ r.i r.at l.d l.b l.x (rest_stretch _ l.i l.at l.d l.b l.x l.invariant c.stretch-r.ensures) (stretch_within c.loop-i-test.true c.stretch-r.ensures)
-    _ c.moved-m.ensures _ _ _ c.in-To.is c.in-Nothing.is
-
--- what an event leaves: the table and the marks as it writes them
-pub loop-i-smaller-in_default-k : goal.loop-i-smaller-in_default-k
-loop-i-smaller-in_default-k c =
-    omega (arith, stretch_within c.loop-i-test.true c.stretch-r.ensures, stretch_up c.stretch-r.ensures, c.loop-i-test.true)
-
-pub loop-i-preserved-in_default-k : goal.loop-i-preserved-in_default-k
-loop-i-preserved-in_default-k c =
-    let l = c.loop-i in
-    let r = c.stretch-r.result in
     rest_written _ r.i r.at l.d l.b l.x (rest_stretch _ l.i l.at l.d l.b l.x l.invariant c.stretch-r.ensures) (stretch_within c.loop-i-test.true c.stretch-r.ensures)
-    _ c.moved-m.ensures _ _ _ c.in-To.is _ _ _ _ _ _ _ _ _ _ _ c.at-h.ensures c.agent_written-which.ensures c.at-y.ensures c.agent_after-a.ensures
-    c.gives_agent.ensures c.insert_if-b.ensures c.at-q.ensures c.place_after-o.ensures c.gives_place.ensures c.insert_if-b-in_default-e.ensures c.marks_after-x.ensures
+    _ c.moved.ensures _ _ _ c.in-To.is _ _ _ _ _ _ _ _ _ _ _ c.at.ensures c.agent_written-which.ensures c.at-y.ensures c.agent_after.ensures
+    c.gives_agent.ensures c.insert_if-b.ensures c.at-q.ensures c.place_after.ensures c.gives_place.ensures c.insert_if-b-in-loop-i.ensures c.marks_after-x.ensures
 
 -- a row of actions
-pub loop-i-smaller-in_default-e : goal.loop-i-smaller-in_default-e
-loop-i-smaller-in_default-e c =
+pub loop-i-smaller-in-Dot : goal.loop-i-smaller-in-Dot
+loop-i-smaller-in-Dot c =
     omega (arith, stretch_within c.loop-i-test.true c.stretch-r.ensures, stretch_up c.stretch-r.ensures, c.loop-i-test.true, row_up c.with_row-row.ensures)
 
-pub loop-i-preserved-in_default-e : goal.loop-i-preserved-in_default-e
-loop-i-preserved-in_default-e c =
+pub loop-i-preserved-in-Dot : goal.loop-i-preserved-in-Dot
+loop-i-preserved-in-Dot c =
     let l = c.loop-i in
     let r = c.stretch-r.result in
     rest_row _ _ _ _ _ _
     (rest_written _ r.i r.at l.d l.b l.x (rest_stretch _ l.i l.at l.d l.b l.x l.invariant c.stretch-r.ensures) (stretch_within c.loop-i-test.true c.stretch-r.ensures)
-    _ c.moved-m.ensures _ _ _ c.in-To.is _ _ _ _ _ _ _ _ _ _ _ c.at-h.ensures c.agent_written-which.ensures c.at-y.ensures c.agent_after-a.ensures
-    c.gives_agent.ensures c.insert_if-b.ensures c.at-q.ensures c.place_after-o.ensures c.gives_place.ensures c.insert_if-b-in_default-e.ensures c.marks_after-x.ensures)
-    c.in-Dot.is _ _ (c.at-z.ensures ∙ ap (λ n. n % 64) c.before-in_default-e.ensures) refl c.with_row-row.ensures
+    _ c.moved.ensures _ _ _ c.in-To.is _ _ _ _ _ _ _ _ _ _ _ c.at.ensures c.agent_written-which.ensures c.at-y.ensures c.agent_after.ensures
+    c.gives_agent.ensures c.insert_if-b.ensures c.at-q.ensures c.place_after.ensures c.gives_place.ensures c.insert_if-b-in-loop-i.ensures c.marks_after-x.ensures)
+    c.in-Dot.is _ _ (c.at-z.ensures ∙ ap (λ n. n % 64) c.saturating_sub.ensures) refl c.with_row-row.ensures
 
 pub returns : goal.returns
 returns c =

@@ -3,8 +3,8 @@ use Rattle.text.proofs.TextLaws.{wrote_as}
 use Rattle.report.proofs.ReportLaws.{report_accepted, report_refused}
 use Rattle.report.proofs.write_report.Goals as goal
 
-pub returns-in-Accepted : goal.returns-in-Accepted
-returns-in-Accepted c = wrote_as (report_accepted _ _ _ _ c.load-r.ensures c.in-Accepted.is) c.write_run.ensures
+pub returns-in-Ok : goal.returns-in-Ok
+returns-in-Ok c = wrote_as (report_accepted _ _ _ _ c.load-r.ensures c.in-Ok.is) c.write_run.ensures
 
-pub returns-in-Rejected : goal.returns-in-Rejected
-returns-in-Rejected c = wrote_as (report_refused _ _ _ _ c.load-r.ensures _ _ c.in-Rejected.is) c.write_refused.ensures
+pub returns-in-Err : goal.returns-in-Err
+returns-in-Err c = wrote_as (report_refused _ _ _ _ c.load-r.ensures c.in-Err.r.number c.in-Err.r.offset c.in-Err.is) c.write_refused.ensures

@@ -10,6 +10,6 @@ use Rattle.touch.proofs.touch.Goals as goal
 pub returns : goal.returns
 returns c =
     let a = c.args in
-    ap (λ (i : ℕ). record { cell = put_touches a.c (set a.c.touches i c.decide_touch-d.result.count); answer = c.decide_touch-d.result.answer }) c.at-k.ensures
+    ap (λ (i : ℕ). record { cell = put_touches a.c (set a.c.touches i c.decide_touch-d.result.count); answer = c.decide_touch-d.result.answer }) c.at.ensures
     ∙ ap (tallied a.c a.place) c.decide_touch-d.ensures
-    ∙ touch_told a.c (sized a.c c.well_formed.0) a.place a.number _ c.is_sound-known.ensures
+    ∙ touch_told a.c (sized a.c c.well_formed.0) a.place a.number _ c.is_sound.ensures

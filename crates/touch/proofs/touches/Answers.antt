@@ -4,4 +4,4 @@ use Rattle.touch.proofs.KnownLaws.{touches_told}
 use Rattle.touch.proofs.touches.Goals as goal
 
 pub returns : goal.returns
-returns c = c.touches_known.ensures ∙ touches_told _ _ _ c.is_sound-known.ensures
+returns c = c.touches_known.ensures ∙ touches_told _ _ _ c.is_sound.ensures

@@ -3,7 +3,7 @@ use mathlib.Core.Path.{◌≡◌, ap, ap₂, ◌∙◌}
 use mathlib.Core.Bool.{Bool}
 use borrow.Author.Rules.{rules}
 use Rattle.table.proofs.Facts.{sized}
-use Rattle.meaning.specs.declared.Asked.{Asked}
+use Rattle.meaning.specs.Answers.{Asked}
 use Rattle.meaning.specs.Ask.{hands_back}
 use Rattle.soundness.specs.Seen.{seen_of}
 use Rattle.soundness.specs.declared.sound.Seen.{Seen}

@@ -12,5 +12,5 @@ returns c =
     let h = c.args.cell.now in
     let x = c.args.agent in
     c.ask_number.ensures
-    ∙ ap ask_number (c.told-t.ensures ∙ ap (λ (d : Decision). asked_of h (agent_at h x) d) c.decided-d.ensures.decision
+    ∙ ap ask_number (c.told.ensures ∙ ap (λ (d : Decision). asked_of h (agent_at h x) d) c.decided-d.ensures.decision
     ∙ decided_ask h c.decided-d.ensures.sizes x c.args.wish)

@@ -5,4 +5,4 @@ use Rattle.limit.proofs.LimitLaws.{ceiling_told}
 use Rattle.keeper.proofs.exports.keeper_ceiling.Goals as goal
 
 pub returns : goal.returns
-returns c = c.numbered_ceiling.ensures ∙ ap limit_number (ceiling_told c.args.cell.now c.sound_lent-s.result c.moves_left-moves.result c.sound_lent-s.ensures c.moves_left-moves.ensures)
+returns c = c.limit_number.ensures ∙ ap limit_number (c.ceiling_known.ensures ∙ ceiling_told c.args.cell.now c.sound_lent.result c.moves_left.result c.sound_lent.ensures c.moves_left.ensures)

@@ -5,4 +5,4 @@ use Rattle.locating.proofs.KnownLaws.{common_told}
 use Rattle.keeper.proofs.exports.keeper_common.Goals as goal
 
 pub returns : goal.returns
-returns c = c.numbered_common.ensures ∙ ap found_number (common_told c.args.cell.now c.args.place c.args.other c.sound_lent-s.result c.sound_lent-s.ensures)
+returns c = c.found_number.ensures ∙ ap found_number (c.common_known.ensures ∙ common_told c.args.cell.now c.args.place c.args.other c.sound_lent.result c.sound_lent.ensures)

@@ -7,4 +7,4 @@ use Rattle.keeper.proofs.exports.keeper_idle.Goals as goal
 pub returns : goal.returns
 returns c =
     c.idle_number.ensures
-    ∙ ap idle_number (c.idled.ensures ∙ idle_told c.args.cell.now c.sound_lent-s.result c.at_rest-rest.result c.sound_lent-s.ensures c.at_rest-rest.ensures)
+    ∙ ap idle_number (c.idled.ensures ∙ idle_told c.args.cell.now c.sound_lent.result c.at_rest.result c.sound_lent.ensures c.at_rest.ensures)

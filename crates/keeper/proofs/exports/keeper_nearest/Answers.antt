@@ -5,4 +5,4 @@ use Rattle.locating.proofs.KnownLaws.{nearest_told}
 use Rattle.keeper.proofs.exports.keeper_nearest.Goals as goal
 
 pub returns : goal.returns
-returns c = c.numbered_nearest.ensures ∙ ap found_number (nearest_told c.args.cell.now c.args.place c.args.name c.sound_lent-s.result c.sound_lent-s.ensures)
+returns c = c.found_number.ensures ∙ ap found_number (c.nearest_known.ensures ∙ nearest_told c.args.cell.now c.args.place c.args.name c.sound_lent.result c.sound_lent.ensures)

@@ -15,6 +15,6 @@ returns c =
     let q = c.args.place in
     let e = ap (λ (d : TouchDecision). tallied h q d) c.touch_decided-d.ensures.decision
     ∙ touch_told h c.touch_decided-d.ensures.sizes q c.args.number (sound (cell_of h)) refl in (
-      ap (λ (k : ℕ). put_touches h (set h.touches k c.touch_decided-d.result.count)) c.at-k.ensures ∙ ap (λ (t : Touched). t.cell) e,
+      ap (λ (k : ℕ). put_touches h (set h.touches k c.touch_decided-d.result.count)) c.at.ensures ∙ ap (λ (t : Touched). t.cell) e,
       c.touch_number.ensures ∙ ap (λ (t : Touched). touch_number t.answer) e,
     )

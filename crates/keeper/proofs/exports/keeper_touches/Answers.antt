@@ -5,4 +5,4 @@ use Rattle.touch.proofs.KnownLaws.{touches_told}
 use Rattle.keeper.proofs.exports.keeper_touches.Goals as goal
 
 pub returns : goal.returns
-returns c = c.numbered_touches.ensures ∙ ap touch_number (touches_told c.args.cell.now c.args.place c.sound_lent-s.result c.sound_lent-s.ensures)
+returns c = c.touch_number.ensures ∙ ap touch_number (c.touches_known.ensures ∙ touches_told c.args.cell.now c.args.place c.sound_lent.result c.sound_lent.ensures)

@@ -30,4 +30,4 @@ returns c =
     let d = c.args.d in
     let r : Stepped = record { cell = decisions.settled h c.args.agent d; answer = d.answer } in
     let e = only_differs h d c.args.any c.args.answer r r refl c.goes_on.result c.goes_on.ensures c.if-goes_on.false in
-    (ap (λ (s : Stepped). s.cell) e, ap (λ (s : Stepped). step_number s.answer) e)
+    (ap (λ (s : Stepped). s.cell) e, c.from.ensures ∙ ap (λ (s : Stepped). step_number s.answer) e)

@@ -15,9 +15,5 @@ decreases-write_place l = 3 * l.depth + 1
 abbrev pub decreases-write_places : goal.decreases-write_places
 decreases-write_places l = 3 * l.depth + 2
 
-abbrev pub invariant-write_places-loop-left : goal.invariant-write_places-loop-left
-invariant-write_places-loop-left l =
-    Walked (member l.fn.inside) (place_on l.depth (sheet_of l.places l.agents l.names l.kinds l.numbers l.bounds)) l.from l.fn.buf l.left l.marks l.many l.buf l.at
-
-abbrev pub decreases-write_places-loop-left : goal.decreases-write_places-loop-left
-decreases-write_places-loop-left l = l.left.bits
+abbrev pub invariant-write_places-loop-q : goal.invariant-write_places-loop-q
+invariant-write_places-loop-q l = Walked (member l.fn.inside) (place_on l.depth (sheet_of l.sheet)) l.from l.fn.buf l.q-iterator l.marks l.many l.buf l.at

@@ -12,15 +12,15 @@ order-moved-requires c = let m = c.requires.1 in (marked_inside m (marked_held m
 pub returns-then-moved-eq0 : goal.returns-then-moved-eq0
 returns-then-moved-eq0 c texts m = kept_arranged m (c.order-moved.ensures.kept c.if-moved-eq0.true)
 
-pub arrange_page-requires : goal.arrange_page-requires
-arrange_page-requires c =
+pub arrange_aside-requires : goal.arrange_aside-requires
+arrange_aside-requires c =
+    let o = c.order-moved.ensures in
+    let l = c.if-moved-eq0.false in
+    (omega arith, record { marked = c.requires; some = omega (arith, o.few, l); small = omega arith; sorts = o.sorts })
+
+pub arrange_aside-requires-else-ends-many-le-FEW_BYTES : goal.arrange_aside-requires-else-ends-many-le-FEW_BYTES
+arrange_aside-requires-else-ends-many-le-FEW_BYTES c =
     let m = c.requires.1 in
     let o = c.order-moved.ensures in
     let l = c.if-moved-eq0.false in
-    record { marked = c.requires; some = omega (arith, o.few, l); small = omega (arith, marked_last m (omega (arith, o.few, l)), m.page); sorts = o.sorts }
-
-pub arrange_few-requires : goal.arrange_few-requires
-arrange_few-requires c =
-    let o = c.order-moved.ensures in
-    let l = c.if-moved-eq0.false in
-    record { marked = c.requires; some = omega (arith, o.few, l); small = omega arith; sorts = o.sorts }
+    (omega arith, record { marked = c.requires; some = omega (arith, o.few, l); small = omega (arith, marked_last m (omega (arith, o.few, l)), m.page); sorts = o.sorts })

@@ -1,23 +1,19 @@
 -- What is planned, walked over and stored is the motion by its parts, which is the motion.
-use Rattle.std.proofs.Common.{rules, ◌∙◌, ap}
+use Rattle.std.proofs.Common.{ℕ, ◌%◌, rules, get_or, ◌∙◌, ap}
+use Rattle.table.specs.Bounds.{Sized}
+use Rattle.table.specs.Cell.{no_place}
 use Rattle.meaning.specs.declared.Stepped.{Stepped}
-use Rattle.moving.proofs.ShiftLaws.{ends_on, ends_open}
+use Rattle.moving.specs.Plan.{waking_of}
+use Rattle.moving.proofs.ShiftLaws.{ends}
 use Rattle.moving.proofs.shifts.shift_lent.Goals as goal
 
--- a place is opened
-pub returns-then-m : goal.returns-then-m
-returns-then-m c =
-    let a = c.args in
-    let e = ends_open a.cell.now (record { places = search rules; locks = search rules; agents = search rules; used = search rules; given = search rules; touches = search rules }) a.x a.a a.motion c.number-n.result c.at-k.result c.goal-g.result c.at-j.result c.at-i.result
-    c.planned-m.result c.walked-w.new.cell c.walked-w.result c.kept_agent-mover.result
-    c.number-n.ensures c.at-k.ensures c.goal-g.ensures c.at-j.ensures c.planned-m.ensures c.walked-w.ensures.0 c.walked-w.ensures.1 c.at-i.ensures c.kept_agent-mover.ensures c.if-m.true in
-    (c.opened.ensures.0 ∙ ap (λ (s : Stepped). s.cell) e, c.opened.ensures.1 ∙ ap (λ (s : Stepped). s.answer) e)
-
--- none is
 pub returns : goal.returns
 returns c =
     let a = c.args in
-    let e = ends_on a.cell.now (record { places = search rules; locks = search rules; agents = search rules; used = search rules; given = search rules; touches = search rules }) a.x a.a a.motion c.number-n.result c.at-k.result c.goal-g.result c.at-j.result c.at-i.result
-    c.planned-m.result c.walked-w.new.cell c.walked-w.result c.kept_agent-mover.result
-    c.number-n.ensures c.at-k.ensures c.goal-g.ensures c.at-j.ensures c.planned-m.ensures c.walked-w.ensures.0 c.walked-w.ensures.1 c.at-i.ensures c.kept_agent-mover.ensures c.if-m.false in
+    let t = a.cell.now in
+    let sized : Sized t = record { places = search rules; locks = search rules; agents = search rules; used = search rules; given = search rules; touches = search rules } in
+    let e = ends t sized a.x a.a a.motion c.at-k.result c.at-i.result c.who_wakes-waking.result c.planned-plan.result c.walk-w.new.cell c.settled.new.cell c.walk-w.result c.kept.result
+    (c.at-k.ensures ∙ ap (λ (n : ℕ). n % 64) c.number.ensures)
+    (c.who_wakes-waking.ensures ∙ ap (λ (k : ℕ). waking_of a.a a.motion (get_or t.places k no_place) t.used) (c.at.ensures ∙ ap (λ (n : ℕ). n % 64) c.goal.ensures))
+    c.planned-plan.ensures c.walk-w.ensures.0 c.walk-w.ensures.1 c.at-i.ensures c.kept.ensures c.settled.ensures in
     (ap (λ (s : Stepped). s.cell) e, c.answered.ensures ∙ ap (λ (s : Stepped). s.answer) e)

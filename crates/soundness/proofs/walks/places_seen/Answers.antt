@@ -1,26 +1,42 @@
--- Each turn is a law of the walk's states; once no place is left all of them are known to lead to the floor, or not.
-use Rattle.std.proofs.Common.{◌<◌, ◌∙◌, subst, sym, rules, get_or, set, replicate}
-use Rattle.table.specs.Cell.{no_place}
-use Rattle.soundness.specs.declared.lands.Climb.{Climb}
-use Rattle.soundness.proofs.ClimbLaws.{Climbs, left, floored_climbs, placed_climbs, placed_less, climb_led, climb_ends}
+-- Each turn is a law of the walk; once no place is left all of them are known to lead to the floor, or not.
+use Rattle.std.proofs.Common.{◌∙◌, sym, rules}
+use Rattle.sets.proofs.WalkLaws.{turn_below}
+use Rattle.soundness.proofs.ClimbLaws.{floor_falls, climb_start, climb_stop, climb_turn, climb_ways, climb_ends}
 use Rattle.soundness.proofs.walks.places_seen.Goals as goal
 
-pub loop-l-init : goal.loop-l-init
-loop-l-init c = subst (λ (l : Climb). Climbs c.args.cell.now c.args.w l (replicate 64 0)) (sym c.floored-l.ensures) (floored_climbs c.args.cell.now c.args.w)
+pub returns-then-not-floor_sound : goal.returns-then-not-floor_sound
+returns-then-not-floor_sound c = floor_falls _ _ _ _ _ (sym c.floor_sound.ensures ∙ c.if-not-floor_sound.true)
 
-pub loop-l-preserved : goal.loop-l-preserved
-loop-l-preserved c =
-    let h = c.args.cell.now in
-    let l = c.loop-l.l in
-    subst (λ (y : Climb). Climbs h c.args.w y (set c.loop-l.up l.at (get_or h.places l.at no_place).parent)) (sym c.placed-v.ensures)
-    (placed_climbs h c.args.w l c.loop-l.up c.loop-l-test.true c.loop-l.invariant)
+pub loop-q-init : goal.loop-q-init
+loop-q-init c =
+    rw (c.into_iter-q-iterator.ensures.into_iter_gives, c.remove-q-items.ensures)
+    (climb_start _ _ _ _ _ (sym c.floor_sound.ensures ∙ c.if-not-floor_sound.false))
 
-pub loop-l-smaller : goal.loop-l-smaller
-loop-l-smaller c =
-    subst (λ (y : Climb). left y < left c.loop-l.l) (sym c.placed-v.ensures) (placed_less c.args.cell.now c.args.w c.loop-l.l c.loop-l.up c.loop-l-test.true c.loop-l.invariant _ _)
+pub bounds-cell-q : goal.bounds-cell-q
+bounds-cell-q c = turn_below c.loop-q.invariant.tested.left c.in-Some.ensures.steps
 
-pub led-requires : goal.led-requires
-led-requires c = climb_led c.args.cell.now c.args.w c.loop-l.l c.loop-l.up c.loop-l-test.false (search rules) c.loop-l.invariant
+pub bounds-cell-q-in-loop-q : goal.bounds-cell-q-in-loop-q
+bounds-cell-q-in-loop-q c = turn_below c.loop-q.invariant.tested.left c.in-Some.ensures.steps
+
+pub bounds-up-q : goal.bounds-up-q
+bounds-up-q c = turn_below c.loop-q.invariant.tested.left c.in-Some.ensures.steps
+
+pub returns-then-not-child_fits : goal.returns-then-not-child_fits
+returns-then-not-child_fits c =
+    climb_stop _ _ _ _ _ (sym c.floor_sound.ensures ∙ c.if-not-floor_sound.false) c.loop-q.invariant c.in-Some.ensures.steps
+    (rw (← c.has.ensures, ← c.has-in-loop-q.ensures, ← c.has-in-loop-q-2.ensures, ← c.child_fits.ensures) c.if-not-child_fits.true)
+
+pub loop-q-preserved : goal.loop-q-preserved
+loop-q-preserved c =
+    rw (c.insert_if-known.ensures, c.has-in-loop-q-3.ensures)
+    (climb_turn _ _ _ _ _ (sym c.floor_sound.ensures ∙ c.if-not-floor_sound.false) c.loop-q.invariant c.in-Some.ensures.steps
+    (rw (← c.has.ensures, ← c.has-in-loop-q.ensures, ← c.has-in-loop-q-2.ensures, ← c.child_fits.ensures) c.if-not-child_fits.false))
+
+pub all_lead-requires : goal.all_lead-requires
+all_lead-requires c =
+    climb_ways _ _ _ _ _ (sym c.floor_sound.ensures ∙ c.if-not-floor_sound.false) c.loop-q.invariant c.in-None.ensures.steps.0 (search rules)
 
 pub returns : goal.returns
-returns c = c.led.ensures ∙ climb_ends c.args.cell.now c.args.w c.loop-l.l c.loop-l.up c.loop-l-test.false (search rules) c.loop-l.invariant
+returns c =
+    c.all_lead.ensures
+    ∙ climb_ends _ _ _ _ _ (sym c.floor_sound.ensures ∙ c.if-not-floor_sound.false) c.loop-q.invariant c.in-None.ensures.steps.0 (search rules)

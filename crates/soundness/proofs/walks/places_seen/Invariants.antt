@@ -1,9 +1,6 @@
--- What holds before each turn of the walk over the places is `Climbs`; with each turn fewer places are left.
-use Rattle.soundness.proofs.ClimbLaws.{Climbs, left}
+-- What holds before each turn of the walk over the places is `Climbed`.
+use Rattle.soundness.proofs.LandLaws.{Climbed}
 use Rattle.soundness.proofs.walks.places_seen.Given as goal
 
-abbrev pub invariant-loop-l : goal.invariant-loop-l
-invariant-loop-l l = Climbs l.fn.cell l.fn.w l.l l.up
-
-abbrev pub decreases-loop-l : goal.decreases-loop-l
-decreases-loop-l l = left l.l
+abbrev pub invariant-loop-q : goal.invariant-loop-q
+invariant-loop-q l = Climbed l.fn.cell.places l.fn.cell.locks l.fn.cell.used l.fn.held.claimed l.fn.held.going l.up l.known l.q-iterator

@@ -1,0 +1,14 @@
+pub mod AwayLaws
+pub mod ByteLaws
+pub mod CopyLaws
+pub mod KeyLaws
+pub mod LandLaws
+pub mod LengthLaws
+pub mod LineLaws
+pub mod NumberLaws
+pub mod OpenLaws
+pub mod PutLaws
+pub mod RowLawsByHand
+pub mod TextLaws
+pub mod TurnByTurn
+pub mod WakeLaws
