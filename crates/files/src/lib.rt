@@ -120,17 +120,29 @@ impl Program<'_> {
         Err(Unread::Unnamed)
     }
 
-    // A line on standard error: what failed, and why. The answer for what was to be read.
-    fn refuse(&self, what: &[u8], why: &str) -> Result<usize, Unread>
-        ensures { result ≡ Err Failed }
-    {
+    // How a line on standard error begins: with the program and with what failed.
+    fn begin(&self, what: &[u8]) {
         self.tell(self.name);
         self.tell(b": ");
         self.tell(what);
+    }
+
+    // How it ends, and the answer for what was to be read.
+    fn end(&self, part: &[u8]) -> Result<usize, Unread>
+        ensures { result ≡ Err Failed }
+    {
+        self.tell(part);
+        Err(Unread::Failed)
+    }
+
+    // A line on standard error: what failed, and why.
+    fn refuse(&self, what: &[u8], why: &str) -> Result<usize, Unread>
+        ensures { result ≡ Err Failed }
+    {
+        self.begin(what);
         self.tell(b": ");
         self.tell(why.as_bytes());
-        self.tell(b"\n");
-        Err(Unread::Failed)
+        self.end(b"\n")
     }
 
     // What failed is refused for the system's reason.
@@ -147,11 +159,14 @@ impl Program<'_> {
     fn complain_of_length(&self, path: &[u8], room: usize) -> Result<usize, Unread>
         ensures { result ≡ Err Failed }
     {
-        let most = room.saturating_sub(1);
-        match format!(in self.rt.alloc(); "longer than {most} bytes") {
-            Ok(text) => self.refuse(path, text.as_str()),
-            Err(_) => self.refuse(path, "longer than  bytes"),
+        self.begin(path);
+        self.tell(b": longer than ");
+        if let Some(most) = room.checked_sub(1) {
+            if let Ok(text) = format!(in self.rt.alloc(); "{most}") {
+                self.tell(text.as_str().as_bytes());
+            }
         }
+        self.end(b" bytes\n")
     }
 
     // The bytes of an open file at the start of buf, as many as it holds. A file that is to be read whole and fills buf may go on, and is

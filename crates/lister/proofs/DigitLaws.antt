@@ -2,7 +2,7 @@
 use Rattle.std.specs.Prelude.{◌≡◌, List, [], ◌∷◌, ◌++◌, ℕ, suc, ◌+◌, ◌/◌, ◌%◌, ◌<◌, ◌≤◌}
 use Rattle.std.proofs.Common.{sym, ap, ap₂, ◌∙◌, arith, sub-one}
 use Rattle.meaning.specs.Text.{digits}
-use Rattle.text.proofs.TextLaws.{digits_one, digits_more}
+use Rattle.text.proofs.DigitLaws.{digits_one, digits_more}
 
 some : {k : ℕ} → suc k ≡ 0 → ⊥
 some e = omega arith

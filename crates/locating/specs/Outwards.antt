@@ -20,6 +20,6 @@ name_in ps q = place_name (places_in ps) q
 abbrev pub named_in : List Place → ℕ → ℕ → Bool
 named_in ps name q = eqb (name_in ps q) name
 
--- what a call may answer for each number is the test's answer
-abbrev pub Decides : (ℕ → Bool → Type 0) → (ℕ → Bool) → Type 0
-Decides answers f = (q : ℕ) (b : Bool) → answers q b → b ≡ f q
+-- what a call may answer for each number and the place there is the test's answer
+abbrev pub Decides : List Place → (ℕ → Place → Bool → Type 0) → (ℕ → Bool) → Type 0
+Decides ps answers f = (q : ℕ) (x : Place) (b : Bool) → x ≡ places_in ps q → answers q x b → b ≡ f q

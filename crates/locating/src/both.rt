@@ -31,7 +31,7 @@ fn holders(ps: [Place; 64], r: u8) -> Set
 fn first_among(ps: [Place; 64], s: Set, q: u8) -> u8
     ensures { result ≡ places.outwards places.most_outwards (up_in ps) (member s) q }
 {
-    first_outwards(ps, q, |p| s.has(p))
+    first_outwards(ps, q, |p, _| s.has(p))
 }
 
 // The innermost place that holds or is both q and r, or 64.

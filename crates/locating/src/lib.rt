@@ -31,20 +31,21 @@ fn found_place(p: u8) -> Found
     Ok(Some(p))
 }
 
-// From q outwards, q itself counted: the first place that passes, or 64.
-fn first_outwards<F: Fn(u8) -> bool>(ps: [Place; 64], q: u8, passes: F) -> u8
+// From q outwards, q itself counted: the first place that passes, told its number and what stands there, or 64. Each place is read once.
+fn first_outwards<F: Fn(u8, Place) -> bool>(ps: [Place; 64], q: u8, passes: F) -> u8
     requires { F.IsAlwaysCallable passes }
-    ensures { (f : ℕ → Bool) → Decides (F.post passes) f → result ≡ outwards most_outwards (up_in ps) f q }
+    ensures { (f : ℕ → Bool) → Decides ps (F.post passes) f → result ≡ outwards most_outwards (up_in ps) f q }
 {
     let mut at = q;
     for _turn in 0..MOST_OUTWARDS {
-        if passes(at) {
+        let x = table::place_at(ps, at);
+        if passes(at, x) {
             return at;
         }
         if at == 0 {
             return NONE;
         }
-        at = table::place_at(ps, at).parent;
+        at = x.parent;
     }
     NONE
 }

@@ -13,7 +13,7 @@ use table::{Cell, Place};
 fn first_named(ps: [Place; 64], q: u8, name: u16) -> u8
     ensures { result ≡ places.outwards places.most_outwards (up_in ps) (named_in ps name) q }
 {
-    first_outwards(ps, q, |p| table::place_at(ps, p).name.name == name)
+    first_outwards(ps, q, |_, x| x.name.name == name)
 }
 
 // The nearest place of this name that encloses q, or 64: nothing encloses the floor.

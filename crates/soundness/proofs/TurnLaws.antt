@@ -1,6 +1,6 @@
 -- The walk over the agents comes to what soundness asks of them. Assumes nothing.
 -- Idea: before each turn all agents so far fit, which is `Passed`.
-use Rattle.std.specs.Prelude.{◌≡◌, refl, Bool, true, false, ◌&&◌, cond, ℕ, ◌%◌, eqb, get_or, None, Some}
+use Rattle.std.specs.Prelude.{◌≡◌, refl, Bool, Option, true, false, ◌&&◌, cond, ℕ, ◌%◌, eqb, get_or, None, Some}
 use Rattle.std.specs.Option.{is_some}
 use Rattle.std.proofs.Common.{sym, ap, ◌∙◌, subst}
 use Rattle.order.specs.Row.{row_fits}
@@ -15,7 +15,7 @@ use Rattle.table.specs.declared.Agent.{Agent}
 use Rattle.table.specs.declared.Cell.{Cell}
 use Rattle.soundness.specs.Pass.{quiet, remembers_at, quiet_fits, busy_fits}
 use Rattle.soundness.specs.Left.{left_of}
-use Rattle.soundness.specs.Turn.{row_kind, fits_of, busy_of, Walked}
+use Rattle.soundness.specs.Turn.{row_kind, kind_in, fits_of, busy_of, Walked}
 use Rattle.soundness.specs.declared.turns.Busy.{Busy}
 use Rattle.soundness.specs.declared.turns.Held.{Held}
 use Rattle.soundness.proofs.AgentLaws.{home_out, row_out, second_same, busy_same, quiet_same}
@@ -27,6 +27,14 @@ use Rattle.soundness.proofs.SoundLaws.{lands_same}
 -- nobody is left: the places decide
 pub walk_ends : (c : Cell) (h : Held) (rest : Set) → Passed c h.claimed h.going rest → rest.bits ≡ 0 → Walked c (Some h)
 walk_ends c h rest p e = lands_same c h.claimed h.going rest p e
+
+-- where an agent's kind is told, its home is in use and its actions are in range
+pub kind_told : (used : Set) (a : Agent) (kind : ℕ) → Some kind ≡ kind_in used a → (member used a.home ≡ true) × (Some kind ≡ row_kind a)
+kind_told used a kind e = go (member used a.home) refl e
+  where
+    go : (b : Bool) → member used a.home ≡ b → Some kind ≡ cond b (row_kind a) None → (member used a.home ≡ true) × (Some kind ≡ row_kind a)
+    go true h e = (h, e)
+    go false h e = absurd (cc)
 
 module _ (c : Cell) (z : Words c) {held : Held} {rest : Set} (p : Passed c held.claimed held.going rest) {i : ℕ} {left : Set} (s : TakesLowest rest (Some i) left) where
   abbrev a : Agent
@@ -49,6 +57,14 @@ module _ (c : Cell) (z : Words c) {held : Held} {rest : Set} (p : Passed c held.
 
   pub seen_row : None ≡ row_kind a → false ≡ core_sound (cell_of c)
   seen_row e = stops (row_out c z i a (told_out a e))
+
+  -- no kind is told
+  pub seen_out : None ≡ kind_in c.used a → false ≡ core_sound (cell_of c)
+  seen_out e = go (member c.used a.home) refl e
+    where
+      go : (b : Bool) → member c.used a.home ≡ b → None ≡ cond b (row_kind a) None → false ≡ core_sound (cell_of c)
+      go true h e = seen_row e
+      go false h e = seen_away h
 
   -- ---- its home is in use and its actions are in range
   module _ (h : member c.used a.home ≡ true) {kind : ℕ} (r : Some kind ≡ row_kind a) where

@@ -2,6 +2,7 @@
 use Rattle.std.specs.Prelude.{ℕ, ◌≡◌, Bool, true, false, ◌&&◌, cond, eqb, Option, None, Some}
 use Rattle.sets.specs.Word.{has}
 use Rattle.sets.specs.Set.{member, inserted}
+use Rattle.sets.specs.declared.Set.{Set}
 use Rattle.table.specs.Cell.{has_action, kind_of, cell_of}
 use Rattle.table.specs.Sound.{actions_fit, ready, holds_both, first_held, second_held, going_from, core_sound}
 use Rattle.table.specs.declared.Agent.{Agent}
@@ -13,6 +14,10 @@ use Rattle.soundness.specs.declared.turns.Held.{Held}
 -- the kind of the next action, or 0 where none is left; none where an unused action is out of range
 abbrev pub row_kind : Agent → Option ℕ
 row_kind a = cond (actions_fit a) (Some (kind_of a)) None
+
+-- the same of an agent whose home is in use; none where it is not
+abbrev pub kind_in : Set → Agent → Option ℕ
+kind_in used a = cond (member used a.home) (row_kind a) None
 
 -- ---- a busy agent
 

@@ -1,10 +1,12 @@
 // What soundness asks of one agent.
 ghost use Rattle.std.specs.Prelude.{◌≡◌, ◌&&◌, eqb};
+ghost use Rattle.sets.specs.Set.{member};
 ghost use Rattle.table.specs.Cell.{asleep, has_action};
 ghost use Rattle.table.specs.Sound.{action_fits, first_held, second_held, going_from, ready, holds_both};
 ghost use Rattle.soundness.specs.Pass.{sixteen_fit, quiet, remembers_at, quiet_fits};
-ghost use Rattle.soundness.specs.Turn.{row_kind};
+ghost use Rattle.soundness.specs.Turn.{row_kind, kind_in};
 
+use sets::Set;
 use table::{Action, Agent};
 
 // ---- actions
@@ -39,7 +41,7 @@ fn all_sixteen(row: [Action; 16]) -> bool
 }
 
 // The kind of the next action, or 0 where none is left; none where an unused action is out of range.
-pub(super) fn row_of(a: Agent) -> Option<u8>
+fn row_of(a: Agent) -> Option<u8>
     ensures { result ≡ row_kind a }
 {
     if a.next > a.count || a.count > 16 {
@@ -58,6 +60,13 @@ pub(super) fn row_of(a: Agent) -> Option<u8>
         }
     }
     Some(kind)
+}
+
+// The same of an agent whose home is in use; none where it is not.
+pub(super) fn kind_in(a: Agent, used: Set) -> Option<u8>
+    ensures { result ≡ kind_in used a }
+{
+    if used.has(a.home) { row_of(a) } else { None }
 }
 
 // ---- agents without a lock and not on their way
@@ -79,7 +88,7 @@ fn sleeps_fit(known: bool, remembered: u8, kind: u8) -> bool
 
 // What a quiet stage asks. known: the remembered place is in use.
 #[tactic(auto, unfolding(crate::specs::Pass::quiet_fits))]
-pub(super) fn quiet_fits(a: Agent, known: bool, kind: u8) -> bool
+fn quiet_fits(a: Agent, known: bool, kind: u8) -> bool
     ensures { result ≡ quiet_fits a.stage (has_action a) (remembers_at a.stage known a.remembered kind) (eqb a.remembered a.home) kind }
 {
     let some = a.next < a.count;
@@ -90,6 +99,13 @@ pub(super) fn quiet_fits(a: Agent, known: bool, kind: u8) -> bool
         8 => !some,
         _ => false,
     }
+}
+
+// The same beside the places in use.
+pub(super) fn quiet_in(a: Agent, used: Set, kind: u8) -> bool
+    ensures { result ≡ quiet_fits a.stage (has_action a) (remembers_at a.stage (member used a.remembered) a.remembered kind) (eqb a.remembered a.home) kind }
+{
+    quiet_fits(a, used.has(a.remembered), kind)
 }
 
 // ---- locks

@@ -1,5 +1,6 @@
 // What soundness asks of the places: each by itself, and that all lead to the floor.
 ghost use Rattle.std.specs.Prelude.{◌≡◌, ◌<◌};
+ghost use Rattle.sets.specs.Set.{member, inserted_if};
 ghost use Rattle.table.specs.Sound.{nameless};
 ghost use Rattle.soundness.specs.Lead.{above, Ways, Followed};
 ghost use Rattle.soundness.specs.Pass.{floor_stands, floor_fits, floor_sound, child_stands, child_fits, all_lead};
@@ -44,7 +45,7 @@ fn floor_stands(x: Place, going: bool) -> bool
 
 // Whether any other place in use is as it should be. known: its parent is in use.
 #[tactic(auto, unfolding(crate::specs::Pass::child_fits))]
-pub(super) fn child_fits(x: Place, lock: u8, known: bool, claimed: bool, going: bool) -> bool
+fn child_fits(x: Place, lock: u8, known: bool, claimed: bool, going: bool) -> bool
     ensures { result ≡ child_fits x lock known claimed going }
 {
     (lock == 64 || claimed) && child_stands(x, known, going)
@@ -56,6 +57,21 @@ fn child_stands(x: Place, known: bool, going: bool) -> bool
     ensures { result ≡ child_stands x known going }
 {
     x.name.name >= 1 && known && (x.way == 0) != going
+}
+
+// Whether place q, another one in use, is as it should be, beside the locks that agents hold and the places that they move.
+pub(super) fn child_sound(x: Place, lock: u8, q: u8, used: Set, held: Held) -> bool
+    ensures { result ≡ child_fits x lock (member used x.parent) (member held.claimed q) (member held.going q) }
+{
+    let known = used.has(x.parent);
+    child_fits(x, lock, known, held.claimed.has(q), held.going.has(q))
+}
+
+// The places known to lead to the floor, with q where its parent is one of them.
+pub(super) fn known_with(known: Set, q: u8, parent: u8) -> Set
+    ensures { result ≡ inserted_if known q (member known parent) }
+{
+    known.insert_if(q, known.has(parent))
 }
 
 // The places known to lead to the floor, with those on the way from q to one of them; without these where the way comes back to itself.

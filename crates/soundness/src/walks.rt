@@ -19,12 +19,9 @@ fn agents_seen(cell: &Cell) -> Option<Held>
     let mut held = Held::NOTHING;
     for i in cell.given {
         let agent = cell.agents[i as usize];
-        if !cell.used.has(agent.home) {
-            return None;
-        }
-        let kind = agents::row_of(agent)?;
+        let kind = agents::kind_in(agent, cell.used)?;
         if agents::is_quiet(agent.stage) {
-            if !agents::quiet_fits(agent, cell.used.has(agent.remembered), kind) {
+            if !agents::quiet_in(agent, cell.used, kind) {
                 return None;
             }
         } else {
@@ -58,17 +55,10 @@ fn places_seen(cell: &Cell, held: Held) -> bool
     let mut known = lands::FLOOR;
     for q in cell.used.remove(0) {
         let x = cell.places[q as usize];
-        let lock = cell.locks[q as usize];
-        if !lands::child_fits(
-            x,
-            lock,
-            cell.used.has(x.parent),
-            held.claimed.has(q),
-            held.going.has(q),
-        ) {
+        if !lands::child_sound(x, cell.locks[q as usize], q, cell.used, held) {
             return false;
         }
-        known = known.insert_if(q, known.has(x.parent));
+        known = lands::known_with(known, q, x.parent);
         up[q as usize] = x.parent;
     }
     lands::all_lead(&up, cell.used, known)

@@ -1,3 +1,4 @@
 pub mod TextLaws
+pub mod DigitLaws
 pub mod RoomLaws
 pub mod SameLaws

@@ -6,7 +6,7 @@ use Rattle.std.proofs.Math.Logic.{inr}
 use borrow.Author.Tests.{le-leb, lt-leb, leb-true, leb-false, ltb-true, ltb-false, eqb-true, eqb-false, eq-eqb, ne_eqb, lt-ltb, le-ltb}
 use Rattle.table.specs.Base.{fold_up}
 use Rattle.table.proofs.BaseLaws.{Told, yea, nay, told, fold_more}
-use Rattle.meaning.specs.Text.{overlay, digits, gap, joined}
+use Rattle.meaning.specs.Text.{overlay, gap, joined}
 use Rattle.text.specs.Wrote.{capped, least, Wrote, Placed}
 
 pub over_length : (t b : List ℕ) → length (overlay t b) ≡ length b
@@ -272,21 +272,6 @@ copied zero (x ∷ t) (y ∷ b) e = absurd (omega arith)
 copied (suc n) [] b e = absurd (omega arith)
 copied (suc n) (x ∷ t) [] e = absurd (omega arith)
 copied (suc n) (x ∷ t) (y ∷ b) e = ap (λ (l : List ℕ). x ∷ l) (copied n t b (omega arith))
-
--- ---- digits
-pub digits_none : (k n : ℕ) → k ≡ 0 → digits k n ≡ []
-unfolding digits
-digits_none k n e = rw e
-
-pub digits_one : (k n : ℕ) → (k ≡ 0 → ⊥) → n < 10 → digits k n ≡ (48 + n % 10) ∷ []
-unfolding digits
-digits_one zero n h l = absurd (h refl)
-digits_one (suc k) n h l = rw (lt-ltb n 10 l) (ap (λ (i : ℕ). (48 + i) ∷ []) (omega arith))
-
-pub digits_more : (k n : ℕ) → (k ≡ 0 → ⊥) → 10 ≤ n → digits k n ≡ digits (k - 1) (n / 10) ++ ((48 + n % 10) ∷ [])
-unfolding digits
-digits_more zero n h l = absurd (h refl)
-digits_more (suc k) n h l = rw (le-ltb n 10 l, sub-one (suc k))
 
 -- ---- joins: the program looks at where its text began
 pub gap_at : (by : List ℕ) {s b xs : List ℕ} {from at : ℕ} → from + length s ≤ 18446744073709551615 → Wrote s from b xs at → cond (eqb at from) [] by ≡ gap by s

@@ -1,1 +1,16 @@
+pub mod ActionRows
+pub mod Climbs
+pub mod Counts
+pub mod Decisions
+pub mod Glances
+pub mod Groups
+pub mod Lefts
+pub mod Longer
 pub mod Motions
+pub mod Packs
+pub mod Plans
+pub mod Rounds
+pub mod Rows
+pub mod Sheets
+pub mod Shifts
+pub mod Turns

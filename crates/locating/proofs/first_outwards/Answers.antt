@@ -11,12 +11,12 @@ loop-turn-init g c = (c.requires, λ f d. refl)
 
 pub returns-then-passes : goal.returns-then-passes
 returns-then-passes g c = λ f d.
-    sym (out_hit (up_in c.args.ps) f (65 - c.loop-turn._turn) c.loop-turn.at (omega arith) (sym (d _ c.passes.result c.passes.ensures) ∙ c.if-passes.true))
+    sym (out_hit (up_in c.args.ps) f (65 - c.loop-turn._turn) c.loop-turn.at (omega arith) (sym (d _ _ c.passes.result c.place_at-x.ensures c.passes.ensures) ∙ c.if-passes.true))
     ∙ c.loop-turn.invariant.1 f d
 
 pub returns-then-at-eq0 : goal.returns-then-at-eq0
 returns-then-at-eq0 g c = λ f d.
-    sym (out_floor (up_in c.args.ps) f (65 - c.loop-turn._turn) c.loop-turn.at (omega arith) (sym (d _ c.passes.result c.passes.ensures) ∙ c.if-passes.false)
+    sym (out_floor (up_in c.args.ps) f (65 - c.loop-turn._turn) c.loop-turn.at (omega arith) (sym (d _ _ c.passes.result c.place_at-x.ensures c.passes.ensures) ∙ c.if-passes.false)
     c.if-at-eq0.true)
     ∙ c.loop-turn.invariant.1 f d
 
@@ -25,9 +25,9 @@ loop-turn-preserved g c = (
   c.requires,
   λ f d.
       let e : 65 - (c.loop-turn._turn + 1) ≡ 65 - c.loop-turn._turn - 1 = omega arith in
-      ap (λ (y : Place). outwards (65 - (c.loop-turn._turn + 1)) (up_in c.args.ps) f y.parent) c.place_at-at.ensures
+      ap (λ (y : Place). outwards (65 - (c.loop-turn._turn + 1)) (up_in c.args.ps) f y.parent) c.place_at-x.ensures
       ∙ ap (λ (k : ℕ). outwards k (up_in c.args.ps) f (up_in c.args.ps c.loop-turn.at)) e
-      ∙ sym (out_more (up_in c.args.ps) f (65 - c.loop-turn._turn) c.loop-turn.at (omega arith) (sym (d _ c.passes.result c.passes.ensures) ∙ c.if-passes.false)
+      ∙ sym (out_more (up_in c.args.ps) f (65 - c.loop-turn._turn) c.loop-turn.at (omega arith) (sym (d _ _ c.passes.result c.place_at-x.ensures c.passes.ensures) ∙ c.if-passes.false)
       c.if-at-eq0.false)
       ∙ c.loop-turn.invariant.1 f d,
 )

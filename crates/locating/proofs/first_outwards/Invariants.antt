@@ -7,4 +7,4 @@ use Rattle.locating.proofs.first_outwards.Given as goal
 abbrev pub invariant-loop-turn : goal.invariant-loop-turn
 invariant-loop-turn g l =
     goal.F-IsAlwaysCallable g l.passes
-    × ((f : ℕ → Bool) → Decides (goal.F-post g l.passes) f → outwards (65 - l._turn) (up_in l.ps) f l.at ≡ outwards most_outwards (up_in l.ps) f l.fn.q)
+    × ((f : ℕ → Bool) → Decides l.ps (goal.F-post g l.passes) f → outwards (65 - l._turn) (up_in l.ps) f l.at ≡ outwards most_outwards (up_in l.ps) f l.fn.q)

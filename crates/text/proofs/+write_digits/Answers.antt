@@ -1,6 +1,7 @@
 -- The digits before the last are written by the call with one digit less, then the last one after them.
 use Rattle.std.proofs.Common.{sym}
-use Rattle.text.proofs.TextLaws.{begun, next, wrote_as, least_le, digits_none, digits_one, digits_more}
+use Rattle.text.proofs.TextLaws.{begun, next, wrote_as, least_le}
+use Rattle.text.proofs.DigitLaws.{digits_none, digits_one, digits_more}
 use Rattle.text.proofs.+write_digits.Goals as goal
 
 -- no digit

@@ -4,4 +4,4 @@ use Rattle.sets.specs.Set.{member}
 use Rattle.locating.proofs.both.first_among.Goals as goal
 
 pub returns : goal.returns
-returns c = c.first_outwards.ensures (member c.args.s) (λ q b h. search rules)
+returns c = c.first_outwards.ensures (member c.args.s) (λ q x b e h. search rules)

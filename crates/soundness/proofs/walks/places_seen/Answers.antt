@@ -21,16 +21,16 @@ bounds-cell-q-in-loop-q c = turn_below c.loop-q.invariant.tested.left c.in-Some.
 pub bounds-up-q : goal.bounds-up-q
 bounds-up-q c = turn_below c.loop-q.invariant.tested.left c.in-Some.ensures.steps
 
-pub returns-then-not-child_fits : goal.returns-then-not-child_fits
-returns-then-not-child_fits c =
+pub returns-then-not-child_sound : goal.returns-then-not-child_sound
+returns-then-not-child_sound c =
     climb_stop _ _ _ _ _ (sym c.floor_sound.ensures ∙ c.if-not-floor_sound.false) c.loop-q.invariant c.in-Some.ensures.steps
-    (rw (← c.has.ensures, ← c.has-in-loop-q.ensures, ← c.has-in-loop-q-2.ensures, ← c.child_fits.ensures) c.if-not-child_fits.true)
+    (sym c.child_sound.ensures ∙ c.if-not-child_sound.true)
 
 pub loop-q-preserved : goal.loop-q-preserved
 loop-q-preserved c =
-    rw (c.insert_if-known.ensures, c.has-in-loop-q-3.ensures)
+    rw c.known_with-known.ensures
     (climb_turn _ _ _ _ _ (sym c.floor_sound.ensures ∙ c.if-not-floor_sound.false) c.loop-q.invariant c.in-Some.ensures.steps
-    (rw (← c.has.ensures, ← c.has-in-loop-q.ensures, ← c.has-in-loop-q-2.ensures, ← c.child_fits.ensures) c.if-not-child_fits.false))
+    (sym c.child_sound.ensures ∙ c.if-not-child_sound.false))
 
 pub all_lead-requires : goal.all_lead-requires
 all_lead-requires c =

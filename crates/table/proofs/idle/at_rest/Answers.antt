@@ -1,10 +1,9 @@
 -- Each turn takes the lowest agent that is left; the first that is neither asleep nor done decides.
-use Rattle.std.proofs.Common.{rules, arith, ◌^◌, ◌<◌, ◌∙◌, sym, subst, le-leb, get_or}
-use Rattle.std.proofs.lemmas.Bool.{lt-leb}
+use Rattle.std.proofs.Common.{rules, ◌^◌, ◌<◌, ◌∙◌, sym, subst}
 use Rattle.sets.specs.Word.{has}
 use Rattle.sets.proofs.WalkLaws.{rest_start, turn_below, turn_member}
 use Rattle.sets.specs.declared.Set.{Set}
-use Rattle.table.specs.Cell.{no_agent, cell_of}
+use Rattle.table.specs.Cell.{cell_of}
 use Rattle.table.specs.Idle.{idle}
 use Rattle.table.proofs.TestLaws.{Tested, tested_start, tested_fail, tested_pass, tested_none}
 use Rattle.table.proofs.RestLaws.{rests, not_given, rests_given}
@@ -21,20 +20,20 @@ loop-i-init c =
 pub bounds-cell-i : goal.bounds-cell-i
 bounds-cell-i c = turn_below c.loop-i.invariant.left c.in-Some.ensures.steps
 
-pub returns-then-cell-i-lt-ASLEEP : goal.returns-then-cell-i-lt-ASLEEP
+pub returns-then-not-rests : goal.returns-then-not-rests
 unfolding idle cell_of
-returns-then-cell-i-lt-ASLEEP c =
+returns-then-not-rests c =
     let t = c.args.cell.now in
     let step = c.in-Some.ensures.steps in
     sym (tested_fail (has t.given.bits) (rests t) (not_given t) c.loop-i.invariant step
-    (rests_given t c.in-Some.i (turn_member c.loop-i.invariant.left step) ∙ lt-leb 7 (get_or t.agents c.in-Some.i no_agent).stage (omega arith)))
+    (rests_given t c.in-Some.i (turn_member c.loop-i.invariant.left step) ∙ sym c.rests.ensures ∙ c.if-not-rests.true))
 
 pub loop-i-preserved : goal.loop-i-preserved
 loop-i-preserved c =
     let t = c.args.cell.now in
     let step = c.in-Some.ensures.steps in
     tested_pass (has t.given.bits) (rests t) (not_given t) c.loop-i.invariant step
-    (rests_given t c.in-Some.i (turn_member c.loop-i.invariant.left step) ∙ le-leb 7 (get_or t.agents c.in-Some.i no_agent).stage (omega arith))
+    (rests_given t c.in-Some.i (turn_member c.loop-i.invariant.left step) ∙ sym c.rests.ensures ∙ c.if-not-rests.false)
 
 pub returns : goal.returns
 unfolding idle cell_of
